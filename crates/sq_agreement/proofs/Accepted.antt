@@ -2,9 +2,10 @@
 -- 11.4, 11.9 and 11.19).
 use Rattle.std.proofs.Common.{◌≡◌, Bool, true, false, List, [], ◌∷◌, length, Option, Some, None, refl, sym}
 use Rattle.std.specs.Cmp.Lexicographic.{same_text}
-use Rattle.std.specs.Prelude.{⊤, ◌&&◌, ◌||◌, not, nat_lt, find, fold, if◌then◌else◌}
+use Rattle.std.specs.Prelude.{⊤, ◌&&◌, not, nat_lt, find, fold, if◌then◌else◌}
 use Rattle.std.specs.List.{AllByRecursion, list_any}
 use Rattle.std.specs.Option.{option_map, option_or}
+use Rattle.std.proofs.lemmas.Bool.{not-false, or_parts}
 use Rattle.sq_lex.specs.declared.name.Name.{Name}
 use Rattle.sq_tree.specs.declared.schema.SchemaElement.{SchemaElement}
 use Rattle.sq_tree.specs.declared.schema.SchemaElement.TheVariants as element
@@ -57,37 +58,29 @@ accepted_elements texts e = accepted_parts [] [] (schema_parts texts) tt e
 
 -- ---- what the rules say of an element
 
-pub both_false : (a b : Bool) → (a || b) ≡ false → (a ≡ false) × (b ≡ false)
-both_false true b e = cc
-both_false false b e = (refl, e)
-
 second_false : (a b : Bool) → not a ≡ false → (a && b) ≡ false → b ≡ false
 second_false true b is e = e
 second_false false b is e = cc
-
-pub not_false : (b : Bool) → not b ≡ false → b ≡ true
-not_false true e = refl
-not_false false e = cc
 
 -- no table or view before it has the name of a table
 pub table_is_new : (before : Elements) (user : Name) (t : TableDefinition) → IsAccepted before user (element.Table t)
     → is_made before (table_of user t.name) ≡ false
 table_is_new before user t h =
     second_false (same_user user (table_of user t.name)) (is_made before (table_of user t.name)) h.1.1.1.1.1.1.1.1.1.1.1.1.0
-    (both_false (is_made_again before user (table_of user t.name)) (has_name_twice (table_columns t)) h.0).0
+    (or_parts (is_made_again before user (table_of user t.name)) (has_name_twice (table_columns t)) h.0).0
 
 -- or of a view
 pub view_is_new : (before : Elements) (user : Name) (v : ViewDefinition) → IsAccepted before user (element.View v)
     → is_made before (table_of user v.name) ≡ false
 view_is_new before user v h =
     second_false (same_user user (table_of user v.name)) (is_made before (table_of user v.name)) h.1.1.1.1.1.1.1.1.1.1.1.1.0
-    (both_false (is_made_again before user (table_of user v.name)) (names_repeat before user v v.columns) h.0).0
+    (or_parts (is_made_again before user (table_of user v.name)) (names_repeat before user v v.columns) h.0).0
 
 -- no two columns of a table have one name
 pub columns_apart : (before : Elements) (user : Name) (t : TableDefinition) → IsAccepted before user (element.Table t)
     → has_name_twice (table_columns t) ≡ false
 columns_apart before user t h =
-    (both_false (is_made_again before user (table_of user t.name)) (has_name_twice (table_columns t)) h.0).1
+    (or_parts (is_made_again before user (table_of user t.name)) (has_name_twice (table_columns t)) h.0).1
 
 -- its references are good ones
 pub references_good : (before : Elements) (user : Name) (t : TableDefinition) → IsAccepted before user (element.Table t)
@@ -102,15 +95,15 @@ checks_good before user t h = h.1.1.1.1.1.1.0
 -- a view's query has no fault
 pub view_is_sound : (before : Elements) (user : Name) (v : ViewDefinition) → IsAccepted before user (element.View v)
     → view_has_fault before user v ≡ false
-view_is_sound before user v h = (both_false (view_has_fault before user v) (has_bad_names before user v v.columns) h.1.1.1.1.1.1.1.1.0).0
+view_is_sound before user v h = (or_parts (view_has_fault before user v) (has_bad_names before user v v.columns) h.1.1.1.1.1.1.1.1.0).0
 
 -- a table stands in the schema of its user
 pub table_of_user : (before : Elements) (user : Name) (t : TableDefinition) → IsAccepted before user (element.Table t)
     → (table_of user t.name).user ≡ user
 table_of_user before user t h =
-    same_text (table_of user t.name).user user (sym (not_false (same_user user (table_of user t.name)) h.1.1.1.1.1.1.1.1.1.1.1.1.0))
+    same_text (table_of user t.name).user user (sym (not-false (same_user user (table_of user t.name)) h.1.1.1.1.1.1.1.1.1.1.1.1.0))
 
 -- no list of columns of it is a bad one
 pub keys_good : (before : Elements) (user : Name) (t : TableDefinition) → IsAccepted before user (element.Table t)
     → list_any is_bad_key (constraints t) ≡ false
-keys_good before user t h = (both_false (nat_lt 1 (length (primary_keys t))) (list_any is_bad_key (constraints t)) h.1.1.1.1.0).1
+keys_good before user t h = (or_parts (nat_lt 1 (length (primary_keys t))) (list_any is_bad_key (constraints t)) h.1.1.1.1.0).1

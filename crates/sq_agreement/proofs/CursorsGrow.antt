@@ -6,6 +6,7 @@ use Rattle.std.proofs.lemmas.List.Elements.{filter-append}
 use Rattle.std.proofs.lemmas.List.Folds.{find-append}
 use Rattle.std.specs.Prelude.{find, is_some, nat_eq, nat_le, nat_lt, slice_set}
 use Rattle.std.specs.Option.{option_or}
+use Rattle.std.proofs.lemmas.Bool.{false_from_ne_true}
 use Rattle.sq_lex.specs.declared.name.Name.{Name}
 use Rattle.sq_value.specs.declared.value.Value.{Value}
 use Rattle.sq_store.specs.Content.{Content, inserted, row_at, table_at}
@@ -30,7 +31,7 @@ use Rattle.sq_agreement.proofs.CursorsKept.{none_above}
 use Rattle.sq_agreement.proofs.NumbersLeft.{AreBelow, SameNumbers}
 use Rattle.sq_agreement.proofs.SameCursors.{AreSame}
 use Rattle.sq_agreement.proofs.SameStates.{SameCursor}
-use Rattle.sq_agreement.proofs.WalkLeft.{SameWalk, is_false}
+use Rattle.sq_agreement.proofs.WalkLeft.{SameWalk}
 
 -- ---- a table that grows
 
@@ -81,7 +82,7 @@ none_marked from mark (r ∷ new) h = by_place (nat_le from r.number) (none_mark
     by_place true e =
         let further : mark ≤ r.number = h.0 in
         ap (λ b. cond b (r ∷ rows_between from mark new) (rows_between from mark new))
-        (is_false (nat_lt r.number mark) (λ is. let less : r.number < mark = ltb-true r.number mark is in absurd (omega (arith, further, less)))) ∙ e
+        (false_from_ne_true (nat_lt r.number mark) (λ is. let less : r.number < mark = ltb-true r.number mark is in absurd (omega (arith, further, less)))) ∙ e
 
 module _ (t u : Table) (g : IsGrown t u) where
   there_before : (n : ℕ) → n < t.next → is_there u n ≡ is_there t n

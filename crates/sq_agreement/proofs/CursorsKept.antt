@@ -3,6 +3,7 @@
 use Rattle.std.proofs.Common.{◌≡◌, ℕ, ◌+◌, ◌≤◌, cond, not, Bool, true, false, List, [], ◌∷◌, filter, map, Some, None, refl, sym, ap, subst, ◌∙◌, arith, eqb-true}
 use Rattle.std.specs.Prelude.{find, is_some, nat_eq, nat_le, nat_lt}
 use Rattle.std.specs.List.{AllByRecursion}
+use Rattle.std.proofs.lemmas.Bool.{false_from_ne_true}
 use Rattle.sq_lex.specs.declared.name.Name.{Name}
 use Rattle.sq_value.specs.declared.value.Value.{Value}
 use Rattle.sq_store.specs.Content.{Content, table_at}
@@ -25,7 +26,7 @@ use Rattle.sq_places.proofs.RowsAgain.{AreAbove, above, itself, rest_rises}
 use Rattle.sq_agreement.proofs.NumbersLeft.{SameNumbers}
 use Rattle.sq_agreement.proofs.SameCursors.{AreSame}
 use Rattle.sq_agreement.proofs.SameStates.{SameCursor}
-use Rattle.sq_agreement.proofs.WalkLeft.{SameWalk, all_kept, is_false}
+use Rattle.sq_agreement.proofs.WalkLeft.{SameWalk, all_kept}
 
 -- ---- lists
 
@@ -61,7 +62,7 @@ pub none_above : (n : ℕ) (rows : List Numbered) → AreAbove (n + 1) rows → 
 none_above n [] h = refl
 none_above n (x ∷ rows) h =
     ap (λ b. cond b (Some x) (find (λ r. nat_eq r.number n) rows))
-    (is_false (nat_eq x.number n) (λ is. let same : x.number ≡ n = eqb-true x.number n is in let more : n + 1 ≤ x.number = h.0 in absurd (omega (arith, same, more))))
+    (false_from_ne_true (nat_eq x.number n) (λ is. let same : x.number ≡ n = eqb-true x.number n is in let more : n + 1 ≤ x.number = h.0 in absurd (omega (arith, same, more))))
     ∙ none_above n rows h.1
 
 -- ---- rows that go
@@ -90,7 +91,7 @@ module _ (keep : Numbered → Bool) where
   kept_behind x rows (r ∷ some) up h = (by_test (keep x) h.0, kept_behind x rows some up.1 h.1)
     where
       other : nat_eq x.number r.number ≡ false
-      other = is_false (nat_eq x.number r.number) (λ is. let same : x.number ≡ r.number = eqb-true x.number r.number is in let more : x.number + 1 ≤ r.number = up.0 in absurd (omega (arith, same, more)))
+      other = false_from_ne_true (nat_eq x.number r.number) (λ is. let same : x.number ≡ r.number = eqb-true x.number r.number is in let more : x.number + 1 ≤ r.number = up.0 in absurd (omega (arith, same, more)))
 
       by_test : (a : Bool) → is_some (find (λ y. nat_eq y.number r.number) (filter keep rows)) ≡ keep r
           → is_some (find (λ y. nat_eq y.number r.number) (cond a (x ∷ filter keep rows) (filter keep rows))) ≡ keep r

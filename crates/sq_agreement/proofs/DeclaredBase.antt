@@ -23,11 +23,12 @@ use Rattle.sq_catalog.specs.Base.{IsBaseOf}
 use Rattle.sq_catalog.specs.Catalog.{base_meant, itself, kinds_at}
 use Rattle.sq_catalog.specs.Columns.{AreBaseColumnsOf, HasColumnsOf, IsBaseColumnOf, IsColumnOf}
 use Rattle.sq_catalog.specs.declared.catalog.FullName.{FullName}
+use Rattle.sq_catalog.proofs.WrittenRules.{columns_are_written}
 use Rattle.sq_places.proofs.Databases.{IsDeclaredAs}
 use Rattle.sq_places.proofs.Levels.{width_at}
 use Rattle.sq_places.proofs.Outcomes.{same_length}
 use Rattle.sq_places.proofs.ViewTargets.{IsUnderBody}
-use Rattle.sq_agreement.proofs.DeclaredColumns.{columns_are_written, descriptor_kinds, descriptor_names, kinds_held, kinds_seen, names_seen, positions_seen}
+use Rattle.sq_agreement.proofs.DeclaredColumns.{descriptor_kinds, descriptor_names, kinds_held, kinds_seen, names_seen, positions_seen}
 
 module _ (bases : List BoundTable) (views : List BoundSpecification) (n : ℕ) (owner : Name) (t : TableDefinition) (name : FullName)
     (cs : List Column) (b : BoundTable) (described : HasColumnsOf t cs) (is_base : IsBaseOf name t b)

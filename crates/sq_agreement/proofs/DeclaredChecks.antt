@@ -2,88 +2,35 @@
 -- 11.4, 11.7 and 11.9).
 use Rattle.std.proofs.Common.{◌≡◌, ℕ, ◌+◌, false, List, [], ◌∷◌, ◌++◌, length, length-append, map, refl, sym, ap, subst, ◌∙◌}
 use Rattle.std.proofs.lemmas.Cmp.{nat_list_eq_equiv}
-use Rattle.std.proofs.lemmas.List.{append_assoc, map-append}
-use Rattle.std.proofs.lemmas.List.Elements.{filter_map-append}
-use Rattle.std.specs.Prelude.{flat_map}
-use Rattle.std.specs.List.{AllByRecursion, AllZip, cons_option, enumerate_from, filter_map, list_any}
+use Rattle.std.proofs.lemmas.List.{append_assoc}
+use Rattle.std.specs.List.{AllByRecursion, AllZip, cons_option, enumerate_from, list_any}
 use Rattle.sq_lex.specs.declared.name.Name.{Name}
 use Rattle.sq_tree.specs.declared.schema.ColumnConstraint.{ColumnConstraint}
 use Rattle.sq_tree.specs.declared.schema.ColumnConstraint.TheVariants as constraint
 use Rattle.sq_tree.specs.declared.schema.ColumnDefinition.{ColumnDefinition}
 use Rattle.sq_tree.specs.declared.schema.TableDefinition.{TableDefinition}
-use Rattle.sq_tree.specs.declared.schema.TableElement.{TableElement}
-use Rattle.sq_tree.specs.declared.schema.TableElement.TheVariants as element
 use Rattle.sq_meaning.specs.Environment.{same_name}
-use Rattle.sq_meaning.specs.Spelled.{cond_of, listed}
-use Rattle.sq_rules.specs.Schema.{BaseTable, checks, column_definitions, condition_in, constraints_in, has_name_twice, key_columns, keys, of_column, table_columns}
+use Rattle.sq_meaning.specs.Spelled.{cond_of}
+use Rattle.sq_meaning.proofs.AnswerLaws.{all_appended}
+use Rattle.sq_rules.specs.Schema.{BaseTable, checks, column_definitions, has_name_twice, keys, table_columns}
 use Rattle.sq_rules.specs.Words.{has_twice}
 use Rattle.sq_model.specs.Constraints.{places_among}
 use Rattle.sq_bound.specs.declared.names.BaseTable.{BaseTable as BoundTable}
 use Rattle.sq_promises.specs.Written.{CondIs, check_placed}
 use Rattle.sq_laws.proofs.SiteLaws.{neither, none_passes}
 use Rattle.sq_catalog.specs.Base.{IsBaseOf}
-use Rattle.sq_catalog.specs.Checks.{check_of_column, checks_in, checks_written}
 use Rattle.sq_catalog.specs.Columns.{AreBaseColumnsOf, IsBaseColumnOf, IsColumnOf}
-use Rattle.sq_catalog.specs.Keys.{KeysStandAt, StandAt, key_of_column, keys_in, keys_written, names_written}
+use Rattle.sq_catalog.specs.Keys.{KeysStandAt, StandAt, keys_written, names_written}
 use Rattle.sq_catalog.specs.Written.{is_not_null_constraint}
+use Rattle.sq_catalog.proofs.WrittenRules.{checks_are_written, columns_are_written, keys_are_written, names_are_written}
 use Rattle.sq_places.proofs.Checks.{IsCondOfRow, IsRowCheckedAs}
 use Rattle.sq_places.proofs.NotNull.{AreFoundFrom, is_not_null, refuses_null}
-use Rattle.sq_places.proofs.Outcomes.{all_append, weaker_zip}
+use Rattle.sq_places.proofs.Outcomes.{weaker_zip}
 use Rattle.sq_agreement.proofs.Unnamed.{WrittenKey}
-use Rattle.sq_agreement.proofs.DeclaredColumns.{columns_are_written, names_seen}
-use Rattle.sq_agreement.proofs.Numbers.{first_behind, name_turned}
-
--- ---- conditions
-
-checks_of_column : (name : Name) (cs : List ColumnConstraint)
-    → flat_map check_of_column cs ≡ filter_map condition_in (map (of_column name) cs)
-checks_of_column name [] = refl
-checks_of_column name (constraint.NotNull ∷ cs) = checks_of_column name cs
-checks_of_column name (constraint.Unique ∷ cs) = checks_of_column name cs
-checks_of_column name (constraint.PrimaryKey ∷ cs) = checks_of_column name cs
-checks_of_column name (constraint.References to ∷ cs) = checks_of_column name cs
-checks_of_column name (constraint.Check condition ∷ cs) = ap (λ l. condition ∷ l) (checks_of_column name cs)
-
-each_check : (es : List TableElement) → flat_map checks_in es ≡ filter_map condition_in (flat_map constraints_in es)
-each_check [] = refl
-each_check (element.Column w ∷ es) =
-    (λ i. checks_of_column w.name w.constraints i ++ each_check es i)
-    ∙ sym (filter_map-append condition_in (map (of_column w.name) w.constraints) (flat_map constraints_in es))
-each_check (element.Unique columns ∷ es) = each_check es
-each_check (element.PrimaryKey columns ∷ es) = each_check es
-each_check (element.ForeignKey key ∷ es) = each_check es
-each_check (element.Check condition ∷ es) = ap (λ l. condition ∷ l) (each_check es)
-
-checks_are_written : (t : TableDefinition) → checks_written t ≡ checks t
-checks_are_written t = each_check (listed t.elements)
+use Rattle.sq_agreement.proofs.DeclaredColumns.{names_seen}
+use Rattle.sq_agreement.proofs.Numbers.{first_behind}
 
 -- ---- keys
-
-keys_of_column : (name : Name) (cs : List ColumnConstraint)
-    → map (λ k. k.columns) (flat_map (key_of_column name) cs) ≡ filter_map key_columns (map (of_column name) cs)
-keys_of_column name [] = refl
-keys_of_column name (constraint.NotNull ∷ cs) = keys_of_column name cs
-keys_of_column name (constraint.Unique ∷ cs) = ap (λ l. (name ∷ []) ∷ l) (keys_of_column name cs)
-keys_of_column name (constraint.PrimaryKey ∷ cs) = ap (λ l. (name ∷ []) ∷ l) (keys_of_column name cs)
-keys_of_column name (constraint.References to ∷ cs) = keys_of_column name cs
-keys_of_column name (constraint.Check condition ∷ cs) = keys_of_column name cs
-
-each_key : (es : List TableElement) → map (λ k. k.columns) (flat_map keys_in es) ≡ filter_map key_columns (flat_map constraints_in es)
-each_key [] = refl
-each_key (element.Column w ∷ es) =
-    map-append (λ (k : WrittenKey). k.columns) (flat_map (key_of_column w.name) w.constraints) (flat_map keys_in es)
-    ∙ (λ i. keys_of_column w.name w.constraints i ++ each_key es i)
-    ∙ sym (filter_map-append key_columns (map (of_column w.name) w.constraints) (flat_map constraints_in es))
-each_key (element.Unique columns ∷ es) = ap (λ l. listed columns ∷ l) (each_key es)
-each_key (element.PrimaryKey columns ∷ es) = ap (λ l. listed columns ∷ l) (each_key es)
-each_key (element.ForeignKey key ∷ es) = each_key es
-each_key (element.Check condition ∷ es) = each_key es
-
-pub keys_are_written : (t : TableDefinition) → map (λ k. k.columns) (keys_written t) ≡ keys t
-keys_are_written t = each_key (listed t.elements)
-
-pub names_are_written : (t : TableDefinition) → names_written t ≡ table_columns t
-names_are_written t = ap (λ ws. map (λ (w : ColumnDefinition). w.name) ws) (columns_are_written t)
 
 -- columns that stand at these places
 pub places_stand : (columns names : List Name) (places : List ℕ) → StandAt columns names places
@@ -127,7 +74,7 @@ apart_more : (before : List Name) (name : Name) (ws : List ColumnDefinition) →
     → AllByRecursion (λ n. same_name name n ≡ false) (map (λ w. w.name) ws) → AreApartFrom (before ++ name ∷ []) ws
 apart_more before name [] old new = tt
 apart_more before name (w ∷ ws) old new = (
-  all_append (λ n. same_name w.name n ≡ false) before (name ∷ []) old.0 (name_turned name w.name new.0, tt),
+  all_appended (λ n. same_name w.name n ≡ false) before (name ∷ []) old.0 (nat_list_eq_equiv.symm w.name name ∙ new.0, tt),
   apart_more before name ws old.1 new.1,
 )
 

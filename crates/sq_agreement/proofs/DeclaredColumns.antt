@@ -1,15 +1,12 @@
 -- The columns that a table definition writes, as the definitions have them and as the catalog has them (ISO/IEC 9075:1992, 11.3 to 11.5).
 use Rattle.std.proofs.Common.{◌≡◌, ℕ, ◌+◌, List, [], ◌∷◌, map, Option, Some, None, refl, sym, ap, subst, ◌∙◌, Ok}
 use Rattle.std.specs.Prelude.{unwrap_or}
-use Rattle.std.specs.List.{AllZip, enumerate_from, filter_map, flat_map}
+use Rattle.std.specs.List.{AllZip, enumerate_from}
 use Rattle.std.specs.Option.{option_map}
 use Rattle.sq_lex.specs.declared.name.Name.{Name}
 use Rattle.sq_tree.specs.declared.schema.ColumnDefinition.{ColumnDefinition}
 use Rattle.sq_tree.specs.declared.schema.DefaultValue.{DefaultValue}
 use Rattle.sq_tree.specs.declared.schema.DefaultValue.TheVariants as written
-use Rattle.sq_tree.specs.declared.schema.TableDefinition.{TableDefinition}
-use Rattle.sq_tree.specs.declared.schema.TableElement.{TableElement}
-use Rattle.sq_tree.specs.declared.schema.TableElement.TheVariants as element
 use Rattle.sq_value.specs.Domain.{kind_of}
 use Rattle.sq_value.specs.Storing.{stored}
 use Rattle.sq_value.specs.declared.domain.Domain.{Domain}
@@ -18,10 +15,9 @@ use Rattle.sq_value.specs.declared.domain.Kind.{Kind}
 use Rattle.sq_value.specs.declared.value.Value.{Value}
 use Rattle.sq_value.specs.declared.value.Value.TheVariants.{Num, Chars}
 use Rattle.sq_meaning.specs.Assignment.{IsStoreOutcome, assigned}
-use Rattle.sq_meaning.specs.Spelled.{domain_of, listed, signed_number}
+use Rattle.sq_meaning.specs.Spelled.{domain_of, signed_number}
 use Rattle.sq_meaning.proofs.AssignmentLaws.{store_statuses}
 use Rattle.sq_rules.specs.Catalog.{column_descriptor, column_domain}
-use Rattle.sq_rules.specs.Schema.{column_defined, column_definitions}
 use Rattle.sq_model.specs.Change.{default_value}
 use Rattle.sq_bound.specs.WellFormed.{kinds_of_columns}
 use Rattle.sq_bound.specs.declared.names.BaseColumn.{BaseColumn}
@@ -29,24 +25,11 @@ use Rattle.sq_bound.specs.declared.names.Column.{Column}
 use Rattle.sq_bound.specs.declared.names.ColumnDefault.{ColumnDefault}
 use Rattle.sq_bound.specs.declared.names.ColumnDefault.TheVariants as default
 use Rattle.sq_promises.specs.Names.{leaf_positions}
-use Rattle.sq_catalog.specs.Columns.{AreBaseColumnsOf, IsBaseColumnOf, IsColumnOf, IsDefaultOf, column_in, columns_written}
+use Rattle.sq_catalog.specs.Columns.{AreBaseColumnsOf, IsBaseColumnOf, IsColumnOf, IsDefaultOf}
 use Rattle.sq_change.specs.Made.{default_stored}
 use Rattle.sq_places.proofs.Items.{names_of_columns}
 use Rattle.sq_places.proofs.Outcomes.{weaker_zip}
 use Rattle.sq_places.proofs.Statements.{IsColumnAs}
-
--- ---- the definitions that are written
-
-each_column : (es : List TableElement) → flat_map column_in es ≡ filter_map column_defined es
-each_column [] = refl
-each_column (element.Column w ∷ es) = ap (λ ws. w ∷ ws) (each_column es)
-each_column (element.Unique columns ∷ es) = each_column es
-each_column (element.PrimaryKey columns ∷ es) = each_column es
-each_column (element.ForeignKey key ∷ es) = each_column es
-each_column (element.Check condition ∷ es) = each_column es
-
-pub columns_are_written : (t : TableDefinition) → columns_written t ≡ column_definitions t
-columns_are_written t = each_column (listed t.elements)
 
 -- ---- columns as names see them
 

@@ -20,7 +20,8 @@ use Rattle.sq_bound.specs.WellFormed.{base_kinds}
 use Rattle.sq_bound.specs.declared.names.BaseTable.{BaseTable as BoundTable}
 use Rattle.sq_laws.proofs.CallLaws.{NamesDiffer}
 use Rattle.sq_catalog.specs.Columns.{AreBaseColumnsOf}
-use Rattle.sq_agreement.proofs.DeclaredColumns.{columns_are_written, kinds_held}
+use Rattle.sq_catalog.proofs.WrittenRules.{columns_are_written}
+use Rattle.sq_agreement.proofs.DeclaredColumns.{kinds_held}
 use Rattle.sq_agreement.proofs.DeclaredTables.{IsBaseAs}
 
 -- ---- the rows of a name are those at its place

@@ -7,6 +7,7 @@ use Rattle.std.specs.Cmp.Lexicographic.{pointwise}
 use Rattle.std.specs.Prelude.{◌&&◌, if◌then◌else◌, nat_lt, slice_get}
 use Rattle.std.specs.List.{AllZip}
 use Rattle.std.specs.Option.{option_map}
+use Rattle.std.proofs.lemmas.Bool.{and_parts}
 use Rattle.sq_value.specs.declared.domain.Kind.{Kind}
 use Rattle.sq_value.specs.declared.domain.Kind.TheVariants.{Num, Chars, Vary}
 use Rattle.sq_meaning.specs.Kind.{select_kinds}
@@ -40,16 +41,12 @@ kind_is (Vary m) (Num t) h = cc
 kind_is (Vary m) (Chars n) h = cc
 kind_is (Vary m) (Vary n) h = ap Vary (eqb-true m n h)
 
-both_true : (a b : Bool) → (a && b) ≡ true → (a ≡ true) × (b ≡ true)
-both_true true b e = (refl, e)
-both_true false b e = cc
-
 kinds_are : (ks ls : List Kind) → pointwise same_kind ks ls ≡ true → ks ≡ ls
 kinds_are [] [] h = refl
 kinds_are [] (l ∷ ls) h = cc
 kinds_are (k ∷ ks) [] h = cc
 kinds_are (k ∷ ks) (l ∷ ls) h =
-    let both = both_true (same_kind k l) (pointwise same_kind ks ls) h in (λ i. kind_is k l both.0 i ∷ kinds_are ks ls both.1 i)
+    let both = and_parts (same_kind k l) (pointwise same_kind ks ls) h in (λ i. kind_is k l both.0 i ∷ kinds_are ks ls both.1 i)
 
 all_itself : (ks : List Kind) → pointwise same_kind ks ks ≡ true
 all_itself [] = refl

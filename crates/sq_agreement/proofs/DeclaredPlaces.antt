@@ -16,6 +16,7 @@ use Rattle.sq_bound.specs.Known.{KnownTables}
 use Rattle.sq_bound.specs.declared.condition.BoundSpecification.{BoundSpecification}
 use Rattle.sq_bound.specs.declared.names.BaseTable.{BaseTable as BoundTable}
 use Rattle.sq_bound.specs.declared.names.Column.{Column}
+use Rattle.sq_binding.proofs.Levels.{all_at}
 use Rattle.sq_catalog.specs.Base.{AreBasesOf, IsBaseOf}
 use Rattle.sq_catalog.specs.Catalog.{SeenView, base_meant, declared_definitions, declared_tables, known_at, known_first, named_by, table_number, view_meant}
 use Rattle.sq_catalog.specs.Columns.{HasColumnsOf}
@@ -45,11 +46,6 @@ bases_at (m ∷ names) (d ∷ definitions) (b ∷ bases) zero name t h e f =
     (b, refl, subst (λ x. IsBaseOf x t b) name_is (subst (λ x. IsBaseOf m x b) definition_is h.0))
 bases_at (m ∷ names) (d ∷ definitions) (b ∷ bases) (suc n) name t h e f = bases_at names definitions bases n name t h.1 e f
 bases_at _ _ _ n name t h e f = absurd h
-
-pub all_at : {A : Type 0} (P : A → Type 0) (xs : List A) (n : ℕ) (x : A) → AllByRecursion P xs → slice_get xs n ≡ Some x → P x
-all_at P [] n x h e = cc
-all_at P (y ∷ xs) zero x h e = let same : y ≡ x = cc in subst P same h.0
-all_at P (y ∷ xs) (suc n) x h e = all_at P xs n x h.1 e
 
 -- ---- what a catalog has
 

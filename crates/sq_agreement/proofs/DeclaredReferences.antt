@@ -1,128 +1,53 @@
 -- The references that the catalog has of base tables are those of their texts, to the tables and the columns that the definitions find
 -- (ISO/IEC 9075:1992, 11.8).
-use Rattle.std.proofs.Common.{◌≡◌, ℕ, zero, suc, ◌<◌, cond, Bool, true, false, List, [], ◌∷◌, ◌++◌, map, get_or, Option, Some, None, refl, sym, ap, subst, ◌∙◌, arith, eq-eqb, true≢false}
+use Rattle.std.proofs.Common.{◌≡◌, ℕ, zero, suc, ◌<◌, Bool, true, false, List, [], ◌∷◌, get_or, Option, Some, None, refl, sym, ap, subst, ◌∙◌, arith, eq-eqb, true≢false}
 use Rattle.std.proofs.lemmas.Cmp.{nat_list_eq_equiv}
-use Rattle.std.proofs.lemmas.List.{map-append}
-use Rattle.std.proofs.lemmas.List.Elements.{filter_map-append}
 use Rattle.std.proofs.lemmas.List.Quantifiers.{position-Some}
 use Rattle.std.proofs.lemmas.Option.{get_or_from_slice_get}
 use Rattle.std.specs.Cmp.Lexicographic.{same_text}
-use Rattle.std.specs.Prelude.{◌&&◌, ◌||◌, flat_map, nat_eq, position, slice_get, unwrap_or}
-use Rattle.std.specs.List.{AllByRecursion, filter_map, list_any}
+use Rattle.std.specs.Prelude.{◌&&◌, ◌||◌, if◌then◌else◌, nat_eq, position, slice_get, unwrap_or}
+use Rattle.std.specs.List.{AllByRecursion, cons_option, list_any}
 use Rattle.std.specs.Option.{option_map, option_or}
 use Rattle.sq_lex.specs.declared.name.Name.{Name}
 use Rattle.sq_tree.specs.declared.list.CommaList.{CommaList}
-use Rattle.sq_tree.specs.declared.schema.ColumnConstraint.{ColumnConstraint}
-use Rattle.sq_tree.specs.declared.schema.ColumnConstraint.TheVariants as constraint
 use Rattle.sq_tree.specs.declared.schema.References.{References}
 use Rattle.sq_tree.specs.declared.schema.TableDefinition.{TableDefinition}
-use Rattle.sq_tree.specs.declared.schema.TableElement.{TableElement}
-use Rattle.sq_tree.specs.declared.schema.TableElement.TheVariants as element
 use Rattle.sq_store.specs.Keys.{Keys}
 use Rattle.sq_meaning.specs.Environment.{same_name}
 use Rattle.sq_meaning.specs.Spelled.{listed, listed_if_any}
-use Rattle.sq_rules.specs.Schema.{Reference, constraints_in, has_name_twice, of_column, primary_columns, primary_keys, reference_in, referenced_columns, table_columns, table_references}
+use Rattle.sq_rules.specs.Schema.{has_name_twice, primary_keys, referenced_columns, table_columns}
 use Rattle.sq_rules.specs.Words.{has_twice}
 use Rattle.sq_bound.specs.Names.{is_name}
 use Rattle.sq_bound.specs.declared.names.Reference.{Reference as BoundReference}
+use Rattle.sq_binding.proofs.Levels.{all_at}
 use Rattle.sq_laws.proofs.SiteLaws.{neither, none_passes}
-use Rattle.sq_catalog.specs.Keys.{KeysStandAt, StandAt, key_of_column, keys_in, keys_written, names_written, primary_among}
-use Rattle.sq_catalog.specs.References.{AreListed, IsToKey, ReferentialConstraint, are_listed, is_key_of, key_referenced, reference_on, references_in, references_written}
+use Rattle.sq_catalog.specs.Keys.{KeysStandAt, StandAt, keys_written, names_written, primary_among, primary_columns, primaries}
+use Rattle.sq_catalog.specs.References.{AreListed, IsToKey, are_listed, is_key_of, key_referenced}
+use Rattle.sq_catalog.proofs.WrittenRules.{names_are_written, primaries_are_written}
 use Rattle.sq_agreement.proofs.Unnamed.{WrittenKey}
-use Rattle.sq_agreement.proofs.DeclaredChecks.{names_are_written}
-use Rattle.sq_agreement.proofs.DeclaredPlaces.{all_at}
 use Rattle.sq_agreement.proofs.DeclaredStatements.{zip_back}
 use Rattle.sq_agreement.proofs.PairedColumns.{AreOnce}
 
--- ---- the references that are written
-
-abbrev pub reference_of : ReferentialConstraint → Reference
-reference_of w = record { columns = w.columns; references = w.to }
-
-references_of_column : (name : Name) (cs : List ColumnConstraint)
-    → map reference_of (flat_map (reference_on name) cs) ≡ filter_map reference_in (map (of_column name) cs)
-references_of_column name [] = refl
-references_of_column name (constraint.NotNull ∷ cs) = references_of_column name cs
-references_of_column name (constraint.Unique ∷ cs) = references_of_column name cs
-references_of_column name (constraint.PrimaryKey ∷ cs) = references_of_column name cs
-references_of_column name (constraint.References to ∷ cs) =
-    ap (λ l. record { columns = name ∷ []; references = to } ∷ l) (references_of_column name cs)
-references_of_column name (constraint.Check condition ∷ cs) = references_of_column name cs
-
-each_reference : (es : List TableElement)
-    → map reference_of (flat_map references_in es) ≡ filter_map reference_in (flat_map constraints_in es)
-each_reference [] = refl
-each_reference (element.Column w ∷ es) =
-    map-append reference_of (flat_map (reference_on w.name) w.constraints) (flat_map references_in es)
-    ∙ (λ i. references_of_column w.name w.constraints i ++ each_reference es i)
-    ∙ sym (filter_map-append reference_in (map (of_column w.name) w.constraints) (flat_map constraints_in es))
-each_reference (element.Unique columns ∷ es) = each_reference es
-each_reference (element.PrimaryKey columns ∷ es) = each_reference es
-each_reference (element.ForeignKey key ∷ es) =
-    ap (λ l. record { columns = listed key.columns; references = key.references } ∷ l) (each_reference es)
-each_reference (element.Check condition ∷ es) = each_reference es
-
-pub references_are_written : (t : TableDefinition) → map reference_of (references_written t) ≡ table_references t
-references_are_written t = each_reference (listed t.elements)
-
 -- ---- the primary key
 
-abbrev chosen_if : Bool → List Name → List (List Name) → List (List Name)
-chosen_if b columns others = cond b (columns ∷ others) others
-
--- the columns of the keys that are primary ones
-abbrev primary_of : List WrittenKey → List (List Name)
-primary_of [] = []
-primary_of (k ∷ ks) = chosen_if k.is_primary k.columns (primary_of ks)
-
-primary_append : (ks ls : List WrittenKey) → primary_of (ks ++ ls) ≡ primary_of ks ++ primary_of ls
-primary_append [] ls = refl
-primary_append (k ∷ ks) ls = by_kind k.is_primary (primary_append ks ls)
-  where
-    by_kind : (b : Bool) → primary_of (ks ++ ls) ≡ primary_of ks ++ primary_of ls
-        → chosen_if b k.columns (primary_of (ks ++ ls)) ≡ chosen_if b k.columns (primary_of ks) ++ primary_of ls
-    by_kind true e = ap (λ l. k.columns ∷ l) e
-    by_kind false e = e
-
-primary_of_column : (name : Name) (cs : List ColumnConstraint)
-    → primary_of (flat_map (key_of_column name) cs) ≡ filter_map primary_columns (map (of_column name) cs)
-primary_of_column name [] = refl
-primary_of_column name (constraint.NotNull ∷ cs) = primary_of_column name cs
-primary_of_column name (constraint.Unique ∷ cs) = primary_of_column name cs
-primary_of_column name (constraint.PrimaryKey ∷ cs) = ap (λ l. (name ∷ []) ∷ l) (primary_of_column name cs)
-primary_of_column name (constraint.References to ∷ cs) = primary_of_column name cs
-primary_of_column name (constraint.Check condition ∷ cs) = primary_of_column name cs
-
-each_primary : (es : List TableElement)
-    → primary_of (flat_map keys_in es) ≡ filter_map primary_columns (flat_map constraints_in es)
-each_primary [] = refl
-each_primary (element.Column w ∷ es) =
-    primary_append (flat_map (key_of_column w.name) w.constraints) (flat_map keys_in es)
-    ∙ (λ i. primary_of_column w.name w.constraints i ++ each_primary es i)
-    ∙ sym (filter_map-append primary_columns (map (of_column w.name) w.constraints) (flat_map constraints_in es))
-each_primary (element.Unique columns ∷ es) = each_primary es
-each_primary (element.PrimaryKey columns ∷ es) = ap (λ l. listed columns ∷ l) (each_primary es)
-each_primary (element.ForeignKey key ∷ es) = each_primary es
-each_primary (element.Check condition ∷ es) = each_primary es
-
--- the first of them
+-- the first of those that are written PRIMARY KEY
 first_primary : (ks : List WrittenKey) (n : ℕ) (k : WrittenKey) → slice_get ks n ≡ Some k → k.is_primary ≡ true
     → ((i : ℕ) (l : WrittenKey) → i < n → slice_get ks i ≡ Some l → l.is_primary ≡ false)
-    → slice_get (primary_of ks) 0 ≡ Some k.columns
+    → slice_get (primaries ks) 0 ≡ Some k.columns
 first_primary [] n k there is before = cc
 first_primary (l ∷ ks) zero k there is before =
     let same : l ≡ k = cc in
-    ap (λ (x : WrittenKey). slice_get (chosen_if x.is_primary x.columns (primary_of ks)) 0) same
-    ∙ ap (λ b. slice_get (chosen_if b k.columns (primary_of ks)) 0) is
+    ap (λ (x : WrittenKey). slice_get (cons_option (primary_columns x) (primaries ks)) 0) same
+    ∙ ap (λ b. slice_get (cons_option (if b then Some k.columns else None) (primaries ks)) 0) is
 first_primary (l ∷ ks) (suc n) k there is before =
-    ap (λ b. slice_get (chosen_if b l.columns (primary_of ks)) 0) (before 0 l (omega arith) refl)
+    ap (λ b. slice_get (cons_option (if b then Some l.columns else None) (primaries ks)) 0) (before 0 l (omega arith) refl)
     ∙ first_primary ks n k there is (λ i m less at. before (suc i) m (omega (arith, less)) at)
 
 pub primary_found : (t : TableDefinition) (n : ℕ) (k : WrittenKey) → primary_among (keys_written t) ≡ Some n
     → slice_get (keys_written t) n ≡ Some k → slice_get (primary_keys t) 0 ≡ Some k.columns
 primary_found t n k at there =
     let found = position-Some (λ (x : WrittenKey). x.is_primary) (keys_written t) n k at in
-    ap (λ ks. slice_get ks 0) (sym (each_primary (listed t.elements)))
+    ap (λ ks. slice_get ks 0) (sym (primaries_are_written t))
     ∙ first_primary (keys_written t) n k there
     (ap (λ (x : WrittenKey). x.is_primary) (sym (get_or_from_slice_get (keys_written t) n k k there)) ∙ found.1)
     (λ i l less at_i. ap (λ (x : WrittenKey). x.is_primary) (sym (get_or_from_slice_get (keys_written t) i l k at_i)) ∙ found.2 i less)

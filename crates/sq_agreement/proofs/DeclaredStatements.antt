@@ -18,15 +18,16 @@ use Rattle.sq_meaning.specs.declared.status.Status.TheVariants.{IntegrityConstra
 use Rattle.sq_rules.specs.Schema.{BaseTable, base_tables}
 use Rattle.sq_rules.specs.SchemaRefusal.{elements_of, first_schema_refusal}
 use Rattle.sq_model.specs.Change as by_name
-use Rattle.sq_model.specs.Change.{base_at, outer_env, tables_in}
+use Rattle.sq_model.specs.Change.{outer_env, tables_in}
 use Rattle.sq_model.specs.Constraints.{ConstraintsHold, all_satisfied, demanded, references_satisfied}
 use Rattle.sq_bound.specs.Fits.{IsBase}
-use Rattle.sq_bound.specs.Known.{KnownTable, KnownTables, Under, under_of}
+use Rattle.sq_bound.specs.Known.{KnownTables, under_of}
 use Rattle.sq_bound.specs.WellFormed.{base_kinds}
 use Rattle.sq_bound.specs.declared.condition.BoundSpecification.{BoundSpecification}
 use Rattle.sq_bound.specs.declared.condition.TablePlace.{TablePlace}
 use Rattle.sq_bound.specs.declared.names.BaseTable.{BaseTable as BoundTable}
 use Rattle.sq_bound.specs.declared.names.Leaf.{Leaf}
+use Rattle.sq_binding.proofs.Levels.{all_at}
 use Rattle.sq_promises.specs.Names.{meant_by}
 use Rattle.sq_laws.proofs.CallLaws.{NamesDiffer}
 use Rattle.sq_laws.proofs.NameLaws.{accepted_names_differ}
@@ -36,13 +37,12 @@ use Rattle.sq_change.specs.Constraints.{references_met}
 use Rattle.sq_query.specs.Table.{AreMeant}
 use Rattle.sq_places.proofs.Constraints.{IsCheckedAs}
 use Rattle.sq_places.proofs.Databases.{IsDatabase, database_fits}
-use Rattle.sq_places.proofs.InDatabase.{IsFound}
+use Rattle.sq_places.proofs.InDatabase.{IsFound, known_under}
 use Rattle.sq_places.proofs.Statements.{call_seen, outer_places}
 use Rattle.sq_places.proofs.ViewTargets.{each_target}
 use Rattle.sq_agreement.proofs.Declared.{declares_are_under, declares_database}
 use Rattle.sq_agreement.proofs.DeclaredChecks.{keys_held, row_checked_as}
 use Rattle.sq_agreement.proofs.DeclaredContent.{rows_hold, rows_of_kinds}
-use Rattle.sq_agreement.proofs.DeclaredPlaces.{all_at}
 use Rattle.sq_agreement.proofs.DeclaredTables.{IsBaseAs, IsSoundTable, all_bases, sound_tables, table_as}
 use Rattle.sq_agreement.proofs.DeclaredView.{HasKindsOf}
 
@@ -56,11 +56,6 @@ zip_back R [] (v ∷ ys) n y h e = absurd h
 zip_back R (x ∷ xs) [] n y h e = absurd h
 zip_back R (x ∷ xs) (v ∷ ys) zero y h e = let same : v ≡ y = cc in (x, refl, subst (λ w. R x w) same h.0)
 zip_back R (x ∷ xs) (v ∷ ys) (suc n) y h e = zip_back R xs ys n y h.1 e
-
-known_under : (o : Option KnownTable) (u : Under) → option_and_then (λ k. k.under) o ≡ Some u
-    → (k : KnownTable) × (o ≡ Some k) × (k.under ≡ Some u)
-known_under None u e = cc
-known_under (Some k) u e = (k, refl, e)
 
 -- ---- a table that is there
 

@@ -4,12 +4,14 @@ use Rattle.std.proofs.Common.{◌≡◌, false, List, [], ◌∷◌, ◌++◌, l
 use Rattle.std.proofs.lemmas.List.{append-nil}
 use Rattle.std.specs.Prelude.{nat_lt, IfSome}
 use Rattle.std.specs.List.{AllByRecursion, AllZip, cons_option, filter_map}
+use Rattle.std.proofs.lemmas.Bool.{or_parts}
 use Rattle.sq_lex.specs.declared.name.Name.{Name}
 use Rattle.sq_tree.specs.declared.schema.SchemaElement.{SchemaElement}
 use Rattle.sq_tree.specs.declared.schema.SchemaElement.TheVariants as element
 use Rattle.sq_tree.specs.declared.schema.SchemaText.{SchemaText}
 use Rattle.sq_tree.specs.declared.schema.TableDefinition.{TableDefinition}
 use Rattle.sq_meaning.specs.Spelled.{cond_of, listed_if_any, table_of}
+use Rattle.sq_meaning.proofs.AnswerLaws.{all_appended}
 use Rattle.sq_rules.specs.Schema.{BaseTable, Constraint, Elements, base_tables, checks, column_definitions, constraints, has_name_twice, primary_columns, primary_keys, reference_in, table_columns, table_references}
 use Rattle.sq_rules.specs.SchemaRefusal.{elements_of, first_schema_refusal, is_bad_key, is_bad_list}
 use Rattle.sq_bound.specs.Known.{KnownTables}
@@ -21,14 +23,14 @@ use Rattle.sq_catalog.specs.Catalog.{declared_definitions, declared_tables, defi
 use Rattle.sq_catalog.specs.Columns.{AreBaseColumnsOf}
 use Rattle.sq_catalog.specs.Declares.{Declares}
 use Rattle.sq_catalog.specs.declared.catalog.FullName.{FullName}
+use Rattle.sq_catalog.proofs.WrittenRules.{columns_are_written}
 use Rattle.sq_places.proofs.Checks.{IsCondOfRow}
 use Rattle.sq_places.proofs.ChecksRead.{checks_read_row}
-use Rattle.sq_places.proofs.Outcomes.{all_append}
 use Rattle.sq_places.proofs.Statements.{IsTableAs}
-use Rattle.sq_agreement.proofs.Accepted.{AreAccepted, IsAccepted, accepted_elements, both_false, checks_good, columns_apart, keys_good, table_of_user}
+use Rattle.sq_agreement.proofs.Accepted.{AreAccepted, IsAccepted, accepted_elements, checks_good, columns_apart, keys_good, table_of_user}
 use Rattle.sq_agreement.proofs.Created.{base_in, bases_created, created, declared_definitions_are, declared_tables_are, definitions_created, tables_created}
 use Rattle.sq_agreement.proofs.Declared.{definitions_counted}
-use Rattle.sq_agreement.proofs.DeclaredColumns.{columns_are_written, columns_as}
+use Rattle.sq_agreement.proofs.DeclaredColumns.{columns_as}
 
 -- ---- the base tables of the definitions
 
@@ -118,7 +120,7 @@ all_chosen {A} {B} h P Q f (x ∷ xs) p = of_one (h x) (f x p.0) (all_chosen h P
 primary_apart : (c : Constraint) → is_bad_key c ≡ false → IfSome (primary_columns c) (λ names. has_name_twice names ≡ false)
 primary_apart (Constraint.not_null name) e = tt
 primary_apart (Constraint.unique names) e = tt
-primary_apart (Constraint.primary_key names) e = (both_false (has_name_twice names) (nat_lt 6 (length names)) e).0
+primary_apart (Constraint.primary_key names) e = (or_parts (has_name_twice names) (nat_lt 6 (length names)) e).0
 primary_apart (Constraint.referential names r) e = tt
 primary_apart (Constraint.check c) e = tt
 
@@ -128,8 +130,8 @@ referenced_apart (Constraint.not_null name) e = tt
 referenced_apart (Constraint.unique names) e = tt
 referenced_apart (Constraint.primary_key names) e = tt
 referenced_apart (Constraint.referential names r) e =
-    (both_false (has_name_twice (listed_if_any r.columns)) (nat_lt 6 (length (listed_if_any r.columns)))
-    (both_false (is_bad_list names) (is_bad_list (listed_if_any r.columns)) e).1).0
+    (or_parts (has_name_twice (listed_if_any r.columns)) (nat_lt 6 (length (listed_if_any r.columns)))
+    (or_parts (is_bad_list names) (is_bad_list (listed_if_any r.columns)) e).1).0
 referenced_apart (Constraint.check c) e = tt
 
 sound_created : (elements : Elements) → AreAccepted elements → AllByRecursion IsSoundTable (created base_in elements)
@@ -139,7 +141,7 @@ sound_created (e ∷ before) a = of_one (sound_created before a.1) e.user e.elem
     of_one : AllByRecursion IsSoundTable (created base_in before) → (user : Name) (x : SchemaElement) → IsAccepted before user x
         → AllByRecursion IsSoundTable (created base_in before ++ base_in user x)
     of_one others user (element.Table t) h =
-        all_append IsSoundTable (created base_in before) (record { name = table_of user t.name; definition = t } ∷ [])
+        all_appended IsSoundTable (created base_in before) (record { name = table_of user t.name; definition = t } ∷ [])
         others (
           record {
             once = columns_apart before user t h;

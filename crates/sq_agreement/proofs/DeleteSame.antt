@@ -1,15 +1,14 @@
 -- A searched DELETE keeps what the states of a session and of the machine are to each other, and ends alike (ISO/IEC 9075:1992, 13.7), where it
 -- comes to the same tables or the same status.
-use Rattle.std.proofs.Common.{◌≡◌, ℕ, zero, suc, true, not, List, [], ◌∷◌, filter, None, refl, sym, ap, subst, ◌∙◌, Ok, Err}
+use Rattle.std.proofs.Common.{◌≡◌, ℕ, zero, suc, true, List, [], ◌∷◌, None, refl, sym, ap, subst, ◌∙◌, Ok, Err}
 use Rattle.std.specs.Prelude.{slice_set}
 use Rattle.sq_tree.specs.declared.statement.Delete.{Delete}
 use Rattle.sq_value.specs.declared.value.Value.{Value}
 use Rattle.sq_store.specs.Content.{Content, table_at, with_table}
 use Rattle.sq_store.specs.Rising.{has_rising_rows}
-use Rattle.sq_store.specs.declared.table.Numbered.{Numbered}
 use Rattle.sq_store.specs.declared.table.Table.{Table}
 use Rattle.sq_meaning.specs.Status.{Outcome}
-use Rattle.sq_model.specs.Change.{Which, delete_outcome, is_numbered, without}
+use Rattle.sq_model.specs.Change.{Which, delete_outcome, without}
 use Rattle.sq_model.specs.Machine as by_name
 use Rattle.sq_model.specs.Machine.{Running, behind_delete, change_by, delete_rows, setting}
 use Rattle.sq_bound.specs.declared.query.Target.{Target as BoundTarget}
@@ -21,6 +20,7 @@ use Rattle.sq_session.specs.Schemas.{Schemas}
 use Rattle.sq_session.specs.State.{State}
 use Rattle.sq_session.specs.Step.{DeleteComesTo, MayDelete, Performs}
 use Rattle.sq_session.specs.declared.reply.Done.{Done}
+use Rattle.sq_places.proofs.RowsAgain.{all_left}
 use Rattle.sq_agreement.proofs.Completed.{deleted_is}
 use Rattle.sq_agreement.proofs.CursorsKept.{cursors_kept}
 use Rattle.sq_agreement.proofs.SameCursors.{AreSame}
@@ -35,12 +35,8 @@ gone_at zero numbers (suc k) = []
 gone_at (suc place) numbers zero = []
 gone_at (suc place) numbers (suc k) = gone_at place numbers k
 
-all_stay : (rows : List Numbered) → filter (λ r. not (is_numbered [] r)) rows ≡ rows
-all_stay [] = refl
-all_stay (r ∷ rows) = ap (λ l. r ∷ l) (all_stay rows)
-
 none_goes : (t : Table) → t ≡ without t []
-none_goes t = λ i. record { rows = sym (all_stay t.rows) i; next = t.next }
+none_goes t = λ i. record { rows = sym (all_left t.rows) i; next = t.next }
 
 removed_at : (content : Content) (place : ℕ) (numbers : List ℕ) (k : ℕ)
     → table_at (slice_set content place (without (table_at content place) numbers)) k

@@ -1,8 +1,7 @@
 -- FETCH and SELECT INTO leave the state of a session that texts opened what it was to the machine's, and have the same reply (ISO/IEC 9075:1992, 13.3
 -- and 13.5). Asked for is what InSession asks for, what binding promises of the statement, and that it does not end with 42000.
-use Rattle.std.proofs.Common.{◌≡◌, ℕ, Bool, true, false, List, [], length, refl, sym, ap, subst, ◌∙◌, eqb-true, Ok, Err}
+use Rattle.std.proofs.Common.{◌≡◌, ℕ, true, List, [], length, refl, sym, ap, subst, ◌∙◌, Ok, Err}
 use Rattle.std.specs.Option.{option_map_or}
-use Rattle.std.specs.Prelude.{if◌then◌else◌}
 use Rattle.sq_lex.specs.declared.name.Name.{Name}
 use Rattle.sq_tree.specs.declared.schema.SchemaText.{SchemaText}
 use Rattle.sq_tree.specs.declared.statement.Fetch.{Fetch}
@@ -23,10 +22,10 @@ use Rattle.sq_bound.specs.declared.statement.BoundSelect.{BoundSelect}
 use Rattle.sq_promises.specs.Written.{HasRowsOf, IsCursorOf, IsFetchOf, IsRowOf}
 use Rattle.sq_module.specs.declared.program.DeclaredCursor.{DeclaredCursor}
 use Rattle.sq_query.specs.Table.{AreMeant}
-use Rattle.sq_session.specs.Cursors.{is_over, is_over_numbers, is_over_table}
+use Rattle.sq_session.specs.Cursors.{is_over, is_over_numbers}
 use Rattle.sq_session.specs.Fetch.{come_to_row, over_rows, row_come_to}
 use Rattle.sq_session.specs.Fetch as session
-use Rattle.sq_session.specs.Kind.{Caller, Fetching, Over, columns_of, conditions_in, fetching, over_of, selecting}
+use Rattle.sq_session.specs.Kind.{Caller, Fetching, columns_of, conditions_in, fetching, over_of, selecting}
 use Rattle.sq_session.specs.Schemas.{Schemas}
 use Rattle.sq_session.specs.State.{State, cursor_at}
 use Rattle.sq_session.specs.Step.{Comes, EndsRight, MayFetch, MayFetchFrom, Selects}
@@ -34,6 +33,7 @@ use Rattle.sq_session.specs.declared.cursor.CursorState.{CursorState}
 use Rattle.sq_session.specs.declared.cursor.CursorState.TheVariants as cursor
 use Rattle.sq_session.specs.declared.cursor.RowsCursor.{RowsCursor}
 use Rattle.sq_session.specs.declared.reply.Done.{Done}
+use Rattle.sq_session.proofs.Over.{as_numbers, over_quiet}
 use Rattle.sq_places.proofs.Stars.{QueryStars, SelectStars}
 use Rattle.sq_places.proofs.TargetsSet.{AreApart}
 use Rattle.sq_agreement.proofs.BoundTarget.{target_bound}
@@ -43,16 +43,6 @@ use Rattle.sq_agreement.proofs.InSession.{AreKept, AreOf, IsCalledAs, database, 
 use Rattle.sq_agreement.proofs.MovesAlike.{moves_alike, no_move}
 use Rattle.sq_agreement.proofs.SelectSame.{select_same}
 use Rattle.sq_agreement.proofs.SessionKeeps.{IsCursorHere, IsSameStep}
-
--- what an updatable cursor goes over is its base table, listed or walked
-over_numbers : (quiet : Bool) (base table : ℕ) → is_over_numbers (if quiet then Over.walk base else Over.numbers base) table ≡ true → base ≡ table
-over_numbers true base table h = eqb-true base table h
-over_numbers false base table h = eqb-true base table h
-
-walk_numbers : (over : Over) (table : ℕ) → is_over_table over table ≡ true → is_over_numbers over table ≡ true
-walk_numbers Over.rows table h = cc
-walk_numbers (Over.numbers base) table h = cc
-walk_numbers (Over.walk base) table h = h
 
 module _ (texts : List SchemaText) (known : KnownTables) (schemas : Schemas) (of : AreOf texts known schemas)
     (declared : List DeclaredCursor) (caller : Caller) (values : List Value) (s : State) (r : Running) (kept : AreKept texts schemas s)
@@ -82,7 +72,7 @@ module _ (texts : List SchemaText) (known : KnownTables) (schemas : Schemas) (of
         record {
           meant = may.0;
           is = may.1;
-          place = bound.0 ∙ over_numbers u.target.is_quiet u.target.base table over;
+          place = bound.0 ∙ over_quiet u.target.is_quiet u.target.base table over;
           columns =
               bound.1 ∙ ap columns_of (sym body_is)
               ∙ ap (λ o. option_map_or (λ (c : DeclaredCursor). columns_of c.cursor.body) o []) (sym here.there);
@@ -108,7 +98,7 @@ module _ (texts : List SchemaText) (known : KnownTables) (schemas : Schemas) (of
     right_for (cursor.Numbers z) over d after right h =
         shown_by here.declared_as.cursor.body refl is.rows updatable z.table over
     right_for (cursor.Walking z) over d after right h = (
-      shown_by here.declared_as.cursor.body refl is.rows updatable z.table (walk_numbers (over_of here.declared_as.cursor.body) z.table over),
+      shown_by here.declared_as.cursor.body refl is.rows updatable z.table (as_numbers (over_of here.declared_as.cursor.body) z.table over),
       ap (λ o. option_map_or (λ (c : DeclaredCursor). conditions_in c.cursor.body) o []) here.there,
       sym of_user,
       kept.rising z.table,

@@ -20,18 +20,18 @@ use Rattle.sq_meaning.specs.declared.status.Status.{Status}
 use Rattle.sq_meaning.specs.declared.status.Status.TheVariants as status
 use Rattle.sq_rules.specs.WellFormed.{orientation_of, updatable_cursor}
 use Rattle.sq_model.specs.Cursor as machine
-use Rattle.sq_model.specs.Cursor.{Fetched, bounded, fetched, row_at as row_of, to_next, wanted}
+use Rattle.sq_model.specs.Cursor.{bounded, fetched, row_at as row_of, to_next, wanted}
 use Rattle.sq_model.specs.Machine as by_name
 use Rattle.sq_model.specs.Machine.{Running, cursor_now, fetch_cursor, fetch_reply, moved, shown_now, surroundings}
 use Rattle.sq_bound.specs.declared.names.ParameterDesc.{ParameterDesc}
 use Rattle.sq_promises.specs.Written.{AreOutputsOf}
 use Rattle.sq_module.specs.declared.program.DeclaredCursor.{DeclaredCursor}
-use Rattle.sq_session.specs.Fetch.{come_to_number, come_to_row, come_to_walk, over_numbers, over_rows, over_walk, place_reached, row_fetched, row_on, walked_to}
+use Rattle.sq_session.specs.Fetch.{come_to_number, come_to_row, come_to_walk, over_numbers, over_rows, over_walk, row_fetched, row_on, walked_to}
 use Rattle.sq_session.specs.Fetch as session
 use Rattle.sq_session.specs.Kind.{Fetching, conditions_in}
 use Rattle.sq_session.specs.State.{State, cursor_at, is_there, next_number, with_cursor}
 use Rattle.sq_session.specs.Step.{Comes, EndsRight, MayFetch, MayFetchFrom}
-use Rattle.sq_session.specs.Target.{ended, is_refused, row_reply, row_set}
+use Rattle.sq_session.specs.Target.{ended, is_refused, row_set}
 use Rattle.sq_session.specs.Target as target
 use Rattle.sq_session.specs.Walk.{first_meant}
 use Rattle.sq_session.specs.declared.cursor.CursorState.{CursorState}

@@ -1,10 +1,11 @@
 -- The first tests of a search condition that name the columns of a key and compare them with values that are known do so by their places
 -- (own rule; ISO/IEC 9075:1992, 11.7, 13.7 and 13.10).
-use Rattle.std.proofs.Common.{◌≡◌, ℕ, zero, suc, ◌≤◌, Bool, true, false, ◌&&◌, ◌||◌, List, [], ◌∷◌, length, map, take, Option, Some, refl, sym, ap, subst, ◌∙◌, arith, eq-eqb, inl, inr}
-use Rattle.std.proofs.lemmas.Bool.{le-leb}
+use Rattle.std.proofs.Common.{◌≡◌, ℕ, zero, suc, ◌≤◌, true, false, ◌&&◌, ◌||◌, List, [], ◌∷◌, length, map, take, Some, refl, sym, ap, subst, ◌∙◌, arith, eq-eqb, inl, inr}
+use Rattle.std.proofs.lemmas.Bool.{le-leb, or_right}
 use Rattle.std.proofs.lemmas.List.{length-map}
 use Rattle.std.specs.Prelude.{filter_map, nat_eq, nat_le, option_to_list, position}
 use Rattle.std.specs.List.{AllByRecursion, AllZip, list_all, list_any}
+use Rattle.std.proofs.lemmas.Cmp.{nat_list_eq_equiv}
 use Rattle.sq_lex.specs.declared.name.Name.{Name}
 use Rattle.sq_value.specs.declared.value.Value.{Value}
 use Rattle.sq_meaning.specs.Environment.{Input, column_named as column_of_name}
@@ -22,7 +23,7 @@ use Rattle.sq_bound.specs.declared.names.ParameterDesc.{ParameterDesc}
 use Rattle.sq_binding.specs.Scope.{FromItem}
 use Rattle.sq_catalog.specs.Keys.{StandAt}
 use Rattle.sq_expression.specs.Frame.{inputs_of}
-use Rattle.sq_places.proofs.Given.{same_turned}
+use Rattle.sq_query.proofs.KnownKeys.{same_some}
 use Rattle.sq_places.proofs.Items.{IsInOrder}
 use Rattle.sq_places.proofs.KeyedTests.{IsKnownTest, IsPlacedTest, item_names, test_known, test_names}
 use Rattle.sq_places.proofs.Outcomes.{same_length}
@@ -44,18 +45,11 @@ all_there (suc n) [] e = absurd (omega arith)
 all_there (suc n) (x ∷ xs) e =
     let rest : n ≤ length xs = all_there n xs (omega arith) in omega (arith, rest)
 
-or_later : (a b : Bool) → b ≡ true → (a || b) ≡ true
-or_later true b e = refl
-or_later false b e = e
-
-pub some_is : {A : Type 0} (x y : A) (o : Option A) → o ≡ Some x → o ≡ Some y → x ≡ y
-some_is x y o e f = cc
-
 -- ---- names in either order
 
 -- a column of a name is looked for in one order or the other
 position_turned : (n : Name) (names : List Name) → position (is_name n) names ≡ column_of_name n names
-position_turned n names = λ i. position (λ m. same_turned n m i) names
+position_turned n names = λ i. position (λ m. nat_list_eq_equiv.symm n m i) names
 
 module _ (known : KnownTables) (ps : List ParameterDesc) (item : FromItem) (in_order : IsInOrder item) (inputs : List Input)
     (values : List Value) (user : Name) (same_inputs : SameInputs ps inputs (inputs_of values)) where
@@ -75,7 +69,7 @@ module _ (known : KnownTables) (ps : List ParameterDesc) (item : FromItem) (in_o
   named_at : (n : Name) (q : ℕ) (t : PlacedCond) → position (is_name n) names ≡ Some q → IsTest n t → names_column q t ≡ true
   named_at n q t at w =
       ap (λ o. list_any (nat_eq q) (option_to_list o)) (test_names known ps item in_order inputs values user same_inputs n t w)
-      ∙ ap (λ b. b || false) (eq-eqb q w.place.column (some_is q w.place.column (column_of_name n names) (sym (position_turned n names) ∙ at) w.at))
+      ∙ ap (λ b. b || false) (eq-eqb q w.place.column (same_some q w.place.column (column_of_name n names) (sym (position_turned n names) ∙ at) w.at))
 
   -- each test names a column of the key
   one_named : (key : List Name) (places : List ℕ) → StandAt names key places → (n : Name) → Has key n → (t : PlacedCond) → IsTest n t
@@ -86,7 +80,7 @@ module _ (known : KnownTables) (ps : List ParameterDesc) (item : FromItem) (in_o
       ap (λ b. b || list_any (λ p. names_column p t) places)
       (named_at n q t (subst (λ m. position (is_name m) names ≡ Some q) e stand.0) w)
   one_named (k ∷ key) (q ∷ places) stand n (inr has) t w =
-      or_later (names_column q t) (list_any (λ p. names_column p t) places) (one_named key places stand.1 n has t w)
+      or_right (names_column q t) (list_any (λ p. names_column p t) places) (one_named key places stand.1 n has t w)
 
   all_one_named : (key : List Name) (places : List ℕ) → StandAt names key places → (ts : List PlacedCond)
       → AllByRecursion (IsOfKey key) ts → list_all (names_one_of places) ts ≡ true
@@ -103,7 +97,7 @@ module _ (known : KnownTables) (ps : List ParameterDesc) (item : FromItem) (in_o
       ap (λ b. b || list_any (names_column q) ts)
       (named_at n q t at (test_known known ps item in_order inputs values user same_inputs c t h.0.0 h.0.1 n e))
   any_names (c ∷ cs) (t ∷ ts) h n q at (inr has) =
-      or_later (names_column q t) (list_any (names_column q) ts) (any_names cs ts h.1 n q at has)
+      or_right (names_column q t) (list_any (names_column q) ts) (any_names cs ts h.1 n q at has)
 
   each_is_named : (cs : List (Cond Named)) (ts : List PlacedCond) → AllZip Placed cs ts → (key : List Name) (places : List ℕ)
       → StandAt names key places → AllByRecursion (λ n. Has (map (column_equal inputs) cs) (Some n)) key

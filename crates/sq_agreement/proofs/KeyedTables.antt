@@ -30,12 +30,12 @@ use Rattle.sq_catalog.specs.Catalog.{base_meant, itself}
 use Rattle.sq_catalog.specs.Columns.{IsColumnOf}
 use Rattle.sq_catalog.specs.Declares.{Declares}
 use Rattle.sq_catalog.specs.Keys.{KeysStandAt, StandAt, keys_written, names_written}
+use Rattle.sq_catalog.proofs.WrittenRules.{columns_are_written, keys_are_written, names_are_written}
 use Rattle.sq_places.proofs.Databases.{table_is}
 use Rattle.sq_places.proofs.Items.{IsInOrder, columns_at_leaf, names_at_leaf}
 use Rattle.sq_agreement.proofs.Accepted.{AreAccepted, IsAccepted, accepted_elements, keys_good}
 use Rattle.sq_agreement.proofs.Declared.{Within, all_within, base_there, within_before}
-use Rattle.sq_agreement.proofs.DeclaredChecks.{keys_are_written, names_are_written}
-use Rattle.sq_agreement.proofs.DeclaredColumns.{columns_are_written, names_seen}
+use Rattle.sq_agreement.proofs.DeclaredColumns.{names_seen}
 use Rattle.sq_agreement.proofs.DeclaredPlaces.{HasBase}
 use Rattle.sq_agreement.proofs.DeclaredTables.{all_chosen}
 use Rattle.sq_agreement.proofs.Unnamed.{WrittenKey}

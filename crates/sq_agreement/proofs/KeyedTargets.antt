@@ -1,9 +1,10 @@
 -- A call of a searched UPDATE or DELETE that names its row by a key, as the definition reads its text, names it by a key as it is bound, and so
 -- reads one row at most (own rule; ISO/IEC 9075:1992, 13.7 and 13.10).
-use Rattle.std.proofs.Common.{◌≡◌, ℕ, zero, suc, Bool, true, false, ◌&&◌, List, [], ◌∷◌, length, map, take, Option, Some, None, refl, sym, ap, subst, ◌∙◌, Ok}
+use Rattle.std.proofs.Common.{◌≡◌, ℕ, zero, suc, true, List, [], ◌∷◌, length, map, take, Option, Some, None, refl, sym, ap, subst, ◌∙◌, Ok}
 use Rattle.std.specs.Prelude.{not}
 use Rattle.std.specs.List.{AllByRecursion, AllZip, list_any}
 use Rattle.std.specs.Option.{option_and_then, option_map}
+use Rattle.std.proofs.lemmas.Bool.{and_parts}
 use Rattle.sq_lex.specs.declared.name.Name.{Name}
 use Rattle.sq_tree.specs.declared.cond.Comparison.TheVariants.{Equal}
 use Rattle.sq_tree.specs.declared.cond.Cond.{Cond as SpelledCond}
@@ -25,6 +26,7 @@ use Rattle.sq_rules.specs.Keyed.{is_by_key, is_keyed, is_keyed_where, tests_of}
 use Rattle.sq_rules.specs.Schema.{keys, table_named}
 use Rattle.sq_rules.specs.SchemaRefusal.{elements_of, first_schema_refusal}
 use Rattle.sq_rules.specs.Words.{is_some_and}
+use Rattle.sq_model.proofs.Bind.{bind_ok}
 use Rattle.sq_bound.specs.Condition.{PlacedCond, PlacedClause, clause_of, conj_of, test_of}
 use Rattle.sq_bound.specs.Condition as bound
 use Rattle.sq_bound.specs.Expression.{PlacedExpr, expr_of}
@@ -58,11 +60,12 @@ use Rattle.sq_query.specs.Keyed.{AreKnownEqual, IsKeyed, IsKnownValue}
 use Rattle.sq_query.specs.Row as row
 use Rattle.sq_query.proofs.KeyValues.{all_contained, first_tests_valued, own_stands}
 use Rattle.sq_query.proofs.ShortestKnown.{keyed_by_any}
+use Rattle.sq_query.proofs.KnownKeys.{same_some}
 use Rattle.sq_places.proofs.Items.{IsInOrder}
-use Rattle.sq_places.proofs.KeyedTests.{IsPlacedTest, item_names, ok_both, placed_tests, tests_joined, tests_placed, value_known}
+use Rattle.sq_places.proofs.KeyedTests.{IsPlacedTest, item_names, placed_tests, tests_joined, tests_placed, value_known}
 use Rattle.sq_places.proofs.Outcomes.{ok_same}
 use Rattle.sq_places.proofs.Parameters.{SameInputs}
-use Rattle.sq_agreement.proofs.KeyedPlaced.{IsOfKey, by_key_placed, some_is}
+use Rattle.sq_agreement.proofs.KeyedPlaced.{IsOfKey, by_key_placed}
 use Rattle.sq_agreement.proofs.KeyedTables.{IsBaseNamed, IsKeyAt, base_is_named, key_bound, meant, meant_is, names_are, own_positions}
 
 -- The shortest key by which the condition names a row is the one that is noted, which is what binding promises of a condition on a base table
@@ -95,10 +98,6 @@ others_same p q x y e = cc
 only_same : {A : Type 0} (x y : A) → x ∷ [] ≡ y ∷ [] → x ≡ y
 only_same x y e = cc
 
-both_true : (a b : Bool) → (a && b) ≡ true → (a ≡ true) × (b ≡ true)
-both_true true b e = (refl, e)
-both_true false b e = cc
-
 module _ (known : KnownTables) (ps : List ParameterDesc) (item : FromItem) (in_order : IsInOrder item) (inputs : List Input)
     (values : List Value) (user : Name) (same_inputs : SameInputs ps inputs (inputs_of values)) where
   abbrev tests_in : Conds (Placed TablePlace) → List PlacedCond
@@ -127,9 +126,9 @@ module _ (known : KnownTables) (ps : List ParameterDesc) (item : FromItem) (in_o
       → cond_placed around (disjunction (a_cond (conjunction cs) no_cond)) ≡ Ok (bound.cond_of [] own)
       → (ts : Conds (Placed TablePlace)) × (conds_placed around cs ≡ Ok ts) × IsOnlyTerm own (tests_in ts)
   only_term own cs e =
-      let whole = ok_both (conds_placed around (a_cond (conjunction cs) no_cond)) (λ ds. Ok (disjunction ds)) (bound.cond_of [] own) e in
-      let one = ok_both (cond_placed around (conjunction cs)) (λ p. Ok (a_cond p no_cond)) whole.0 whole.1 in
-      let joined = ok_both (conds_placed around cs) (λ ts. Ok (conjunction ts)) one.0 one.1 in
+      let whole = bind_ok (conds_placed around (a_cond (conjunction cs) no_cond)) (λ ds. Ok (disjunction ds)) (bound.cond_of [] own) e in
+      let one = bind_ok (cond_placed around (conjunction cs)) (λ p. Ok (a_cond p no_cond)) whole.0 whole.1 in
+      let joined = bind_ok (conds_placed around cs) (λ ts. Ok (conjunction ts)) one.0 one.1 in
       let tree : ◌≡◌ {A = PlacedCond} (disjunction (a_cond (conjunction joined.0) no_cond)) (bound.cond_of [] own)
       = ap (λ (p : PlacedCond). disjunction (a_cond p no_cond)) (ok_same (conjunction joined.0) one.0 joined.2)
       ∙ ap (λ (ds : Conds (Placed TablePlace)). disjunction ds) (ok_same (a_cond one.0 no_cond) whole.0 one.2)
@@ -171,7 +170,7 @@ module _ (known : KnownTables) (ps : List ParameterDesc) (item : FromItem) (in_o
         (record { term = t.2.term; only_term = t.2.only; firsts = refl })) in
         keyed_by_any x own values user k.number k.places own_is (shortest own own_is) k.there by_key
         (λ tests firsts.
-        let own_same : firsts.own ≡ own = some_is firsts.own own x.condition firsts.is_own own_is in
+        let own_same : firsts.own ≡ own = same_some firsts.own own x.condition firsts.is_own own_is in
         let term_same : firsts.term ≡ t.2.term
         = only_same firsts.term t.2.term (sym firsts.only_term ∙ ap (λ (o : BoundCond). (out-BoundCond o).terms) own_same ∙ t.2.only) in
         subst (λ z. AreKnownEqual z values user)
@@ -209,9 +208,9 @@ module _ (texts : List SchemaText) (known : KnownTables) (bases : List BoundTabl
     by_clause : (clause : Clause Named) → ClauseSpellsNoNull clause → is_keyed t inputs clause ≡ true
         → placed_by clause ≡ Ok (clause_of [] x.condition) → IsKeyed x values user
     by_clause (present (disjunction (a_cond (conjunction cs) no_cond))) spells keyed e =
-        let any = (both_true (not (have_subquery cs)) (list_any (is_by_key inputs cs) (keys t)) keyed).1 in
+        let any = (and_parts (not (have_subquery cs)) (list_any (is_by_key inputs cs) (keys t)) keyed).1 in
         let key = key_bound texts known bases views d accepted name t b x.leaf is_under is_base (is_by_key inputs cs) any in
-        let made = ok_both (cond_placed (of_lines (own_item ∷ []) (outside known ps)) (disjunction (a_cond (conjunction cs) no_cond)))
+        let made = bind_ok (cond_placed (of_lines (own_item ∷ []) (outside known ps)) (disjunction (a_cond (conjunction cs) no_cond)))
         (λ p. Ok (present p)) (clause_of [] x.condition) e in
         by_condition cs spells.0
         (subst (λ ns. IsKeyAt (is_by_key inputs cs) ns x.leaf.table.keys) (names_are texts known bases views d accepted name t b) key)

@@ -1,5 +1,6 @@
 -- A condition without a subquery reads no table: it has the same truth whatever rows the tables have (ISO/IEC 9075:1992, clause 8).
-use Rattle.std.proofs.Common.{◌≡◌, Bool, true, false, ◌||◌, List, [], ◌∷◌, Option, Some, None, Ok, refl}
+use Rattle.std.proofs.Common.{◌≡◌, false, List, [], ◌∷◌, Option, Some, None, Ok, refl}
+use Rattle.std.proofs.lemmas.Bool.{or_parts}
 use Rattle.sq_tree.specs.declared.cond.Comparison.{Comparison}
 use Rattle.sq_tree.specs.declared.cond.Comparison.TheVariants.{Equal, LessOrEqual, GreaterOrEqual}
 use Rattle.sq_value.specs.Pattern.{liked}
@@ -12,10 +13,6 @@ use Rattle.sq_meaning.specs.Query.{all_truth, and_also, any_in_turn, any_truth, 
 use Rattle.sq_meaning.specs.Status.{Outcome, and_then, like_status, with_status}
 use Rattle.sq_meaning.specs.Syntax.{Cond, Conds, Expr, a_cond, added, between, bracketed, column, compare, compare_quantified, compare_subquery, conjunction, count_rows, disjunction, exists, in_list, in_subquery, is_null, like, literal, negated, no_cond, parameter, scaled, set_function, signed, user}
 use Rattle.sq_meaning.specs.Target.{has_subquery, have_subquery}
-
-pub neither : (a b : Bool) → (a || b) ≡ false → (a ≡ false) × (b ≡ false)
-neither false b h = (refl, h)
-neither true b h = cc
 
 module _ {T : Type 0} (tables others : T → Outcome (List Row)) where
   -- ---- values
@@ -73,12 +70,12 @@ module _ {T : Type 0} (tables others : T → Outcome (List Row)) where
         → all_truth (by_place tables) cs env ≡ all_truth (by_place others) cs env
     all_same no_cond env h = refl
     all_same (a_cond c cs) env h =
-        let n = neither (has_subquery c) (have_subquery cs) h in
+        let n = or_parts (has_subquery c) (have_subquery cs) h in
         (λ i. and_also (plain_same c env n.0 i) (all_same cs env n.1 i))
 
     any_same : (cs : Conds (Placed T)) (env : Env (Unit {0})) → have_subquery cs ≡ false
         → any_truth (by_place tables) cs env ≡ any_truth (by_place others) cs env
     any_same no_cond env h = refl
     any_same (a_cond c cs) env h =
-        let n = neither (has_subquery c) (have_subquery cs) h in
+        let n = or_parts (has_subquery c) (have_subquery cs) h in
         (λ i. or_else (plain_same c env n.0 i) (any_same cs env n.1 i))

@@ -1,7 +1,7 @@
 -- Names of base tables and views are apart in schemas that are not refused, so each is found under its number (ISO/IEC 9075:1992, 5.4, 11.3
 -- and 11.19).
 use Rattle.std.proofs.Common.{◌≡◌, ℕ, zero, suc, ◌+◌, ◌<◌, cond, not, Bool, true, false, List, [], ◌∷◌, ◌++◌, length, length-append, Some, None, refl, sym, ap, subst, ◌∙◌, arith, true≢false, ltb-true}
-use Rattle.std.proofs.lemmas.Bool.{lt-ltb}
+use Rattle.std.proofs.lemmas.Bool.{and_parts, false_from_ne_true, lt-ltb, or_parts}
 use Rattle.std.proofs.lemmas.Cmp.{nat_list_eq_equiv}
 use Rattle.std.proofs.lemmas.List.{append-nil, append_assoc}
 use Rattle.std.specs.Cmp.Lexicographic.{pointwise, same_text}
@@ -12,14 +12,14 @@ use Rattle.sq_tree.specs.declared.schema.SchemaElement.{SchemaElement}
 use Rattle.sq_tree.specs.declared.schema.SchemaElement.TheVariants as element
 use Rattle.sq_meaning.specs.Environment.{TableName, same_table}
 use Rattle.sq_meaning.specs.Spelled.{table_of}
+use Rattle.sq_meaning.proofs.AnswerLaws.{all_appended}
 use Rattle.sq_rules.specs.Catalog.{tables_of}
 use Rattle.sq_rules.specs.Schema.{Elements}
 use Rattle.sq_rules.specs.SchemaRefusal.{is_made}
 use Rattle.sq_catalog.specs.Catalog.{is_table, named_by}
 use Rattle.sq_catalog.specs.Views.{WrittenView, view_name}
 use Rattle.sq_catalog.specs.declared.catalog.FullName.{FullName}
-use Rattle.sq_places.proofs.Outcomes.{all_append}
-use Rattle.sq_agreement.proofs.Accepted.{AreAccepted, IsAccepted, both_false, table_is_new, view_is_new}
+use Rattle.sq_agreement.proofs.Accepted.{AreAccepted, IsAccepted, table_is_new, view_is_new}
 use Rattle.sq_agreement.proofs.Created.{tables_created, views_created}
 
 -- ---- lists that begin alike
@@ -113,32 +113,19 @@ none_there p xs none = not_within (position_or_len p xs) (length xs) (none_len p
 abbrev pub is_its_name : TableName → FullName → Bool
 is_its_name t = is_table t.user t.name
 
-is_false : (b : Bool) → (b ≡ true → ⊥) → b ≡ false
-is_false true h = absurd (h refl)
-is_false false h = refl
-
-both_true : (a b : Bool) → (a && b) ≡ true → (a ≡ true) × (b ≡ true)
-both_true true b e = (refl, e)
-both_true false b e = cc
-
 pub same_itself : (user name : Name) → (pointwise nat_eq user user && pointwise nat_eq name name) ≡ true
 same_itself user name = (λ i. nat_list_eq_equiv.refl user i && nat_list_eq_equiv.refl name i)
 
 -- two names are apart in either order
 pub apart_turned : (u n v m : Name) → (pointwise nat_eq u v && pointwise nat_eq n m) ≡ false
     → (pointwise nat_eq v u && pointwise nat_eq m n) ≡ false
-apart_turned u n v m e = is_false (pointwise nat_eq v u && pointwise nat_eq m n) turned
+apart_turned u n v m e = false_from_ne_true (pointwise nat_eq v u && pointwise nat_eq m n) turned
   where
     turned : (pointwise nat_eq v u && pointwise nat_eq m n) ≡ true → ⊥
     turned h =
-        let parts = both_true (pointwise nat_eq v u) (pointwise nat_eq m n) h in
+        let parts = and_parts (pointwise nat_eq v u) (pointwise nat_eq m n) h in
         true≢false
         (sym (same_itself u n) ∙ (λ i. pointwise nat_eq u (sym (same_text v u (sym parts.0)) i) && pointwise nat_eq n (sym (same_text m n (sym parts.1)) i)) ∙ e)
-
-pub name_turned : (u v : Name) → pointwise nat_eq u v ≡ false → pointwise nat_eq v u ≡ false
-name_turned u v e =
-    is_false (pointwise nat_eq v u) (λ h.
-    true≢false (sym (nat_list_eq_equiv.refl u) ∙ ap (pointwise nat_eq u) (sym (same_text v u (sym h))) ∙ e))
 
 -- ---- what is not made yet has the name of none
 
@@ -157,12 +144,12 @@ module _ (x : TableName) where
           → is_made (record { user = user; element = e } ∷ before) x ≡ false
           → NoTable (record { user = user; element = e } ∷ before)
       of_one others user (element.Table t) none =
-          let parts = both_false (same_table (table_of user t.name) x) (list_any (λ d. same_table d.table x) (tables_of before)) none in
-          all_append (λ t. is_its_name x t ≡ false) (tables_created before) (named_by user t.name ∷ []) (others parts.1)
+          let parts = or_parts (same_table (table_of user t.name) x) (list_any (λ d. same_table d.table x) (tables_of before)) none in
+          all_appended (λ t. is_its_name x t ≡ false) (tables_created before) (named_by user t.name ∷ []) (others parts.1)
           (apart_turned (table_of user t.name).user (table_of user t.name).name x.user x.name parts.0, tt)
       of_one others user (element.View v) none =
           subst (λ l. AllByRecursion (λ t. is_its_name x t ≡ false) l) (sym (append-nil (tables_created before)))
-          (others (both_false (same_table (table_of user v.name) x) (list_any (λ d. same_table d.table x) (tables_of before)) none).1)
+          (others (or_parts (same_table (table_of user v.name) x) (list_any (λ d. same_table d.table x) (tables_of before)) none).1)
       of_one others user (element.Grant g) none =
           subst (λ l. AllByRecursion (λ t. is_its_name x t ≡ false) l) (sym (append-nil (tables_created before))) (others none)
 
@@ -175,10 +162,10 @@ module _ (x : TableName) where
           → NoView (record { user = user; element = e } ∷ before)
       of_one others user (element.Table t) none =
           subst (λ l. AllByRecursion (λ w. is_its_name x (view_name w) ≡ false) l) (sym (append-nil (views_created before)))
-          (others (both_false (same_table (table_of user t.name) x) (list_any (λ d. same_table d.table x) (tables_of before)) none).1)
+          (others (or_parts (same_table (table_of user t.name) x) (list_any (λ d. same_table d.table x) (tables_of before)) none).1)
       of_one others user (element.View v) none =
-          let parts = both_false (same_table (table_of user v.name) x) (list_any (λ d. same_table d.table x) (tables_of before)) none in
-          all_append (λ w. is_its_name x (view_name w) ≡ false) (views_created before) (record { user = user; view = v } ∷ [])
+          let parts = or_parts (same_table (table_of user v.name) x) (list_any (λ d. same_table d.table x) (tables_of before)) none in
+          all_appended (λ w. is_its_name x (view_name w) ≡ false) (views_created before) (record { user = user; view = v } ∷ [])
           (others parts.1)
           (apart_turned (table_of user v.name).user (table_of user v.name).name x.user x.name parts.0, tt)
       of_one others user (element.Grant g) none =
@@ -195,7 +182,7 @@ one_more : (tables : List FullName) (x : FullName) (views : List WrittenView) �
     → AllByRecursion (IsNoTable (tables ++ x ∷ [])) views
 one_more tables x [] old new = tt
 one_more tables x (w ∷ views) old new = (
-  all_append (λ t. is_table (view_name w).user (view_name w).name t ≡ false) tables (x ∷ []) old.0
+  all_appended (λ t. is_table (view_name w).user (view_name w).name t ≡ false) tables (x ∷ []) old.0
       (apart_turned x.user x.name (view_name w).user (view_name w).name new.0, tt),
   one_more tables x views old.1 new.1,
 )
@@ -217,7 +204,7 @@ views_apart (e ∷ before) accepted = of_one (views_apart before accepted.1) e.u
     of_one others user (element.View v) h =
         subst (λ l. AllByRecursion (IsNoTable l) (views_created before ++ record { user = user; view = v } ∷ []))
         (sym (append-nil (tables_created before)))
-        (all_append (IsNoTable (tables_created before)) (views_created before) (record { user = user; view = v } ∷ [])
+        (all_appended (IsNoTable (tables_created before)) (views_created before) (record { user = user; view = v } ∷ [])
         others
         (no_table (table_of user v.name) before (view_is_new before user v h), tt))
     of_one others user (element.Grant g) h =

@@ -11,7 +11,7 @@ use Rattle.sq_meaning.specs.Status.{Outcome, and_then}
 use Rattle.sq_meaning.specs.declared.status.Status.TheVariants as status
 use Rattle.sq_model.specs.Cursor as machine
 use Rattle.sq_model.specs.Machine as by_name
-use Rattle.sq_model.specs.Machine.{Running, cursor_now, cursor_rows, moved, numbers_or_rows, open_by, open_cursor, setting, surroundings}
+use Rattle.sq_model.specs.Machine.{Running, cursor_now, moved, open_by, open_cursor}
 use Rattle.sq_module.specs.declared.program.DeclaredCursor.{DeclaredCursor}
 use Rattle.sq_session.specs.Kind.{Opening}
 use Rattle.sq_session.specs.Open.{IsMeantIfAny, IsOpenOver, numbers_opened, rows_opened}

@@ -7,6 +7,7 @@ use Rattle.std.specs.Cmp.Lexicographic.{pointwise}
 use Rattle.std.specs.Prelude.{◌&&◌, ◌||◌, find, is_some, nat_eq, position, slice_get, slice_index_or}
 use Rattle.std.specs.List.{list_all, list_any}
 use Rattle.std.specs.Option.{option_and_then}
+use Rattle.std.proofs.lemmas.Bool.{and_parts}
 use Rattle.sq_value.specs.Comparison.{is_same}
 use Rattle.sq_value.specs.Key.{in_columns}
 use Rattle.sq_value.specs.SetFunctions.{is_null}
@@ -16,6 +17,7 @@ use Rattle.sq_store.specs.declared.table.Numbered.{Numbered}
 use Rattle.sq_meaning.specs.Environment.{Row}
 use Rattle.sq_meaning.specs.Rows.{same_row}
 use Rattle.sq_model.specs.Constraints.{has_null}
+use Rattle.sq_declaring.proofs.Names.{alike as bool_same}
 use Rattle.sq_catalog.specs.References.{are_listed, paired_with}
 
 -- ---- lists
@@ -59,16 +61,6 @@ all_true_at {A} test (y ∷ xs) n x e there = by_test (test y) refl n (all_true_
     by_test true h zero others e there = let is : y ≡ x = cc in subst (λ z. test z ≡ true) is h
     by_test true h (suc k) others e there = others k x e there
 
-bool_same : (a b : Bool) → (a ≡ true → b ≡ true) → (b ≡ true → a ≡ true) → a ≡ b
-bool_same true true f g = refl
-bool_same true false f g = sym (f refl)
-bool_same false true f g = g refl
-bool_same false false f g = refl
-
-both_true : (a b : Bool) → (a && b) ≡ true → (a ≡ true) × (b ≡ true)
-both_true true b e = (refl, e)
-both_true false b e = cc
-
 -- ---- pairs
 
 -- a test of each pair
@@ -86,8 +78,8 @@ each_pair test (x ∷ ps) [] e n p q h k = cc
 each_pair test (x ∷ ps) (y ∷ qs) e zero p q h k =
     let one : x ≡ p = cc in
     let other : y ≡ q = cc in
-    (λ i. test (sym one i) (sym other i)) ∙ (both_true (test x y) (pairs_pass test ps qs) e).0
-each_pair test (x ∷ ps) (y ∷ qs) e (suc n) p q h k = each_pair test ps qs (both_true (test x y) (pairs_pass test ps qs) e).1 n p q h k
+    (λ i. test (sym one i) (sym other i)) ∙ (and_parts (test x y) (pairs_pass test ps qs) e).0
+each_pair test (x ∷ ps) (y ∷ qs) e (suc n) p q h k = each_pair test ps qs (and_parts (test x y) (pairs_pass test ps qs) e).1 n p q h k
 
 pairs_all : (test : ℕ → ℕ → Bool) (ps qs : List ℕ) → EachPair test ps qs → pairs_pass test ps qs ≡ true
 pairs_all test [] qs h = refl

@@ -3,9 +3,9 @@
 use Rattle.std.proofs.Common.{◌≡◌, ◌&&◌, cond, Bool, true, false, List, [], ◌∷◌, filter, map, refl, sym, ap, subst, ◌∙◌, Ok, Err}
 use Rattle.std.specs.Prelude.{if◌then◌else◌}
 use Rattle.std.specs.List.{AllByRecursion, list_any}
+use Rattle.std.proofs.lemmas.Bool.{or_parts}
 use Rattle.sq_lex.specs.declared.name.Name.{Name}
 use Rattle.sq_value.specs.declared.truth.Truth.{Truth}
-use Rattle.sq_value.specs.declared.truth.Truth.TheVariants as truths
 use Rattle.sq_value.specs.declared.value.Value.{Value}
 use Rattle.sq_store.specs.declared.table.Numbered.{Numbered}
 use Rattle.sq_meaning.specs.Environment.{Row}
@@ -26,8 +26,9 @@ use Rattle.sq_query.specs.Row.{outside}
 use Rattle.sq_query.specs.Target.{are_true, chosen, conditions_of, is_true_of, numbers_chosen}
 use Rattle.sq_query.proofs.KeyedRows.{both_are, inputs_are}
 use Rattle.sq_query.proofs.QuietTargets.{are_plain}
+use Rattle.sq_query.proofs.TargetSearch.{truth_there}
 use Rattle.sq_session.specs.Walk.{AreRowsUnder, IsQuietWith, is_meant, is_yes, no_tables}
-use Rattle.sq_agreement.proofs.NoTables.{neither, plain_same}
+use Rattle.sq_agreement.proofs.NoTables.{plain_same}
 use Rattle.sq_agreement.proofs.WalkLeft.{all_kept}
 
 -- ---- rows on which all conditions have a truth
@@ -58,12 +59,6 @@ kept_is test (r ∷ rows) h = by_test (test r) h.0 (kept_is test rows h.1)
     by_test (Ok false) v e = ap (λ (o : Outcome (List Numbered)). and_then o (λ found. Ok found)) e
     by_test (Err status) v e = absurd v
 
-truth_answers : (o : Outcome Truth) → HasValue o → HasValue (is_true o)
-truth_answers (Ok truths.True) v = tt
-truth_answers (Ok truths.Unknown) v = tt
-truth_answers (Ok truths.False) v = tt
-truth_answers (Err status) v = absurd v
-
 module _ (test : BoundCond → Numbered → Outcome Truth) where
   abbrev HaveTruths : List BoundCond → Numbered → Type 0
   HaveTruths cs r = AllByRecursion (λ c. HasValue (test c r)) cs
@@ -87,7 +82,7 @@ module _ (test : BoundCond → Numbered → Outcome Truth) where
   chosen_is (c ∷ cs) rows h =
       ap (λ (o : Outcome (List Numbered)). and_then o (chosen (λ d r. is_true (test d r)) cs))
       (kept_is (λ r. is_true (test c r)) rows
-      (all_weaker (HaveTruths (c ∷ cs)) (λ r. HasValue (is_true (test c r))) (λ r k. truth_answers (test c r) k.0) rows h))
+      (all_weaker (HaveTruths (c ∷ cs)) (λ r. HasValue (is_true (test c r))) (λ r k. truth_there (test c r) k.0) rows h))
       ∙ chosen_is cs (filter (λ r. is_yes (is_true (test c r))) rows)
       (all_kept (HaveTruths cs) (λ r. is_yes (is_true (test c r))) rows (all_weaker (HaveTruths (c ∷ cs)) (HaveTruths cs) (λ r k. k.1) rows h))
       ∙ ap (λ l. Ok l) (filtered_both (λ r. is_yes (is_true (test c r))) (meets cs) rows ∙ (λ i. filter (λ r. first_meets c cs r i) rows))
@@ -103,7 +98,7 @@ module _ (values : List Value) (user : Name) where
       → chosen (is_true_of shown values user) cs rows ≡ chosen (λ c r. is_true (test_alone c r)) cs rows
   chosen_alone shown [] plain rows = refl
   chosen_alone shown (c ∷ cs) plain rows =
-      let n = neither (has_subquery (cond_of [] c)) (list_any (λ d. has_subquery (cond_of [] d)) cs) plain in
+      let n = or_parts (has_subquery (cond_of [] c)) (list_any (λ d. has_subquery (cond_of [] d)) cs) plain in
       (λ i. and_then (kept (λ r. is_true (plain_same shown no_tables (cond_of [] c) (outside (r.row ∷ []) values user) n.0 i)) rows) (λ left. chosen_alone shown cs n.1 left i))
 
   truths_alone : (r : Numbered) (cs : List BoundCond) → list_any (λ c. has_subquery (cond_of [] c)) cs ≡ false
@@ -111,7 +106,7 @@ module _ (values : List Value) (user : Name) where
       → HaveTruths test_alone cs r
   truths_alone r [] plain h = tt
   truths_alone r (c ∷ cs) plain h =
-      let n = neither (has_subquery (cond_of [] c)) (list_any (λ d. has_subquery (cond_of [] d)) cs) plain in (
+      let n = or_parts (has_subquery (cond_of [] c)) (list_any (λ d. has_subquery (cond_of [] d)) cs) plain in (
         subst (λ (o : Outcome Truth). HasValue o) (plain_same quiet.no_tables no_tables (cond_of [] c) (outside (r.row ∷ []) values user) n.0) h.0,
         truths_alone r cs n.1 h.1,
       )

@@ -7,6 +7,7 @@ use Rattle.std.specs.Cmp.Lexicographic.{pointwise, same_text}
 use Rattle.std.specs.Prelude.{◌⊎◌, ◌&&◌, ◌||◌, find, flat_map, if◌then◌else◌, is_some, nat_eq, option_to_list, slice_get, unwrap_or}
 use Rattle.std.specs.List.{AllByRecursion, AllZip, cons_option, enumerate_from, filter_map, list_all, list_any}
 use Rattle.std.specs.Option.{option_map}
+use Rattle.std.proofs.lemmas.Bool.{and_parts, or_parts}
 use Rattle.sq_lex.specs.declared.name.Name.{Name}
 use Rattle.sq_tree.specs.declared.schema.SchemaElement.{SchemaElement}
 use Rattle.sq_tree.specs.declared.schema.SchemaElement.TheVariants as element
@@ -22,6 +23,7 @@ use Rattle.sq_meaning.specs.Status.{and_then}
 use Rattle.sq_meaning.specs.Tables.{rows_in}
 use Rattle.sq_meaning.specs.declared.status.Status.{Status}
 use Rattle.sq_meaning.specs.declared.status.Status.TheVariants.{IntegrityConstraintViolation}
+use Rattle.sq_meaning.proofs.AnswerLaws.{all_appended}
 use Rattle.sq_rules.specs.Catalog.{tables_of}
 use Rattle.sq_rules.specs.Schema.{BaseTable, Elements, base_tables, column_definitions, has_name_twice, referenced_columns, table_columns, table_if_named, table_named, table_references}
 use Rattle.sq_rules.specs.SchemaRefusal.{elements_of, first_schema_refusal, is_made}
@@ -32,6 +34,7 @@ use Rattle.sq_bound.specs.declared.condition.BoundSpecification.{BoundSpecificat
 use Rattle.sq_bound.specs.declared.names.BaseTable.{BaseTable as BoundTable}
 use Rattle.sq_bound.specs.declared.names.Column.{Column}
 use Rattle.sq_bound.specs.declared.names.Reference.{Reference as BoundReference}
+use Rattle.sq_binding.proofs.Levels.{all_at}
 use Rattle.sq_laws.proofs.CallLaws.{NamesDiffer}
 use Rattle.sq_laws.proofs.NameLaws.{accepted_names_differ}
 use Rattle.sq_catalog.specs.Catalog.{HaveReferences, declared_definitions, declared_tables, is_table, number_meant}
@@ -40,17 +43,17 @@ use Rattle.sq_catalog.specs.Declares.{Declares}
 use Rattle.sq_catalog.specs.Keys.{names_written}
 use Rattle.sq_catalog.specs.References.{AreListed, HasReferencesOf, IsReferenceOf, ReferentialConstraint, references_written}
 use Rattle.sq_catalog.specs.declared.catalog.FullName.{FullName}
+use Rattle.sq_catalog.proofs.WrittenRules.{columns_are_written, names_are_written, reference_of, references_are_written}
 use Rattle.sq_change.specs.Constraints.{is_met_in, reference_met_in, references_met}
 use Rattle.sq_places.proofs.Items.{names_of_columns}
-use Rattle.sq_places.proofs.Outcomes.{all_append, same_length}
+use Rattle.sq_places.proofs.Outcomes.{same_length}
 use Rattle.sq_places.proofs.Parameters.{get_map}
-use Rattle.sq_agreement.proofs.Accepted.{AreAccepted, IsAccepted, accepted_elements, both_false, table_is_new}
+use Rattle.sq_agreement.proofs.Accepted.{AreAccepted, IsAccepted, accepted_elements, table_is_new}
 use Rattle.sq_agreement.proofs.Created.{base_in, bases_created, created}
-use Rattle.sq_agreement.proofs.DeclaredChecks.{names_are_written, places_stand}
-use Rattle.sq_agreement.proofs.DeclaredColumns.{columns_are_written, names_seen}
+use Rattle.sq_agreement.proofs.DeclaredChecks.{places_stand}
+use Rattle.sq_agreement.proofs.DeclaredColumns.{names_seen}
 use Rattle.sq_agreement.proofs.DeclaredContent.{rows_at_place}
-use Rattle.sq_agreement.proofs.DeclaredPlaces.{all_at}
-use Rattle.sq_agreement.proofs.DeclaredReferences.{IsReferenced, reference_of, referenced_is, references_are_written}
+use Rattle.sq_agreement.proofs.DeclaredReferences.{IsReferenced, referenced_is}
 use Rattle.sq_agreement.proofs.DeclaredStatements.{zip_back}
 use Rattle.sq_agreement.proofs.DeclaredTables.{IsBaseAs, IsSoundTable, all_bases, base_tables_named, named_table, named_tables, sound_tables}
 use Rattle.sq_agreement.proofs.Numbers.{apart_turned, same_itself, zip_both}
@@ -105,12 +108,12 @@ not_among name (e ∷ before) none = of_one (not_among name before) e.user e.ele
         → (user : Name) (x : SchemaElement) → is_made (record { user = user; element = x } ∷ before) name ≡ false
         → AllByRecursion (λ b. same_table b.name name ≡ false) (created base_in before ++ base_in user x)
     of_one others user (element.Table t) none =
-        let parts = both_false (same_table (table_of user t.name) name) (list_any (λ d. same_table d.table name) (tables_of before)) none in
-        all_append (λ (b : BaseTable). same_table b.name name ≡ false) (created base_in before) (record { name = table_of user t.name; definition = t } ∷ [])
+        let parts = or_parts (same_table (table_of user t.name) name) (list_any (λ d. same_table d.table name) (tables_of before)) none in
+        all_appended (λ (b : BaseTable). same_table b.name name ≡ false) (created base_in before) (record { name = table_of user t.name; definition = t } ∷ [])
         (others parts.1) (parts.0, tt)
     of_one others user (element.View v) none =
         subst (λ l. AllByRecursion (λ (b : BaseTable). same_table b.name name ≡ false) l) (sym (append-nil (created base_in before)))
-        (others (both_false (same_table (table_of user v.name) name) (list_any (λ d. same_table d.table name) (tables_of before)) none).1)
+        (others (or_parts (same_table (table_of user v.name) name) (list_any (λ d. same_table d.table name) (tables_of before)) none).1)
     of_one others user (element.Grant g) none =
         subst (λ l. AllByRecursion (λ (b : BaseTable). same_table b.name name ≡ false) l) (sym (append-nil (created base_in before)))
         (others none)
@@ -172,10 +175,6 @@ references_zipped tables columns bases _ _ _ h = absurd h
 
 -- ---- one reference
 
-both_true : (a b : Bool) → (a && b) ≡ true → (a ≡ true) × (b ≡ true)
-both_true true b e = (refl, e)
-both_true false b e = cc
-
 module _ (texts : List SchemaText) (known : KnownTables) (bases : List BoundTable) (views : List BoundSpecification)
     (d : Declares texts known bases views) (accepted : first_schema_refusal texts ≡ None) (content : Content) where
   abbrev elements : Elements
@@ -220,7 +219,7 @@ module _ (texts : List SchemaText) (known : KnownTables) (bases : List BoundTabl
     name_is =
         let none : FullName = record { user = []; name = [] } in
         let at = position-Some (is_table name.user name.name) tables r.table none h.table in
-        let same = both_true (pointwise nat_eq name.user target.0.name.user) (pointwise nat_eq name.name target.0.name.name)
+        let same = and_parts (pointwise nat_eq name.user target.0.name.user) (pointwise nat_eq name.name target.0.name.name)
         (ap (is_table name.user name.name) (sym (get_or_from_slice_get tables r.table (record { user = target.0.name.user; name = target.0.name.name }) none parts.0)) ∙ at.1) in
         λ i. record { user = same_text name.user target.0.name.user (sym same.0) i; name = same_text name.name target.0.name.name (sym same.1) i }
 

@@ -1,17 +1,14 @@
 -- The machine finds cursors by their names, and a session by their numbers: both find, set and close the same (ISO/IEC 9075:1992, 4.21, 13.4,
 -- 14.3 and 14.4).
-use Rattle.std.proofs.Common.{◌≡◌, ℕ, zero, suc, Bool, true, false, cond, List, [], ◌∷◌, map, Some, refl, sym, subst}
+use Rattle.std.proofs.Common.{◌≡◌, ℕ, zero, suc, true, false, cond, List, [], ◌∷◌, map, Some, refl, sym, subst}
 use Rattle.std.specs.Prelude.{⊤, find, if◌then◌else◌, option_map, slice_get, slice_index_or, slice_set, unwrap_or}
+use Rattle.std.proofs.lemmas.Bool.{false_from_ne_true}
 use Rattle.sq_lex.specs.declared.name.Name.{Name}
 use Rattle.sq_model.specs.Cursor as machine
 use Rattle.sq_model.specs.Machine.{CursorEntry, all_closed, is_entry, set_cursor}
 use Rattle.sq_session.specs.State as session
 use Rattle.sq_session.specs.declared.cursor.CursorState.{CursorState}
 use Rattle.sq_session.specs.declared.cursor.CursorState.TheVariants as cursor
-
-is_false : (b : Bool) → (b ≡ true → ⊥) → b ≡ false
-is_false true h = absurd (h refl)
-is_false false h = refl
 
 not_first : (n : ℕ) → 0 ≡ suc n → ⊥
 not_first n e = cc
@@ -49,7 +46,7 @@ module _ {D : Type 0} (R : D → CursorState → machine.CursorState → Type 0)
     only_behind x es n h = record { entry = h.entry; at = h.at; is = h.is; only = λ i e at is. one_before i n (h.only (suc i) e at is) }
 
     other_first : (x : CursorEntry) (es : List CursorEntry) (n : ℕ) → IsOnly (x ∷ es) (suc n) → is_entry in_module name x ≡ false
-    other_first x es n h = is_false (is_entry in_module name x) (λ is. not_first n (h.only 0 x refl is))
+    other_first x es n h = false_from_ne_true (is_entry in_module name x) (λ is. not_first n (h.only 0 x refl is))
 
     is_first : (x : CursorEntry) (es : List CursorEntry) → IsOnly (x ∷ es) 0 → is_entry in_module name x ≡ true
     is_first x es h = let same : h.entry ≡ x = cc (sym h.at) in subst (λ (e : CursorEntry). is_entry in_module name e ≡ true) same h.is
@@ -77,7 +74,7 @@ module _ {D : Type 0} (R : D → CursorState → machine.CursorState → Type 0)
         → map (set_cursor in_module name x) es ≡ es
     none_set x [] none = refl
     none_set x (e ∷ es) none =
-        (λ i. (if is_false (is_entry in_module name e) (λ is. none 0 e refl is) i then record e { state = x } else e)
+        (λ i. (if false_from_ne_true (is_entry in_module name e) (λ is. none 0 e refl is) i then record e { state = x } else e)
         ∷ none_set x es (λ k y at is. none (suc k) y at is) i)
 
     -- the one that is set

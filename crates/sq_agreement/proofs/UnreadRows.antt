@@ -3,6 +3,7 @@
 use Rattle.std.proofs.Common.{◌≡◌, ℕ, zero, suc, cond, Bool, true, false, List, [], ◌∷◌, filter, map, Option, Some, None, refl, sym, ap, subst, ◌∙◌, eqb-true, eq-eqb, Ok, Err}
 use Rattle.std.specs.Prelude.{⊤, ◌&&◌, if◌then◌else◌, nat_eq, nat_le, nat_lt, slice_get, slice_set, IfOk}
 use Rattle.std.specs.List.{AllByRecursion, AllZip}
+use Rattle.std.proofs.lemmas.Bool.{or_parts}
 use Rattle.sq_lex.specs.declared.name.Name.{Name}
 use Rattle.sq_value.specs.declared.value.Value.{Value}
 use Rattle.sq_store.specs.Content.{Content, replaced, row_at, table_at, with_table}
@@ -33,7 +34,6 @@ use Rattle.sq_session.proofs.Unread.{unread}
 use Rattle.sq_places.proofs.Changes.{base_is_under}
 use Rattle.sq_places.proofs.Outcomes.{each_so, if_any, if_each, if_one, if_then, known_of}
 use Rattle.sq_places.proofs.RowsAgain.{all_there, all_within, row_among}
-use Rattle.sq_agreement.proofs.NoTables.{neither}
 
 -- ---- a row with new values
 
@@ -59,7 +59,7 @@ module _ (assignments : List BoundAssignment) where
   others_stay [] (g ∷ given) h row position none = absurd h
   others_stay (a ∷ sets) [] h row position none = absurd h
   others_stay (a ∷ sets) (g ∷ given) h row position none =
-      let n = neither (nat_eq a.column.position position) (is_assigned sets position) none in
+      let n = or_parts (nat_eq a.column.position position) (is_assigned sets position) none in
       other_place row g.0 position g.1 (λ e. unequal a.column.position position n.0 (sym h.0 ∙ e))
       ∙ others_stay sets given h.1 (slice_set row g.0 g.1) position n.1
 

@@ -37,7 +37,7 @@ use Rattle.sq_agreement.proofs.WalkLeft.{SameWalk}
 
 -- ---- rows keep their numbers
 
-number_kept : (changed : List Numbered) (r : Numbered) → (replaced changed r).number ≡ r.number
+pub number_kept : (changed : List Numbered) (r : Numbered) → (replaced changed r).number ≡ r.number
 number_kept [] r = refl
 number_kept (c ∷ changed) r = by_test (c.number == r.number) refl (number_kept changed r)
   where

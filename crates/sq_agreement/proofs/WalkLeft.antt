@@ -4,6 +4,7 @@ use Rattle.std.proofs.Common.{◌≡◌, ℕ, ◌+◌, ◌≤◌, ◌<◌, cond,
 use Rattle.std.specs.Prelude.{find, is_some, nat_le, nat_lt, slice_get}
 use Rattle.std.specs.List.{AllByRecursion}
 use Rattle.std.specs.Option.{option_and_then, option_map}
+use Rattle.std.proofs.lemmas.Bool.{false_from_ne_true}
 use Rattle.sq_lex.specs.declared.name.Name.{Name}
 use Rattle.sq_store.specs.Content.{row_at}
 use Rattle.sq_store.specs.Rising.{has_rising_rows, rising_between}
@@ -77,10 +78,6 @@ none_found test (x ∷ rows) e = by_test (test x) (none_found test rows) e
     by_test true others e = cc
     by_test false others e = others e
 
-pub is_false : (b : Bool) → (b ≡ true → ⊥) → b ≡ false
-is_false true h = absurd (h refl)
-is_false false h = refl
-
 -- nothing is between a number and itself
 none_between : (mark : ℕ) (rows : List Numbered) → rows_between mark mark rows ≡ []
 none_between mark [] = refl
@@ -92,7 +89,7 @@ none_between mark (r ∷ rows) = by_place (nat_le mark r.number) refl (none_betw
     by_place true h e =
         let from : mark ≤ r.number = leb-true mark r.number h in
         ap (λ b. cond b (r ∷ rows_between mark mark rows) (rows_between mark mark rows))
-        (is_false (nat_lt r.number mark) (λ is. let less : r.number < mark = ltb-true r.number mark is in absurd (omega (arith, from, less)))) ∙ e
+        (false_from_ne_true (nat_lt r.number mark) (λ is. let less : r.number < mark = ltb-true r.number mark is in absurd (omega (arith, from, less)))) ∙ e
 
 module _ (test : Numbered → Bool) (mark : ℕ) where
   abbrev before_mark : List Numbered → List Numbered
@@ -121,7 +118,7 @@ module _ (test : Numbered → Bool) (mark : ℕ) where
   passed_over : (n : ℕ) (x : Numbered) (rows : List Numbered) → (n ≤ x.number → ⊥) → among n (x ∷ rows) ≡ among n rows
   passed_over n x rows h =
       ap (λ b. filter test (before_mark (cond b (x ∷ rows_from n rows) (rows_from n rows))))
-      (is_false (nat_le n x.number) (λ is. h (leb-true n x.number is)))
+      (false_from_ne_true (nat_le n x.number) (λ is. h (leb-true n x.number is)))
 
   -- by what is asked of the first row
   among_first : (x : Numbered) (later : List Numbered) (a : Bool)

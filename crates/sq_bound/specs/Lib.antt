@@ -13,6 +13,7 @@ pub mod Noted
 pub mod Numbered
 pub mod NumberedQuery
 pub mod Parameter
+pub mod Parts
 pub mod Query
 pub mod Quiet
 pub mod SetFunction

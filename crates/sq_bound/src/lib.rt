@@ -1,10 +1,9 @@
-//! What texts are bound to: trees whose names are places, the tables that names mean, and why a text can't be bound
-//! (ISO/IEC 9075:1992, clauses 6 to 8, 11 and 13).
+//! What texts are bound to: trees whose names are places, and the tables that names mean (ISO/IEC 9075:1992, clauses 6 to 8, 11
+//! and 13).
 #![tactic(auto)]
 
 mod condition;
 mod expression;
-mod fault;
 mod keyed;
 mod names;
 mod parts;
@@ -18,10 +17,9 @@ pub use condition::{
     ResultColumn, TablePlace,
 };
 pub use expression::{Aggregate, BoundExpr, Input, Operation, Operator, Place, SetFunctionCall};
-pub use fault::BindFault;
 pub use keyed::{equal_sides, own_column, shortest_key};
 pub use names::{
-    Action, BaseColumn, BaseTable, Column, ColumnDefault, KnownCursor, Leaf, Names, ObjectColumn,
+    BaseColumn, BaseTable, Column, ColumnDefault, KnownCursor, Leaf, Names, ObjectColumn,
     ParameterDesc, Reference, TableBody, TableDesc, View,
 };
 pub use parts::{pair_of, value_if};

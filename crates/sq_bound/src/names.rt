@@ -1,4 +1,4 @@
-//! What names mean: tables and views, privileges, cursors and parameters.
+//! What names mean: tables and views, cursors and parameters.
 
 ghost use Rattle.std.specs.Prelude.{◌≡◌, ◌≤◌, ◌<◌, nat_lt, length, map, slice_get, true, IfSome, List, Some};
 ghost use Rattle.std.specs.List.{list_all};
@@ -16,17 +16,7 @@ use sq_items::Items;
 use sq_lex::Name;
 use sq_value::{Domain, Kind, Value};
 
-/// An action that a privilege allows (ISO/IEC 9075:1992, 10.3).
-#[derive(Clone, Copy, Debug, PartialEq, Eq, Hash)]
-pub enum Action {
-    Select,
-    Insert,
-    Delete,
-    Update,
-    References,
-}
-
-/// The tables, views and privileges that a user's texts may name.
+/// The tables and views that texts may name.
 pub trait Names {
     ghost use Rattle.std.specs.Prelude.{ℕ, IsSome, Ok};
     ghost use Rattle.sq_value.specs.declared.domain.Kind.{Kind as AnyKind};
@@ -69,18 +59,6 @@ pub trait Names {
         ensures well_formed { IfSome result (λ t. IsTable (column_kinds self.now) t.now) }
         ensures place { IfSome result (λ t. place_of t.now.body ≡ place) }
         ensures there { BasesAreThere (base_tables self.now) (column_kinds self.now) → HasValue (column_kinds self.now place) → IsSome result };
-
-    /// Whether the user holds the action on the table of this owner and name, or on the column at a position of it.
-    fn may(&self, user: Name, action: Action, table: (Name, Name), column: Option<usize>) -> bool;
-
-    /// Whether the user holds it with the grant option.
-    fn may_grant(
-        &self,
-        user: Name,
-        action: Action,
-        table: (Name, Name),
-        column: Option<usize>,
-    ) -> bool;
 
     ghost references: { (names : Self) → all_refer (base_tables names) ≡ true };
 

@@ -1,13 +1,15 @@
 //! Parts of which one may have a fault.
 
-ghost use Rattle.std.specs.Prelude.{◌≡◌, IfOk, Ok, is_ok, true};
+ghost use Rattle.std.specs.Prelude.{◌≡◌, IfErr, IfOk, Ok, is_ok, true};
+ghost use Rattle.sq_bound.specs.Parts.{IsFaultOf};
 
 /// Both values, or the left error before the right one.
 pub fn pair_of<T: Drop, U: Drop, E: Drop>(
     left: Result<T, E>,
     right: Result<U, E>,
 ) -> Result<(T, U), E>
-    ensures { IfOk result (λ parts. (left ≡ Ok parts.0) × (right ≡ Ok parts.1)) }
+    ensures values { IfOk result (λ parts. (left ≡ Ok parts.0) × (right ≡ Ok parts.1)) }
+    ensures fault { IfErr result (IsFaultOf left right) }
 {
     match (left, right) {
         (Ok(left), Ok(right)) => Ok((left, right)),

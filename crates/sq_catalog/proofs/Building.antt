@@ -1,12 +1,10 @@
 -- Schema texts, part by part: what the parts so far declare, and what is left of them.
-use Rattle.std.proofs.Common.{◌≡◌, ℕ, ◌+◌, ◌<◌, ◌≤◌, List, [], ◌∷◌, ◌++◌, drop, flat_map, get_or, length, map, Option, Some, None, Result, Ok, Err, refl, sym, ap, subst, ◌∙◌}
+use Rattle.std.proofs.Common.{◌≡◌, ℕ, ◌+◌, ◌<◌, ◌≤◌, List, [], ◌∷◌, ◌++◌, drop, flat_map, get_or, length, map, Some, None, Result, Ok, Err, sym, ap, subst, ◌∙◌}
 use Rattle.std.proofs.lemmas.List.{drop_all, drop_more}
 use Rattle.std.specs.List.{enumerate_from}
-use Rattle.sq_lex.specs.declared.name.Name.{Name}
 use Rattle.sq_tree.specs.declared.schema.SchemaDefinition.{SchemaDefinition}
 use Rattle.sq_tree.specs.declared.schema.SchemaElement.{SchemaElement}
-use Rattle.sq_rules.specs.SchemaRefusal.{Part, SchemaRefusal, parts_of_schema, refusal_at}
-use Rattle.sq_rules.specs.declared.refusal.SchemaFault.{SchemaFault}
+use Rattle.sq_rules.specs.SchemaRefusal.{Part, SchemaRefusal, parts_of_schema}
 use Rattle.sq_declaring.specs.Catalog.{Catalog}
 use Rattle.sq_declaring.specs.Declaring.{then_parts, with_element, with_part, with_parts, with_user}
 use Rattle.sq_declaring.specs.Outcome.{Outcome}

@@ -16,7 +16,7 @@ use Rattle.sq_declaring.specs.Outcome.{Outcome, and_then, each}
 use Rattle.sq_declaring.specs.Table.{or_bad_check}
 use Rattle.sq_promises.specs.Names.{descriptor_of}
 use Rattle.sq_promises.proofs.Checks.{check_is_written, check_stands}
-use Rattle.sq_catalog.specs.Checks.{AreChecksOf, IsCheckOf, check_over}
+use Rattle.sq_catalog.specs.Checks.{AreChecksOf, check_over}
 use Rattle.sq_catalog.specs.Exact.{name_in}
 use Rattle.sq_catalog.specs.Stored.{AreChecksAt}
 use Rattle.sq_catalog.specs.Table.{AreChecksMade}

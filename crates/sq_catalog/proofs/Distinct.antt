@@ -1,12 +1,12 @@
 -- Names that are added one after the other, each of which is not there yet.
-use Rattle.std.proofs.Common.{◌≡◌, ℕ, ◌+◌, ◌<◌, ◌≤◌, Bool, true, false, ◌||◌, List, [], ◌∷◌, ◌++◌, length, get_or, drop, refl, sym, ap, ◌∙◌, true≢false}
+use Rattle.std.proofs.Common.{◌≡◌, ℕ, ◌+◌, ◌<◌, ◌≤◌, Bool, true, false, ◌||◌, List, [], ◌∷◌, ◌++◌, length, get_or, drop, refl, sym, ap, ◌∙◌}
 use Rattle.std.proofs.lemmas.List.{drop_all, drop_more}
 use Rattle.std.proofs.lemmas.List.Folds.{list_any-append}
 use Rattle.std.specs.List.{list_any}
+use Rattle.std.proofs.lemmas.Cmp.{nat_list_eq_equiv}
 use Rattle.sq_lex.specs.declared.name.Name.{Name}
 use Rattle.sq_meaning.specs.Environment.{same_name}
 use Rattle.sq_rules.specs.Schema.{has_name_twice, is_among}
-use Rattle.sq_declaring.proofs.GrantedPrivileges.{turned}
 
 -- one of the names is among those that are seen, or stands twice
 abbrev pub twice_behind : List Name → List Name → Bool
@@ -28,7 +28,7 @@ seen_more : (seen : List Name) (x : Name) (xs : List Name) → list_any (λ y. i
 seen_more seen x [] = refl
 seen_more seen x (y ∷ ys) =
     (λ i. list_any-append (same_name y) seen (x ∷ []) i || seen_more seen x ys i)
-    ∙ ap (λ s. (is_among seen y || (s || false)) || (list_any (λ y. is_among seen y) ys || list_any (same_name x) ys)) (turned y x)
+    ∙ ap (λ s. (is_among seen y || (s || false)) || (list_any (λ y. is_among seen y) ys || list_any (same_name x) ys)) (nat_list_eq_equiv.symm y x)
     ∙ one_seen (is_among seen y) (same_name x y) (list_any (λ y. is_among seen y) ys) (list_any (same_name x) ys)
 
 seen_or_twice : (seen xs : List Name) → (list_any (λ y. is_among seen y) xs || has_name_twice xs) ≡ twice_behind seen xs

@@ -1,14 +1,14 @@
 -- What stands under a name is what the definitions look up.
-use Rattle.std.proofs.Common.{◌≡◌, ℕ, zero, suc, ◌+◌, Bool, true, false, ◌&&◌, List, [], ◌∷◌, ◌++◌, find, flat_map, length, length-append, Option, Some, None, Result, Ok, Err, refl, sym, ap, subst, ◌∙◌, arith}
+use Rattle.std.proofs.Common.{◌≡◌, ℕ, suc, ◌+◌, Bool, true, false, ◌&&◌, List, [], ◌∷◌, ◌++◌, find, flat_map, length, length-append, Option, Some, None, Result, Ok, Err, refl, sym, ap, subst, ◌∙◌, arith}
 use Rattle.std.proofs.lemmas.Grind.{flat_map-append}
 use Rattle.std.proofs.lemmas.List.{append-nil}
 use Rattle.std.specs.Map.{lookup}
 use Rattle.std.specs.Option.{option_map, option_or}
 use Rattle.std.specs.Prelude.{cond, nat_le, not}
 use Rattle.std.specs.Result.{OnOk}
-use Rattle.std.specs.Cmp.Lexicographic.{pointwise}
+use Rattle.std.proofs.lemmas.Cmp.{nat_list_eq_equiv}
 use Rattle.sq_lex.specs.declared.name.Name.{Name}
-use Rattle.sq_meaning.specs.Environment.{TableName, same_name, same_table}
+use Rattle.sq_meaning.specs.Environment.{TableName, same_table}
 use Rattle.sq_rules.specs.SchemaRefusal.{same_user}
 use Rattle.sq_rules.specs.declared.refusal.SchemaFault.TheVariants as fault
 use Rattle.sq_bound.specs.Fits.{IsBase}
@@ -18,13 +18,12 @@ use Rattle.sq_bound.specs.declared.names.BaseTable.{BaseTable}
 use Rattle.sq_bound.specs.declared.names.TableBody.{TableBody}
 use Rattle.sq_bound.specs.declared.names.TableBody.TheVariants as body
 use Rattle.sq_bound.specs.declared.names.TableDesc.{TableDesc}
-use Rattle.sq_binding.proofs.SameParameters.{name_itself, names_equal}
 use Rattle.sq_declaring.specs.Catalog as definition
 use Rattle.sq_declaring.specs.Catalog.{DeclaredBase, DeclaredView, Entry, Grant, entry}
 use Rattle.sq_declaring.specs.Catalog.{table_count}
 use Rattle.sq_declaring.specs.Outcome.{Outcome, and_then, refused_if}
 use Rattle.sq_declaring.specs.Table.{has_place, most_tables, with_base}
-use Rattle.sq_declaring.proofs.Names.{alike, table_same}
+use Rattle.sq_declaring.proofs.Names.{table_same}
 use Rattle.sq_catalog.specs.Catalog.{Catalog, is_table}
 use Rattle.sq_catalog.specs.Exact.{base_declared, base_in, bases_declared, declared, described, entry_declared, entry_with, name_in, view_declared, view_in, views_declared}
 use Rattle.sq_catalog.specs.Fault.{Passes}
@@ -35,14 +34,8 @@ use Rattle.sq_catalog.proofs.Listed.{get_behind}
 
 -- ---- names, asked from either side
 
-turned : (a b : Name) → same_name a b ≡ true → same_name b a ≡ true
-turned a b e = subst (λ (x : Name). same_name x a ≡ true) (names_equal a b e) (name_itself a)
-
-swapped : (a b : Name) → same_name a b ≡ same_name b a
-swapped a b = alike (same_name a b) (same_name b a) (turned a b) (turned b a)
-
 pub asked : (name e : FullName) → same_table (name_in e) (name_in name) ≡ is_table name.user name.name e
-asked name e = λ i. swapped e.user name.user i && swapped e.name name.name i
+asked name e = λ i. nat_list_eq_equiv.symm e.user name.user i && nat_list_eq_equiv.symm e.name name.name i
 
 full_same : (e name : FullName) → same_table (name_in e) (name_in name) ≡ true → e ≡ name
 full_same e name h = let same = table_same (name_in e) (name_in name) h in λ i. record { user = (same i).user; name = (same i).name }

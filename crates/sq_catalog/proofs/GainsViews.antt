@@ -4,7 +4,6 @@ use Rattle.std.proofs.lemmas.Grind.{flat_map-append}
 use Rattle.std.proofs.lemmas.List.{map-append}
 use Rattle.std.proofs.lemmas.Option.{IfSome_then}
 use Rattle.std.specs.Map.{keys_of}
-use Rattle.std.specs.List.{AllZip}
 use Rattle.std.specs.Result.{OnOk, is_ok}
 use Rattle.sq_lex.specs.declared.name.Name.{Name}
 use Rattle.sq_value.specs.declared.domain.Kind.{Kind}
@@ -18,6 +17,7 @@ use Rattle.sq_bound.specs.declared.names.Column.{Column}
 use Rattle.sq_bound.specs.declared.names.TableBody.{TableBody}
 use Rattle.sq_bound.specs.declared.names.TableBody.TheVariants as body
 use Rattle.sq_bound.specs.declared.names.TableDesc.{TableDesc}
+use Rattle.sq_declaring.proofs.Made.{zip_weaker}
 use Rattle.sq_promises.specs.Names.{outside}
 use Rattle.sq_promises.proofs.MoreKnown.{names_stay, select_stays, updatable_stays}
 use Rattle.sq_catalog.specs.Catalog.{Catalog, IsNewName, SeenView, column_kinds, known, meant}
@@ -26,7 +26,6 @@ use Rattle.sq_catalog.specs.Views.{AddsViews, GainsViews, HasNamesOf, HasQueryKi
 use Rattle.sq_catalog.specs.declared.catalog.FullName.{FullName}
 use Rattle.sq_catalog.proofs.Gains.{keys_append, parts_next, zip_append}
 use Rattle.sq_catalog.proofs.StillKnown.{base_still, view_still}
-use Rattle.sq_catalog.proofs.Zips.{zip_weaker}
 
 -- ---- a view stays what it is
 

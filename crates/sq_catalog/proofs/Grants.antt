@@ -1,5 +1,5 @@
 -- The set of grants is the definitions' list of them (ISO/IEC 9075:1992, 10.3): grants that are compared by `==`.
-use Rattle.std.proofs.Common.{◌≡◌, Bool, true, false, ◌&&◌, ◌||◌, List, [], ◌∷◌, ◌++◌, map, Option, Some, None, refl, sym, ap, ◌∙◌}
+use Rattle.std.proofs.Common.{◌≡◌, Bool, true, false, ◌&&◌, ◌||◌, List, [], ◌∷◌, ◌++◌, map, Option, Some, None, refl, ◌∙◌}
 use Rattle.std.proofs.lemmas.List.{map-append}
 use Rattle.std.specs.List.{list_any}
 use Rattle.std.specs.Option.{option_eq}
@@ -16,7 +16,6 @@ use Rattle.sq_catalog.specs.Exact.{name_in}
 use Rattle.sq_catalog.specs.Held.{grant_seen, privilege_of}
 use Rattle.sq_catalog.specs.contracts.held.GrantPartialEq.TheImpl as grants
 use Rattle.sq_catalog.specs.contracts.privilege.PrivilegePartialEq.TheImpl as privileges
-use Rattle.sq_catalog.specs.declared.catalog.FullName.{FullName}
 use Rattle.sq_catalog.specs.declared.held.Grant.{Grant}
 use Rattle.sq_catalog.specs.declared.privilege.Privilege.{Privilege}
 use Rattle.sq_catalog.specs.declared.privilege.Privilege.TheVariants as privilege

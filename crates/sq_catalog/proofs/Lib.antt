@@ -27,7 +27,7 @@ pub mod ReferencesBound
 pub mod TablesMade
 pub mod ChecksMade
 pub mod Distinct
-pub mod ViewSteps
+pub mod NamesAdded
 pub mod ViewHeld
 pub mod ViewAlone
 pub mod ViewFound
@@ -35,6 +35,5 @@ pub mod ViewMade
 pub mod Found
 pub mod Granting
 pub mod Grants
-pub mod Outcomes
 pub mod Pushed
 pub mod TableNames

@@ -1,5 +1,5 @@
 -- Keys of columns for which NOT NULL is written (ISO/IEC 9075:1992, 11.4).
-use Rattle.std.proofs.Common.{◌≡◌, ℕ, zero, suc, Bool, true, false, not, ◌&&◌, List, [], ◌∷◌, map, refl, ap, ◌∙◌}
+use Rattle.std.proofs.Common.{◌≡◌, ℕ, zero, suc, Bool, true, false, not, ◌&&◌, List, [], ◌∷◌, map, refl}
 use Rattle.std.specs.List.{list_all, list_any}
 use Rattle.sq_bound.specs.NotNull.{are_not_null, is_not_null}
 use Rattle.sq_declaring.specs.Column.{refuses_null}

@@ -1,6 +1,5 @@
 -- References of a table are found and made as the definitions compute them (ISO/IEC 9075:1992, 11.8).
-use Rattle.std.proofs.Common.{◌≡◌, ℕ, ◌+◌, ◌<◌, ◌≤◌, Bool, true, false, ◌&&◌, List, [], ◌∷◌, ◌++◌, drop, get_or, length, map, Option, Some, None, Ok, Err, refl, ap, sym, subst, ◌∙◌, nat_eq, position, arith}
-use Rattle.std.proofs.lemmas.Bool.{and_from, eq-eqb}
+use Rattle.std.proofs.Common.{◌≡◌, ℕ, ◌+◌, ◌<◌, ◌≤◌, Bool, true, false, ◌&&◌, List, [], ◌∷◌, ◌++◌, drop, get_or, length, map, Option, Some, None, Ok, Err, refl, ap, sym, ◌∙◌, position, arith}
 use Rattle.std.proofs.lemmas.List.{drop_all, drop_more, length-map, map-append}
 use Rattle.std.proofs.lemmas.List.Folds.{list_all-append}
 use Rattle.std.proofs.lemmas.Option.{get_or_from_slice_get, slice_get-get_or}
@@ -8,7 +7,7 @@ use Rattle.std.proofs.lemmas.Simd.{map-map}
 use Rattle.std.proofs.lemmas.Slice.Zip.{get_or-zip, length-zip}
 use Rattle.std.specs.Borrow.{Bor}
 use Rattle.std.specs.List.{cons_option, enumerate_from, filter_map, list_all, list_any, zip}
-use Rattle.std.specs.Option.{IfSome, option_and_then, option_map}
+use Rattle.std.specs.Option.{IfSome, option_and_then}
 use Rattle.std.specs.Result.{IfErr, IfOk}
 use Rattle.std.specs.Prelude.{Result, ◌==◌, find, if◌then◌else◌, slice_get}
 use Rattle.sq_lex.specs.declared.name.Name.{Name}
@@ -38,14 +37,14 @@ use Rattle.sq_promises.specs.Names.{descriptor_of}
 use Rattle.sq_catalog.specs.Catalog.{Catalog, base_there, column_kinds}
 use Rattle.sq_catalog.specs.Exact.{column_declared, entry_declared, entry_with, names_in as column_names}
 use Rattle.sq_catalog.specs.Fault.{Makes, Stops}
-use Rattle.sq_catalog.specs.Parts.{IsFaultOf}
+use Rattle.sq_bound.specs.Parts.{IsFaultOf}
 use Rattle.sq_catalog.specs.Reference.{HasKinds, HasOwnKinds, IsReferenceMade, entries_seen, entry_of, found_seen, may_reference_at, names_in, reference_seen, references_made, target_seen}
 use Rattle.sq_catalog.specs.References.{are_listed, is_key_of, paired_with}
 use Rattle.sq_catalog.specs.Stored.{IsBody, IsNamed, IsStored}
 use Rattle.sq_catalog.specs.declared.catalog.FullName.{FullName}
 use Rattle.sq_catalog.specs.declared.fault.ElementFault.{ElementFault}
 use Rattle.sq_catalog.specs.declared.fault.ElementFault.TheVariants.{NoMemory}
-use Rattle.sq_catalog.specs.declared.reference.BoundReferences.{BoundReferences}
+use Rattle.sq_catalog.specs.declared.bound_reference.BoundReferences.{BoundReferences}
 use Rattle.sq_catalog.specs.declared.reference.FoundReference.{FoundReference}
 use Rattle.sq_catalog.specs.declared.target.Target.{Target}
 use Rattle.sq_catalog.specs.declared.written.WrittenReference.{WrittenReference}

@@ -1,5 +1,5 @@
 -- The names of the columns of a table are those that its definition has.
-use Rattle.std.proofs.Common.{◌≡◌, ℕ, suc, List, [], ◌∷◌, length, map, zip, refl, sym, ap, ◌∙◌}
+use Rattle.std.proofs.Common.{◌≡◌, ℕ, suc, List, [], ◌∷◌, length, map, zip, refl, ap, ◌∙◌}
 use Rattle.std.proofs.lemmas.List.{length-map}
 use Rattle.sq_lex.specs.declared.name.Name.{Name}
 use Rattle.sq_bound.specs.declared.names.BaseColumn.{BaseColumn}

@@ -1,16 +1,13 @@
 -- CREATE TABLE in the steps in which it is made (ISO/IEC 9075:1992, 11.3 to 11.9).
-use Rattle.std.proofs.Common.{◌≡◌, ℕ, Bool, not, ◌||◌, List, [], ◌∷◌, length, map, nat_lt, Option, Ok, Err, refl, ap, sym, subst, ◌∙◌}
+use Rattle.std.proofs.Common.{◌≡◌, ℕ, Bool, not, ◌||◌, List, length, map, nat_lt, Ok, Err, refl, ap, sym, ◌∙◌}
 use Rattle.std.proofs.lemmas.Simd.{map-map}
 use Rattle.std.specs.List.{list_all, list_any, zip}
 use Rattle.std.specs.Prelude.{Result}
 use Rattle.std.specs.Result.{IfErr, IfOk}
 use Rattle.sq_lex.specs.declared.name.Name.{Name}
 use Rattle.sq_value.specs.Domain.{kind_of}
-use Rattle.sq_value.specs.declared.domain.Kind.{Kind}
-use Rattle.sq_tree.specs.declared.cond.Cond.{Cond}
 use Rattle.sq_tree.specs.declared.schema.ColumnDefinition.{ColumnDefinition}
 use Rattle.sq_tree.specs.declared.schema.TableDefinition.{TableDefinition}
-use Rattle.sq_meaning.specs.Environment.{TableName}
 use Rattle.sq_meaning.specs.Spelled.{table_of}
 use Rattle.sq_meaning.specs.Tables.{ColumnDescriptor}
 use Rattle.sq_rules.specs.Schema as rules
@@ -42,7 +39,7 @@ use Rattle.sq_catalog.specs.Draft.{IsDraftOf, draft_seen}
 use Rattle.sq_catalog.specs.Exact.{base_declared, column_declared, name_in, names_in}
 use Rattle.sq_catalog.specs.Fault.{Makes, Stops}
 use Rattle.sq_catalog.specs.Keys.{keys_written, primaries, primary_among}
-use Rattle.sq_catalog.specs.Parts.{IsFaultOf}
+use Rattle.sq_bound.specs.Parts.{IsFaultOf}
 use Rattle.sq_catalog.specs.Reference.{constraints_lent, found_seen, reference_seen, references_made}
 use Rattle.sq_catalog.specs.References.{references_written}
 use Rattle.sq_catalog.specs.Stored.{IsDescribed}

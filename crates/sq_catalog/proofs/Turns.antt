@@ -1,11 +1,10 @@
 -- Steps that are made one after the other, and lists of which each element is made in turn.
-use Rattle.std.proofs.Common.{◌≡◌, ℕ, ◌+◌, ◌<◌, ◌≤◌, Bool, true, false, List, [], ◌∷◌, ◌++◌, length, get_or, take, drop, map, Result, Ok, Err, IfOk, refl, ap, sym, subst, ◌∙◌, append-nil, arith}
+use Rattle.std.proofs.Common.{◌≡◌, ℕ, ◌+◌, ◌<◌, ◌≤◌, List, [], ◌∷◌, ◌++◌, length, get_or, take, drop, map, Result, Ok, Err, IfOk, refl, ap, sym, subst, ◌∙◌}
 use Rattle.std.proofs.lemmas.List.{append_assoc, map-append, take-append-drop, take_all, take_more}
 use Rattle.std.specs.Result.{IfErr, IsErrAnd, OnOk}
-use Rattle.sq_rules.specs.declared.refusal.SchemaFault.{SchemaFault}
-use Rattle.sq_declaring.specs.Outcome.{Outcome, and_then, each, refused_if}
-use Rattle.sq_catalog.specs.Fault.{Makes, Passes, Stops}
-use Rattle.sq_catalog.specs.Parts.{IsFaultOf}
+use Rattle.sq_declaring.specs.Outcome.{Outcome, and_then, each}
+use Rattle.sq_catalog.specs.Fault.{Makes, Stops}
+use Rattle.sq_bound.specs.Parts.{IsFaultOf}
 use Rattle.sq_catalog.specs.declared.fault.ElementFault.{ElementFault}
 use Rattle.sq_catalog.specs.declared.fault.ElementFault.TheVariants.{NoMemory, Refused}
 
@@ -23,6 +22,10 @@ then_stops o x f fault is h = subst (λ o. Stops (and_then o f) fault) (sym is) 
 -- the rest is made
 pub then_makes : {A B X : Type 0} (image : X → B) (o : Outcome A) (x : A) (f : A → Outcome B) (r : Result X ElementFault) → o ≡ Ok x → Makes image (f x) r → Makes image (and_then o f) r
 then_makes image o x f r is h = subst (λ o. Makes image (and_then o f) r) (sym is) h
+
+pub in_order : {A B C : Type 0} (o : Outcome A) (f : A → Outcome B) (g : B → Outcome C) → and_then (and_then o f) g ≡ and_then o (λ x. and_then (f x) g)
+in_order (Ok x) f g = refl
+in_order (Err e) f g = refl
 
 pub stops_same : {A : Type 0} (o p : Outcome A) (fault : ElementFault) → o ≡ p → Stops p fault → Stops o fault
 stops_same o p fault is h = subst (λ o. Stops o fault) (sym is) h

@@ -6,14 +6,13 @@ use Rattle.std.proofs.lemmas.List.Folds.{list_any-append}
 use Rattle.std.proofs.lemmas.List.{map-append}
 use Rattle.std.specs.Borrow.{Bor}
 use Rattle.std.specs.List.{list_any}
+use Rattle.std.proofs.lemmas.Cmp.{nat_list_eq_equiv}
 use Rattle.sq_lex.specs.declared.name.Name.{Name}
 use Rattle.sq_tree.specs.declared.schema.ColumnDefinition.{ColumnDefinition}
 use Rattle.sq_meaning.specs.Environment.{same_name}
 use Rattle.sq_rules.specs.Schema.{has_name_twice, is_among}
-use Rattle.sq_rules.specs.Words.{has_twice}
 use Rattle.sq_rules.specs.declared.refusal.SchemaFault.TheVariants.{NameTwice}
 use Rattle.sq_declaring.specs.Outcome.{and_then, refused_if}
-use Rattle.sq_binding.proofs.SameParameters.{name_itself, names_equal}
 use Rattle.sq_catalog.specs.Exact.{name_added}
 use Rattle.sq_catalog.specs.Fault.{Stops}
 use Rattle.sq_catalog.specs.Written.{definitions_lent}
@@ -31,15 +30,6 @@ or_none false b h k = k
 
 -- ---- names
 
-same_turned : (a b : Name) → same_name a b ≡ same_name b a
-same_turned a b = by (same_name a b) refl (same_name b a) refl
-  where
-    by : (x : Bool) → same_name a b ≡ x → (y : Bool) → same_name b a ≡ y → x ≡ y
-    by true is true of = refl
-    by false is false of = refl
-    by true is false of = sym (sym of ∙ ap (λ c. same_name b c) (names_equal a b is) ∙ name_itself b)
-    by false is true of = sym is ∙ ap (λ c. same_name a c) (names_equal b a of) ∙ name_itself a
-
 -- a further name, which is not there yet
 pub once_more : (names : List Name) (n : Name) → has_name_twice names ≡ false → is_among names n ≡ false → has_name_twice (names ++ n ∷ []) ≡ false
 once_more [] n once new = refl
@@ -47,7 +37,7 @@ once_more (m ∷ names) n once new =
     let first = parts (list_any (same_name m) names) (has_name_twice names) once in
     let later = parts (same_name n m) (list_any (same_name n) names) new in
     or_none (list_any (same_name m) (names ++ n ∷ [])) (has_name_twice (names ++ n ∷ []))
-    (list_any-append (same_name m) names (n ∷ []) ∙ or_none (list_any (same_name m) names) (same_name m n || false) first.0 (or_none (same_name m n) false (same_turned m n ∙ later.0) refl))
+    (list_any-append (same_name m) names (n ∷ []) ∙ or_none (list_any (same_name m) names) (same_name m n || false) first.0 (or_none (same_name m n) false (nat_list_eq_equiv.symm m n ∙ later.0) refl))
     (once_more names n first.1 later.1)
   where
     parts : (a b : Bool) → (a || b) ≡ false → (a ≡ false) × (b ≡ false)
@@ -62,7 +52,7 @@ there_twice (m ∷ names) more n h = by (λ k. there_twice names more n k) (same
     by : (list_any (same_name n) names ≡ true → has_name_twice (names ++ n ∷ more) ≡ true) → (b : Bool) → same_name n m ≡ b → (b || list_any (same_name n) names) ≡ true → has_name_twice (m ∷ names ++ n ∷ more) ≡ true
     by later true is h =
         ap (λ b. b || has_name_twice (names ++ n ∷ more))
-        (list_any-append (same_name m) names (n ∷ more) ∙ or_some (list_any (same_name m) names) (same_name m n || list_any (same_name m) more) (ap (λ b. b || list_any (same_name m) more) (same_turned m n ∙ is)))
+        (list_any-append (same_name m) names (n ∷ more) ∙ or_some (list_any (same_name m) names) (same_name m n || list_any (same_name m) more) (ap (λ b. b || list_any (same_name m) more) (nat_list_eq_equiv.symm m n ∙ is)))
     by later false is h = or_some (list_any (same_name m) (names ++ n ∷ more)) (has_name_twice (names ++ n ∷ more)) (later h)
 
 -- ---- names that are added one after the other

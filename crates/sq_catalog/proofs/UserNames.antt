@@ -1,9 +1,8 @@
 -- What names mean to the texts of a user: what is known of the tables, and what the definitions see.
-use Rattle.std.proofs.Common.{◌≡◌, ℕ, suc, ◌+◌, ◌<◌, Bool, false, true, List, [], ◌∷◌, length, map, Option, Some, None, Ok, position, refl, sym, ap, subst, ◌∙◌, arith}
-use Rattle.std.proofs.lemmas.List.{length-map}
+use Rattle.std.proofs.Common.{◌≡◌, ℕ, suc, Bool, false, true, List, [], ◌∷◌, length, map, Option, Some, None, Ok, position, refl, sym, ap, subst, ◌∙◌, arith}
 use Rattle.std.proofs.lemmas.List.Elements.{All-get_or}
 use Rattle.std.proofs.lemmas.Option.{get_or_from_slice_get, slice_get-map, slice_get_within}
-use Rattle.std.specs.List.{All, enumerate_from, zip}
+use Rattle.std.specs.List.{All, zip}
 use Rattle.std.specs.Map.{keys_of, lookup}
 use Rattle.std.specs.Option.{IfSome, option_and_then, option_map, option_or}
 use Rattle.std.specs.Prelude.{is_some, slice_get}
@@ -13,11 +12,10 @@ use Rattle.sq_value.specs.Domain.{kind_of}
 use Rattle.sq_value.specs.declared.domain.Kind.{Kind}
 use Rattle.sq_meaning.specs.Environment.{TableName}
 use Rattle.sq_meaning.specs.Status.{well_formed}
-use Rattle.sq_meaning.specs.Tables.{ColumnDescriptor}
 use Rattle.sq_meaning.specs.Target.{places_of}
 use Rattle.sq_rules.specs.Privilege.{Privilege}
 use Rattle.sq_bound.specs.Known.{KnownTable, known_by, under_of}
-use Rattle.sq_bound.specs.WellFormed.{IsTable, TableKinds, base_kinds, kinds_of_columns, place_of}
+use Rattle.sq_bound.specs.WellFormed.{IsTable, base_kinds, kinds_of_columns, place_of}
 use Rattle.sq_bound.specs.declared.condition.TablePlace.{TablePlace}
 use Rattle.sq_bound.specs.declared.condition.TablePlace.TheVariants.{Base, View}
 use Rattle.sq_bound.specs.declared.names.BaseColumn.{BaseColumn}
@@ -29,15 +27,13 @@ use Rattle.sq_bound.specs.declared.names.TableBody.TheVariants as body
 use Rattle.sq_bound.specs.declared.names.TableDesc.{TableDesc}
 use Rattle.sq_binding.proofs.Known.{within}
 use Rattle.sq_binding.specs.Changeable.{UnderTable}
-use Rattle.sq_binding.specs.From.{NamedTable}
 use Rattle.sq_declaring.specs.Catalog as definition
-use Rattle.sq_declaring.specs.Catalog.{DeclaredColumn, Entry, column_descriptor, entry_columns, entry_place, entry_under, may, names_of}
-use Rattle.sq_cursor_binder.specs.Names.{Beneath}
+use Rattle.sq_declaring.specs.Catalog.{Entry, column_descriptor, entry_columns, entry_place, entry_under, may, names_of}
 use Rattle.sq_cursor_binder.specs.Names as binder
 use Rattle.sq_promises.specs.Names.{NamesMean, Stands, descriptor_of}
 use Rattle.sq_promises.specs.Names as promises
 use Rattle.sq_promises.proofs.Named.{described_stands}
-use Rattle.sq_catalog.specs.Catalog.{Catalog, base_meant, column_kinds, is_table, itself, kinds_at, known, known_at, known_first, table_number, view_meant}
+use Rattle.sq_catalog.specs.Catalog.{Catalog, base_meant, column_kinds, is_table, itself, known, known_at, known_first, table_number, view_meant}
 use Rattle.sq_catalog.specs.Exact.{base_declared, column_declared, declared, described, entry_declared, entry_with, names_in as column_names, under_declared}
 use Rattle.sq_catalog.specs.Stored.{AreStored, AreTables, HasOwnPlaces, IsBody, IsStored, IsUnderItself, StandFrom, columns_of, seen_of}
 use Rattle.sq_catalog.specs.UserTables.{NamesStand, beneath_in, beneath_leaf, named_by_user, names_in, names_known, without_conditions, without_conditions_under}

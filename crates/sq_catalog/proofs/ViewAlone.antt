@@ -1,5 +1,5 @@
 -- A view is bound alike where the conditions of the views under a table are left out: binding passes them on, and looks at none of them.
-use Rattle.std.proofs.Common.{◌≡◌, ℕ, Bool, true, false, List, [], ◌∷◌, Option, Some, None, Result, Ok, Err, refl, sym, ap, subst, ◌∙◌}
+use Rattle.std.proofs.Common.{◌≡◌, ℕ, Bool, true, false, List, [], Option, Some, None, Result, Ok, Err, refl, sym, ap, subst, ◌∙◌}
 use Rattle.std.specs.Option.{option_and_then, option_map}
 use Rattle.std.specs.Prelude.{if◌then◌else◌}
 use Rattle.sq_meaning.specs.Environment.{TableReference}
@@ -23,7 +23,7 @@ use Rattle.sq_catalog.specs.Fault.{Makes, Stops}
 use Rattle.sq_catalog.specs.UserTables.{without_conditions, without_conditions_under}
 use Rattle.sq_catalog.specs.ViewMade.{over_alone, view_alone, view_found}
 use Rattle.sq_catalog.specs.declared.fault.ElementFault.{ElementFault}
-use Rattle.sq_catalog.proofs.ViewSteps.{stopped}
+use Rattle.sq_catalog.proofs.Turns.{stops_then}
 
 abbrev pub map_bound : {A B : Type 0} → (A → B) → binding.Outcome A → binding.Outcome B
 map_bound f o = binding.and_then o (λ x. Ok (f x))
@@ -97,4 +97,4 @@ turned (Err f) = refl
 
 pub found_alone : (o : binding.Outcome NumberedView) (r : Result BoundView ElementFault) → Makes view_seen (or_bad_view o) r → Makes view_found (or_bad_view (map_bound view_alone o)) r
 found_alone o (Ok v) h = turned o ∙ ap (λ p. and_then p (λ v. Ok (view_alone v))) h
-found_alone o (Err stop) h = subst (λ p. Stops p stop) (sym (turned o)) (stopped (or_bad_view o) (λ v. Ok (view_alone v)) stop h)
+found_alone o (Err stop) h = subst (λ p. Stops p stop) (sym (turned o)) (stops_then (or_bad_view o) (λ v. Ok (view_alone v)) stop h)

@@ -1,6 +1,6 @@
 -- What is bound of a view's query in a catalog: it stands, is the text's, and where it is updatable it has the rows under the table that is
 -- named (ISO/IEC 9075:1992, 7.9 and 11.19).
-use Rattle.std.proofs.Common.{◌≡◌, ℕ, true, false, List, [], map, Option, Some, None, Result, Ok, Err, refl, sym, ap, subst, ◌∙◌}
+use Rattle.std.proofs.Common.{◌≡◌, ℕ, true, false, List, map, Option, Some, None, Result, Ok, Err, refl, sym, ap, subst, ◌∙◌}
 use Rattle.std.specs.Option.{option_and_then, option_map}
 use Rattle.std.specs.Prelude.{IfOk, IfSome}
 use Rattle.sq_lex.specs.declared.name.Name.{Name}
@@ -8,22 +8,20 @@ use Rattle.sq_tree.specs.declared.schema.ViewDefinition.{ViewDefinition}
 use Rattle.sq_meaning.specs.Environment.{TableName}
 use Rattle.sq_meaning.specs.Spelled.{select_of}
 use Rattle.sq_rules.specs.Privilege.{Privilege}
-use Rattle.sq_bound.specs.Fits.{IsBase, IsOver}
-use Rattle.sq_bound.specs.Known.{Under, under_of}
-use Rattle.sq_bound.specs.declared.names.BaseTable.{BaseTable}
+use Rattle.sq_bound.specs.Fits.{IsBase}
+use Rattle.sq_bound.specs.Known.{under_of}
 use Rattle.sq_bound.specs.declared.names.Leaf.{Leaf}
 use Rattle.sq_bound.specs.declared.names.TableBody.{TableBody}
 use Rattle.sq_bound.specs.declared.names.TableBody.TheVariants as body
 use Rattle.sq_bound.specs.declared.names.TableDesc.{TableDesc}
 use Rattle.sq_bound.specs.declared.query.UpdatableQuery.{UpdatableQuery}
-use Rattle.sq_binding.specs.Outcome.{Outcome}
 use Rattle.sq_binding.specs.Seen.{cond_seen}
-use Rattle.sq_binding.specs.View.{NumberedView, view_bound}
+use Rattle.sq_binding.specs.View.{view_bound}
 use Rattle.sq_binder.specs.Binds.{Binds}
 use Rattle.sq_binder.specs.declared.stop.Stop.{Stop}
-use Rattle.sq_declaring.specs.Catalog.{DeclaredUnder, Entry, entry, entry_under, itself as declared_itself, may}
+use Rattle.sq_declaring.specs.Catalog.{entry, entry_under, itself as declared_itself, may}
 use Rattle.sq_promises.proofs.Views.{IsViewBound, view_fits, view_is_written, view_names, view_over, view_stands, view_updatable}
-use Rattle.sq_promises.specs.Seen.{table_named, updatable_seen}
+use Rattle.sq_promises.specs.Seen.{table_named}
 use Rattle.sq_cursor_binder.specs.Names.{Beneath, IsUnder}
 use Rattle.sq_cursor_binder.specs.View.{view_seen}
 use Rattle.sq_cursor_binder.specs.declared.view.BoundView.{BoundView}

@@ -1,5 +1,5 @@
 -- What the owner of a view holds on it, grant by grant.
-use Rattle.std.proofs.Common.{◌≡◌, ℕ, ◌+◌, ◌<◌, ◌≤◌, min, Bool, true, false, List, [], ◌∷◌, ◌++◌, length, get_or, drop, map, flat_map, Option, Some, None, Result, Ok, Err, refl, sym, ap, subst, ◌∙◌, append-nil, append_assoc, arith, length-append}
+use Rattle.std.proofs.Common.{◌≡◌, ℕ, ◌+◌, ◌<◌, ◌≤◌, min, Bool, true, false, List, [], ◌∷◌, ◌++◌, length, get_or, drop, map, flat_map, Option, Some, None, Result, Ok, Err, refl, sym, ap, subst, ◌∙◌, append-nil, append_assoc, arith}
 use Rattle.std.proofs.lemmas.Bool.Decides.{nat_tests}
 use Rattle.std.proofs.lemmas.Grind.{flat_map-append}
 use Rattle.std.proofs.lemmas.List.{drop_all, drop_more, map-append}
@@ -12,7 +12,7 @@ use Rattle.sq_lex.specs.declared.name.Name.{Name}
 use Rattle.sq_meaning.specs.Environment.{TableName}
 use Rattle.sq_meaning.specs.Tables.{ColumnDescriptor}
 use Rattle.sq_rules.specs.Privilege.{Privilege}
-use Rattle.sq_bound.specs.declared.condition.BoundSpecification.{BoundSpecification, out-BoundSpecification}
+use Rattle.sq_bound.specs.declared.condition.BoundSpecification.{out-BoundSpecification}
 use Rattle.sq_bound.specs.declared.expression.BoundExpr.{BoundExpr}
 use Rattle.sq_bound.specs.declared.expression.BoundExpr.TheVariants as bound
 use Rattle.sq_bound.specs.declared.expression.Operation.{Operation}
@@ -22,13 +22,12 @@ use Rattle.sq_bound.specs.declared.names.Column.{Column}
 use Rattle.sq_bound.specs.declared.names.TableBody.{TableBody}
 use Rattle.sq_bound.specs.declared.names.TableBody.TheVariants as body
 use Rattle.sq_bound.specs.declared.names.TableDesc.{TableDesc}
-use Rattle.sq_binding.proofs.SeenLevels.{select_seen-out}
 use Rattle.sq_binding.specs.Changeable.{shown_of}
 use Rattle.sq_binding.specs.Numbered.{Numbered}
 use Rattle.sq_binding.specs.Seen.{numbered_of, operation_of, select_seen}
 use Rattle.sq_binder.proofs.Images.{numbered_of-Operations, operation_of-out}
 use Rattle.sq_declaring.specs.Catalog as definition
-use Rattle.sq_declaring.specs.Catalog.{DeclaredColumn, entry, entry_column_names}
+use Rattle.sq_declaring.specs.Catalog.{entry, entry_column_names}
 use Rattle.sq_declaring.specs.View.{column_shown, followed, grants_over, names_underneath, owner_grants, updates, view_grants}
 use Rattle.sq_promises.specs.Names.{descriptor_of}
 use Rattle.sq_catalog.specs.Exact.{column_declared, entry_with, name_in, names_in}
@@ -38,6 +37,7 @@ use Rattle.sq_catalog.specs.ViewGrants.{HoldsMore, all_followed, followed_over, 
 use Rattle.sq_promises.specs.Seen.{updatable_seen}
 use Rattle.sq_bound.specs.declared.query.UpdatableQuery.{UpdatableQuery}
 use Rattle.sq_cursor_binder.specs.declared.view.BoundView.{BoundView}
+use Rattle.sq_cursor_binder.proofs.Updatables.{shown_is}
 use Rattle.sq_catalog.specs.ViewMade.{over_alone, view_found}
 use Rattle.sq_catalog.specs.declared.catalog.FullName.{FullName}
 use Rattle.sq_catalog.specs.declared.held.Grant.{Grant}
@@ -185,9 +185,6 @@ entry_names name t bases (body.View v) is = map-map (λ (d : ColumnDescriptor). 
 
 -- ---- the columns that are shown
 
-pub shown_seen : (s : BoundSpecification) → shown_of (select_seen s) ≡ map numbered_of (out-BoundSpecification s).list
-shown_seen s = ap shown_of (select_seen-out s)
-
 operations_none : (rest : List Operation) (e : Numbered) → column_shown e ≡ None → column_shown (fold (λ left o. operation_of o left) e rest) ≡ None
 operations_none [] e none = none
 operations_none (o ∷ rest) e none = operations_none rest (operation_of o e) (ap column_shown (operation_of-out o e))
@@ -212,7 +209,7 @@ module _ (d : definition.Catalog) (owner : Name) (view : FullName) (names : List
   pub beneath_some : (over : (Name × Name) × UpdatableQuery) (under : FullName) (shown : List BoundExpr) (old new : List Grant) → b.updatable ≡ Some over → under ≡ record { user = over.0.0; name = over.0.1 } → shown ≡ (out-BoundSpecification b.query).list
       → HoldsMore old new (followed_over d owner (record { view = view; under = under }) names (map numbered_of shown)) → HoldsMore old new (beneath b.updatable)
   beneath_some over under shown old new some is list h =
-      let seen : map numbered_of shown ≡ shown_of (select_seen b.query) = ap (map numbered_of) list ∙ sym (shown_seen b.query) in
+      let seen : map numbered_of shown ≡ shown_of (select_seen b.query) = ap (map numbered_of) list ∙ sym (shown_is b.query) in
       subst (λ o. HoldsMore old new (beneath o)) (sym some)
       (subst (λ (z : FullName × List Numbered). HoldsMore old new (followed_over d owner (record { view = view; under = z.0 }) names z.1)) (λ i. (is i, seen i)) h)
 

@@ -1,23 +1,19 @@
 -- The view that is made of a definition is the one that the definitions make (ISO/IEC 9075:1992, 11.19).
-use Rattle.std.proofs.Common.{◌≡◌, ℕ, Bool, true, false, not, ◌&&◌, List, [], ◌∷◌, ◌++◌, length, map, Option, Some, None, Result, Ok, Err, refl, sym, ap, subst, ◌∙◌}
+use Rattle.std.proofs.Common.{◌≡◌, ℕ, Bool, not, ◌&&◌, List, [], ◌∷◌, ◌++◌, length, map, Option, Some, None, Result, Ok, Err, refl, sym, ap, subst, ◌∙◌}
 use Rattle.std.proofs.lemmas.List.{length-map, map-append}
-use Rattle.std.specs.List.{zip}
 use Rattle.std.specs.Option.{IsSomeAnd, option_and_then, option_map}
 use Rattle.std.specs.Prelude.{IfSome, if◌then◌else◌, is_none}
 use Rattle.std.specs.Result.{IfErr, IsErrAnd, OnOk}
 use Rattle.sq_lex.specs.declared.name.Name.{Name}
 use Rattle.sq_tree.specs.declared.schema.ViewDefinition.{ViewDefinition}
-use Rattle.sq_value.specs.declared.domain.Kind.{Kind}
 use Rattle.sq_meaning.specs.Environment.{TableName}
 use Rattle.sq_meaning.specs.Spelled.{listed, select_of, table_of}
-use Rattle.sq_meaning.specs.Tables.{ColumnDescriptor}
 use Rattle.sq_rules.specs.declared.refusal.SchemaFault.TheVariants as fault
 use Rattle.sq_bound.specs.WellFormed.{kinds_of_columns, kinds_of_select, place_of}
 use Rattle.sq_bound.specs.declared.condition.BoundCond.{BoundCond}
 use Rattle.sq_bound.specs.declared.condition.BoundSpecification.{BoundSpecification, out-BoundSpecification}
 use Rattle.sq_bound.specs.declared.condition.ResultColumn.{ResultColumn as BoundColumn}
 use Rattle.sq_bound.specs.declared.condition.TablePlace.TheVariants.{View}
-use Rattle.sq_bound.specs.declared.names.BaseTable.{BaseTable}
 use Rattle.sq_bound.specs.declared.names.Column.{Column}
 use Rattle.sq_bound.specs.declared.names.Leaf.{Leaf}
 use Rattle.sq_bound.specs.declared.names.TableBody.{TableBody}
@@ -25,11 +21,11 @@ use Rattle.sq_bound.specs.declared.names.TableBody.TheVariants as body
 use Rattle.sq_bound.specs.declared.names.TableDesc.{TableDesc}
 use Rattle.sq_bound.specs.declared.query.UpdatableQuery.{UpdatableQuery}
 use Rattle.sq_binding.proofs.SeenLevels.{columns_seen}
-use Rattle.sq_binding.specs.NumberedCondition.{NumberedCond, ResultColumn, columns_of}
+use Rattle.sq_binding.specs.NumberedCondition.{columns_of}
 use Rattle.sq_binding.specs.Seen.{clause_if, column_of, cond_seen, select_seen}
 use Rattle.sq_binding.specs.View.{NumberedView, view_bound}
 use Rattle.sq_declaring.specs.Catalog as definition
-use Rattle.sq_declaring.specs.Catalog.{DeclaredUnder, DeclaredView, entry, entry_under, names_of, with_grants}
+use Rattle.sq_declaring.specs.Catalog.{names_of, with_grants}
 use Rattle.sq_declaring.specs.Outcome.{Outcome, and_then, refused_if}
 use Rattle.sq_declaring.specs.Table.{has_place, is_taken}
 use Rattle.sq_declaring.specs.View as spec
@@ -38,7 +34,7 @@ use Rattle.sq_promises.specs.Names.{descriptor_of}
 use Rattle.sq_promises.specs.Seen.{table_named, updatable_seen}
 use Rattle.sq_cursor_binder.specs.declared.view.BoundView.{BoundView}
 use Rattle.sq_catalog.specs.Catalog.{Catalog, column_kinds}
-use Rattle.sq_catalog.specs.Exact.{bases_declared, declared, name_in, under_declared, view_declared, view_in, views_declared, with_view_entry}
+use Rattle.sq_catalog.specs.Exact.{bases_declared, declared, name_in, under_declared, view_in, views_declared, with_view_entry}
 use Rattle.sq_catalog.specs.Fault.{Makes, Passes, Stops}
 use Rattle.sq_catalog.specs.Held.{grant_seen}
 use Rattle.sq_catalog.specs.Stored.{IsNextView, IsViewOver, query_in}
@@ -50,7 +46,7 @@ use Rattle.sq_catalog.specs.declared.fault.ElementFault.TheVariants.{NoMemory}
 use Rattle.sq_catalog.specs.declared.held.Grant.{Grant}
 use Rattle.sq_catalog.specs.declared.view.NewView.{NewView as MadeView}
 use Rattle.sq_catalog.proofs.ViewNames.{names_chosen}
-use Rattle.sq_catalog.proofs.ViewSteps.{in_order, out_of_memory, stopped, stopped_later}
+use Rattle.sq_catalog.proofs.Turns.{in_order, no_memory, stops_then, then_stops}
 
 -- ---- its columns
 
@@ -141,7 +137,7 @@ module _ (d : definition.Catalog) (user : Name) (v : ViewDefinition) (name : Ful
 
   pub placed_stops : (names : List Name) (stop : ElementFault) → Stops (checked_view d user (name_in name) v.check_option bound) stop → Stops (placed_view d user v bound names) stop
   placed_stops names stop stops =
-      stopped (checked_view d user (table_of user v.name) v.check_option bound) (λ _. Ok (new_view d user v bound names)) stop
+      stops_then (checked_view d user (table_of user v.name) v.check_option bound) (λ _. Ok (new_view d user v bound names)) stop
       (subst (λ t. Stops (checked_view d user t v.check_option bound) stop) named stops)
 
 -- the names of its columns
@@ -159,7 +155,7 @@ module _ (d : definition.Catalog) (user : Name) (v : ViewDefinition) (bound : Bo
 
   pub named_stops : (stop : ElementFault) → Stops (names_for own (map column_of columns)) stop → Stops (named_view d user v (view_found bound)) stop
   named_stops stop stops =
-      stopped (column_names v.columns (columns_of (select_seen bound.query))) (placed_view d user v (view_found bound)) stop
+      stops_then (column_names v.columns (columns_of (select_seen bound.query))) (placed_view d user v (view_found bound)) stop
       (subst (λ o. Stops o stop) (chosen v bound.query own columns list is) stops)
 
 -- ---- the whole
@@ -175,14 +171,14 @@ module _ (d : definition.Catalog) (user : Name) (t : TableName) (check_option : 
 
   pub option_stops : (stop : ElementFault) → Stops (refused_if fault.BadCheckOption bad) stop → Stops (checked_view d user t check_option v) stop
   option_stops stop stops =
-      stopped (refused_if fault.BadCheckOption (check_option && is_none v.updatable)) (λ _. rest) stop (subst (λ b. Stops (refused_if fault.BadCheckOption b) stop) bad_is stops)
+      stops_then (refused_if fault.BadCheckOption (check_option && is_none v.updatable)) (λ _. rest) stop (subst (λ b. Stops (refused_if fault.BadCheckOption b) stop) bad_is stops)
 
   behind_option : refused_if fault.BadCheckOption bad ≡ Ok tt → checked_view d user t check_option v ≡ rest
   behind_option passed = ap (λ o. and_then o (λ _. rest)) (subst (λ b. refused_if fault.BadCheckOption b ≡ Ok tt) bad_is passed)
 
   pub privilege_stops : (stop : ElementFault) → refused_if fault.BadCheckOption bad ≡ Ok tt → Stops (refused_if fault.PrivilegeMissing (not v.may_select)) stop → Stops (checked_view d user t check_option v) stop
   privilege_stops stop passed stops =
-      subst (λ o. Stops o stop) (sym (behind_option passed)) (stopped (refused_if fault.PrivilegeMissing (not v.may_select)) (λ _. has_place d user t) stop stops)
+      subst (λ o. Stops o stop) (sym (behind_option passed)) (stops_then (refused_if fault.PrivilegeMissing (not v.may_select)) (λ _. has_place d user t) stop stops)
 
   pub place_passes : {A : Type 0} (r : Result A ElementFault) → refused_if fault.BadCheckOption bad ≡ Ok tt → refused_if fault.PrivilegeMissing (not v.may_select) ≡ Ok tt → Passes (has_place d user t) r → Passes (checked_view d user t check_option v) r
   place_passes r passed held placed =
@@ -212,18 +208,18 @@ module _ (d : definition.Catalog) (user : Name) (v : ViewDefinition) where
   whole = (λ i. and_then taken (λ _. and_then twice (λ _. and_then query (λ b. and_then (column_names v.columns (columns_of b.query)) (λ names. sym (in_turn b names) i)))))
 
   pub declared_taken : (stop : ElementFault) → Stops taken stop → Stops (declared_view d user v) stop
-  declared_taken stop stops = subst (λ o. Stops o stop) (sym whole) (stopped taken (λ _. and_then twice (λ _. and_then query (named_view d user v))) stop stops)
+  declared_taken stop stops = subst (λ o. Stops o stop) (sym whole) (stops_then taken (λ _. and_then twice (λ _. and_then query (named_view d user v))) stop stops)
 
   pub declared_twice : (stop : ElementFault) → taken ≡ Ok tt → Stops twice stop → Stops (declared_view d user v) stop
   declared_twice stop free stops =
-      subst (λ o. Stops o stop) (sym whole) (stopped_later taken tt (λ _. and_then twice (λ _. and_then query (named_view d user v))) stop free (stopped twice (λ _. and_then query (named_view d user v)) stop stops))
+      subst (λ o. Stops o stop) (sym whole) (then_stops taken tt (λ _. and_then twice (λ _. and_then query (named_view d user v))) stop free (stops_then twice (λ _. and_then query (named_view d user v)) stop stops))
 
   -- with a new name, and none listed twice
   behind_names : taken ≡ Ok tt → twice ≡ Ok tt → declared_view d user v ≡ and_then query (named_view d user v)
   behind_names free once = whole ∙ ap (λ o. and_then o (λ _. and_then twice (λ _. and_then query (named_view d user v)))) free ∙ ap (λ o. and_then o (λ _. and_then query (named_view d user v))) once
 
   pub declared_unbound : (stop : ElementFault) → taken ≡ Ok tt → twice ≡ Ok tt → Stops query stop → Stops (declared_view d user v) stop
-  declared_unbound stop free once stops = subst (λ o. Stops o stop) (sym (behind_names free once)) (stopped query (named_view d user v) stop stops)
+  declared_unbound stop free once stops = subst (λ o. Stops o stop) (sym (behind_names free once)) (stops_then query (named_view d user v) stop stops)
 
   pub declared_made : (name : FullName) (b : NumberedView) (r : Result MadeView ElementFault) → taken ≡ Ok tt → twice ≡ Ok tt → query ≡ Ok b → MakesView name (named_view d user v b) r → MakesView name (declared_view d user v) r
   declared_made name b r free once is made =
@@ -251,7 +247,7 @@ module _ (a b c : Catalog) (name : FullName) (t : TableDesc) (n : NewView) (gran
       → declared b ≡ with_view_entry (declared a) name t → view_in (name, t) t.body ≡ n.view ∷ [] → map grant_seen grants ≡ n.grants → c.users ≡ b.users → c.base_entries ≡ b.base_entries → c.view_entries ≡ b.view_entries
       → Makes (λ (x : Unit {0}). declared c) (create_view (declared a) user v) r
   create_answered user v (Ok u) memory granted is added view held users bases views = create_made user v is added view held users bases views granted
-  create_answered user v (Err stop) memory granted is added view held users bases views = out_of_memory (create_view (declared a) user v) stop memory
+  create_answered user v (Err stop) memory granted is added view held users bases views = no_memory (create_view (declared a) user v) stop memory
 
 pub create_stops : (d : definition.Catalog) (user : Name) (v : ViewDefinition) (stop : ElementFault) → Stops (declared_view d user v) stop → Stops (create_view d user v) stop
-create_stops d user v stop stops = stopped (declared_view d user v) (λ n. Ok (with_view d n)) stop stops
+create_stops d user v stop stops = stops_then (declared_view d user v) (λ n. Ok (with_view d n)) stop stops

@@ -27,7 +27,7 @@ use Rattle.sq_declaring.specs.View.{as_many, own_names as declared_names}
 use Rattle.sq_promises.specs.Written.{IsUpdatableOf, NamesAre}
 use Rattle.sq_catalog.specs.Fault.{Makes, Stops}
 use Rattle.sq_catalog.specs.declared.fault.ElementFault.{ElementFault}
-use Rattle.sq_catalog.proofs.ViewSteps.{stopped}
+use Rattle.sq_catalog.proofs.Turns.{stops_then}
 use Rattle.sq_catalog.specs.View.{IsAbove, IsOverQuery, IsViewWith, names_for, names_of_query, names_or}
 use Rattle.sq_catalog.specs.Views.{HasQueryOf, IsUnderView, IsViewOf, WrittenView, column_names, names_written}
 
@@ -89,7 +89,7 @@ module _ (columns : List ResultColumn) (names : List Name) (is : names ≡ filte
   pub query_unnamed : (stop : ElementFault) → Stops (refused_if fault.NameTwice (has_name_twice names)) stop → Stops (names_of_query shown) stop
   query_unnamed stop stops =
       subst (λ (ns : List Name). Stops (and_then (refused_if fault.NameTwice (has_name_twice ns)) (λ _. as_many shown ns)) stop) (is ∙ own_same columns)
-      (stopped (refused_if fault.NameTwice (has_name_twice names)) (λ _. as_many shown names) stop stops)
+      (stops_then (refused_if fault.NameTwice (has_name_twice names)) (λ _. as_many shown names) stop stops)
 
 -- the names that are listed, or those of the query
 pub names_chosen : (list : Option (CommaList Name)) (columns : List numbered.ResultColumn) → names_for (option_map listed list) columns ≡ definition.column_names list columns

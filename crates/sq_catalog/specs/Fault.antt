@@ -1,6 +1,5 @@
 -- What functions that may refuse an element answer: what the definitions compute. And which text a fault is of.
 use Rattle.std.specs.Prelude.{◌≡◌, ◌<◌, ℕ, ⊤, Option, Result, Ok, Err}
-use Rattle.sq_rules.specs.declared.refusal.SchemaFault.{SchemaFault}
 use Rattle.sq_rules.specs.SchemaRefusal as rules
 use Rattle.sq_declaring.specs.Outcome.{Outcome}
 use Rattle.sq_catalog.specs.declared.fault.CatalogFault.{CatalogFault}

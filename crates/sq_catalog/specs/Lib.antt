@@ -18,6 +18,5 @@ pub mod Declares
 pub mod Exact
 pub mod UserTables
 pub mod Draft
-pub mod Parts
 pub mod ViewGrants
 pub mod ViewMade

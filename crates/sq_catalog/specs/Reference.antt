@@ -31,8 +31,8 @@ use Rattle.sq_catalog.specs.References.{AreListed, HasReferencesOf, IsToKey, Ref
 use Rattle.sq_catalog.specs.Stored.{IsNumbered, IsStored}
 use Rattle.sq_catalog.specs.declared.catalog.FullName.{FullName}
 use Rattle.sq_catalog.specs.declared.reference.FoundReference.{FoundReference}
-use Rattle.sq_catalog.specs.declared.reference.BoundReferences.{BoundReferences}
-use Rattle.sq_catalog.specs.declared.reference.ReferencedKey.{ReferencedKey}
+use Rattle.sq_catalog.specs.declared.bound_reference.BoundReferences.{BoundReferences}
+use Rattle.sq_catalog.specs.declared.referenced.ReferencedKey.{ReferencedKey}
 use Rattle.sq_catalog.specs.declared.target.OwnKeys.{OwnKeys}
 use Rattle.sq_catalog.specs.declared.target.Target.{Target}
 use Rattle.sq_catalog.specs.declared.written.WrittenReference.{WrittenReference}

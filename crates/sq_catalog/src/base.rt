@@ -1,6 +1,6 @@
 //! The base table of a table definition (ISO/IEC 9075:1992, 11.3 to 11.9).
 
-ghost use Rattle.std.specs.Prelude.{◌≡◌, ◌||◌, IfOk, OnOk, length, map, nat_lt, not, true, vec_len};
+ghost use Rattle.std.specs.Prelude.{◌≡◌, ◌||◌, IfOk, OnOk, length, map, nat_lt, true, vec_len};
 ghost use Rattle.std.specs.List.{All, AllZip, list_all, list_any};
 ghost use Rattle.sq_value.specs.Domain.{kind_of};
 ghost use Rattle.sq_meaning.specs.Spelled.{table_of};
@@ -25,18 +25,18 @@ ghost use Rattle.sq_catalog.specs.Stored.{AreChecksAt, IsNext};
 ghost use Rattle.sq_catalog.specs.Table.{AreChecksMade, base_made, held_declared, parts_made, rest_asked, typed_definitions, typed_kinds, typed_seen, written_not_null};
 ghost use Rattle.sq_catalog.specs.Written.{conditions_lent};
 
+use crate::bound_reference::{BoundReferences, bound_references};
 use crate::catalog::{Catalog, FullName};
 use crate::check::{CheckedTable, bound_checks};
 use crate::column::{base_columns, columns_of};
 use crate::description::described;
 use crate::draft::Draft;
 use crate::fault::{ElementFault, refused_if};
-use crate::parts::both;
-use crate::reference::{BoundReferences, bound_references, have_bad_list};
+use crate::reference::have_bad_list;
 use crate::target::OwnKeys;
 use crate::typed::TypedColumn;
 use crate::written::is_not_null;
-use sq_bound::{BaseColumn, BaseTable, BoundCond, Column, Names, Shared, TableDesc};
+use sq_bound::{BaseColumn, BaseTable, BoundCond, Column, Names, Shared, TableDesc, pair_of};
 use sq_items::Items;
 use sq_lex::Name;
 use sq_rules::SchemaFault;
@@ -182,7 +182,7 @@ impl Catalog {
             columns,
         };
         let parts = base_parts(self.alloc(), &table, draft);
-        let (bound, parts) = both(bound, parts)?;
+        let (bound, parts) = pair_of(bound, parts)?;
         Ok(assembled(place, draft.keys.primary, bound, parts))
     }
 
@@ -240,7 +240,7 @@ fn base_parts(
 {
     let checks = bound_checks(alloc, table, draft.written.checks.as_slice());
     let columns = base_columns(alloc, draft.columns.as_slice());
-    let (checks, columns) = both(checks, columns)?;
+    let (checks, columns) = pair_of(checks, columns)?;
     match copied_keys(alloc, draft.keys.columns.as_slice()) {
         Ok(keys) => Ok(BaseParts {
             columns,

@@ -26,7 +26,7 @@ use crate::fault::{ElementFault, refused_if};
 use crate::held::Held;
 use crate::written::add_name;
 use indexmap::{IndexMap, IndexSet};
-use sq_bound::{Action, BaseTable, Names, Shared, TableDesc, TablePlace};
+use sq_bound::{BaseTable, Names, Shared, TableDesc, TablePlace};
 use sq_lex::Name;
 use sq_rules::SchemaFault;
 use sq_tree::TableName;
@@ -272,19 +272,5 @@ impl Names for Catalog {
 
     fn at(&self, place: TablePlace) -> Option<&TableDesc> {
         self.table_at(place)
-    }
-
-    fn may(&self, user: Name, action: Action, table: (Name, Name), column: Option<usize>) -> bool {
-        self.may_perform(false, user, action, table, column)
-    }
-
-    fn may_grant(
-        &self,
-        user: Name,
-        action: Action,
-        table: (Name, Name),
-        column: Option<usize>,
-    ) -> bool {
-        self.may_perform(true, user, action, table, column)
     }
 }

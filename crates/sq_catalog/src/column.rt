@@ -1,6 +1,6 @@
 //! Columns of a table definition, as names see them and as their table holds them (ISO/IEC 9075:1992, 11.4 and 11.5).
 
-ghost use Rattle.std.specs.Prelude.{◌≡◌, ◌≤◌, length, map, Bool, Err, IfOk, Ok};
+ghost use Rattle.std.specs.Prelude.{◌≡◌, ◌≤◌, length, map, Err, IfOk, Ok};
 ghost use Rattle.sq_value.specs.Domain.{IsDomain, domain_length, kind_of};
 ghost use Rattle.sq_meaning.specs.Assignment.{assigned};
 ghost use Rattle.sq_meaning.specs.Target.{places_of};

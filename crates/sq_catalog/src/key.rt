@@ -15,7 +15,6 @@ ghost use Rattle.sq_catalog.specs.declared.fault.ElementFault.TheVariants.{NoMem
 use crate::fault::ElementFault;
 use crate::written::{NamedColumns, WrittenKey, has_twice};
 use sq_items::Items;
-use sq_lex::Name;
 use std::alloc::Global;
 
 /// The greatest number of columns of a key or reference (own rule).

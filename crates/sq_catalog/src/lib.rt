@@ -1,8 +1,8 @@
 //! The catalog: the tables, views and privileges that schema texts define (ISO/IEC 9075:1992, clauses 10 and 11).
 #![tactic(auto)]
 
-mod action;
 mod base;
+mod bound_reference;
 mod build;
 mod catalog;
 mod check;
@@ -16,9 +16,9 @@ mod insert;
 mod key;
 mod lookups;
 mod names;
-mod parts;
 mod privilege;
 mod reference;
+mod referenced;
 mod table;
 mod target;
 mod typed;

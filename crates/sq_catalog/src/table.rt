@@ -27,11 +27,10 @@ use crate::catalog::{Catalog, FullName, full_name};
 use crate::draft::Draft;
 use crate::fault::ElementFault;
 use crate::key::{Keys, keys_of};
-use crate::parts::both;
 use crate::reference::{FoundReference, OwnTable, references_of};
 use crate::typed::TypedColumn;
 use crate::written::{NamedColumns, Written, named_columns, parts_of, typed_columns};
-use sq_bound::{BaseTable, Shared, TableDesc};
+use sq_bound::{BaseTable, Shared, TableDesc, pair_of};
 use sq_lex::Name;
 use sq_tree::TableDefinition;
 
@@ -145,7 +144,7 @@ impl Catalog {
     {
         let found = self.found_in(user, name, written);
         let columns = typed_columns(self.alloc(), written.columns.as_slice());
-        both(found, columns)
+        pair_of(found, columns)
     }
 
     /// The keys and references with their names found, where no two columns have one name.
@@ -211,7 +210,7 @@ impl Catalog {
         };
         let keys = keys_of(self.alloc(), columns, written.keys.as_slice());
         let references = references_of(self, &own, written.references.as_slice());
-        both(keys, references)
+        pair_of(keys, references)
     }
 }
 

@@ -16,7 +16,7 @@ use sq_bound::{BoundExpr, Column};
 use sq_cursor_binder::BoundView;
 use sq_items::Items;
 use sq_lex::Name;
-use std::alloc::{AllocError, Global};
+use std::alloc::AllocError;
 
 /// A view, and the table underneath.
 #[derive(Clone, Copy)]

@@ -1,6 +1,6 @@
 //! A view as names see it: its columns, its query, and what is under an updatable one (ISO/IEC 9075:1992, 11.19).
 
-ghost use Rattle.std.specs.Prelude.{◌≡◌, ◌≤◌, ◌&&◌, Bool, if◌then◌else◌, [], length, map, IfOk, List, None, OnOk, Some, slice_get};
+ghost use Rattle.std.specs.Prelude.{◌≡◌, ◌≤◌, ◌&&◌, Bool, if◌then◌else◌, [], length, map, IfOk, List, None, Some, slice_get};
 ghost use Rattle.std.specs.List.{AllZip};
 ghost use Rattle.std.specs.Option.{IsSomeAnd};
 ghost use Rattle.sq_lex.specs.declared.name.Name.{Name as AnyName};

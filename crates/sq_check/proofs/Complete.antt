@@ -1,15 +1,16 @@
 -- No procedure is left out: each that a module has is bound in the program, or has its fault there.
-use Rattle.std.proofs.Common.{◌≡◌, ◌∙◌, ℕ, zero, suc, ◌<◌, Bool, true, false, ◌||◌, ◌&&◌, List, [], ◌∷◌, length, get_or, flat_map, Option, Some, None, is_some, refl, ap, ap₂, sym, arith, eq-eqb}
+use Rattle.std.proofs.Common.{◌≡◌, ◌∙◌, ℕ, zero, suc, ◌<◌, Bool, true, false, ◌||◌, ◌&&◌, List, [], ◌∷◌, length, get_or, flat_map, Option, Some, None, is_some, refl, ap, ap₂, sym, arith}
 use Rattle.std.proofs.lemmas.List.Folds.{list_any-append}
 use Rattle.std.proofs.lemmas.Map.Made.{is_some-lookup}
 use Rattle.std.specs.List.{IsAmong, list_any}
 use Rattle.std.specs.Map.{keys_of, lookup}
+use Rattle.std.proofs.lemmas.Cmp.{nat_list_eq_equiv}
 use Rattle.sq_lex.specs.declared.name.Name.{Name}
 use Rattle.sq_tree.specs.declared.module.ModuleItem.TheVariants as item
 use Rattle.sq_tree.specs.declared.module.ModuleText.{ModuleText}
 use Rattle.sq_tree.specs.declared.module.Procedure.{Procedure}
 use Rattle.sq_catalog.specs.Catalog.{Catalog}
-use Rattle.sq_module.specs.Program.{module_procedures, procedure_in, same_name, same_procedure}
+use Rattle.sq_module.specs.Program.{module_procedures, procedure_in, same_procedure}
 use Rattle.sq_module.specs.declared.program.BoundProcedure.{BoundProcedure}
 use Rattle.sq_check.specs.Modules.{AreChecked}
 use Rattle.sq_check.specs.Remark.{named, procedure_of}
@@ -26,12 +27,8 @@ any_there t f (y ∷ xs) zero x lt is h =
 any_there t f (y ∷ xs) (suc i) x lt is h =
     list_any-append t (f y) (flat_map f xs) ∙ ap (λ b. list_any t (f y) || b) (any_there t f xs i x (omega (arith, lt)) is h) ∙ or_true (list_any t (f y))
 
-same_name_itself : (n : List ℕ) → same_name n n ≡ true
-same_name_itself [] = refl
-same_name_itself (x ∷ n) = ap₂ (λ a b. a && b) (eq-eqb x x refl) (same_name_itself n)
-
 itself : (m q : Name) → list_any (same_procedure (named m q)) (named m q ∷ []) ≡ true
-itself m q = ap₂ (λ a b. (a && b) || false) (same_name_itself m) (same_name_itself q)
+itself m q = ap₂ (λ a b. (a && b) || false) (nat_list_eq_equiv.refl m) (nat_list_eq_equiv.refl q)
 
 some_found : {A : Type 0} (o : Option A) → is_some o ≡ true → (x : A) × (o ≡ Some x)
 some_found None h = cc

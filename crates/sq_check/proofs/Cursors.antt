@@ -7,6 +7,7 @@ use Rattle.indexmap.specs.IndexMap.{insert_entry}
 use Rattle.sq_lex.specs.declared.name.Name.{Name}
 use Rattle.sq_tree.specs.declared.module.Cursor.{Cursor}
 use Rattle.sq_tree.specs.declared.module.ModuleText.{ModuleText}
+use Rattle.sq_meaning.specs.Environment.{same_name}
 use Rattle.sq_bound.specs.WellFormed.{IsCursor, kinds_of_parameters}
 use Rattle.sq_bound.specs.declared.names.ParameterDesc.{ParameterDesc}
 use Rattle.sq_bound.specs.declared.query.BoundCursor.{BoundCursor}
@@ -14,15 +15,15 @@ use Rattle.sq_bound.specs.declared.query.BoundQuery.{BoundQuery}
 use Rattle.sq_bound.specs.declared.query.CursorBody.TheVariants as body
 use Rattle.sq_bound.specs.declared.query.SortColumn.{SortColumn}
 use Rattle.sq_binding.specs.Cursor.{cursor_bound}
+use Rattle.sq_binding.proofs.SameParameters.{names_equal}
 use Rattle.sq_binder.specs.declared.stop.Fault.{Fault as Broken}
 use Rattle.sq_promises.specs.Names.{declared}
 use Rattle.sq_promises.specs.Written.{IsCursorOf}
 use Rattle.sq_catalog.specs.Catalog.{Catalog, column_kinds, known}
 use Rattle.sq_catalog.specs.UserTables.{names_in}
-use Rattle.sq_module.specs.Program.{same_name}
 use Rattle.sq_module.specs.declared.program.BoundProcedure.{BoundProcedure}
 use Rattle.sq_module.specs.declared.program.Program.{Program}
-use Rattle.sq_module.proofs.Written.{all_entries, names_equal}
+use Rattle.sq_module.proofs.Written.{all_entries}
 use Rattle.sq_check.specs.Modules.{AreOpeners}
 use Rattle.sq_check.specs.Remark.{AreParametersFor, IsCursorRemark, IsOfBody, IsOpener, IsRemarkWith}
 use Rattle.sq_check.specs.Rule.{IsRuleOf}

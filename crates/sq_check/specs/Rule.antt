@@ -15,10 +15,10 @@ use Rattle.sq_tree.specs.declared.cond.SelectList.TheVariants.{Star, Items}
 use Rattle.sq_tree.specs.declared.cond.TableExpression.{TableExpression, out-TableExpression}
 use Rattle.sq_tree.specs.declared.expr.Expr.{Expr}
 use Rattle.sq_tree.specs.declared.module.Cursor.{Cursor}
+use Rattle.sq_meaning.specs.Environment.{same_name}
 use Rattle.sq_meaning.specs.SortKeys.{item_name}
 use Rattle.sq_meaning.specs.Spelled.{Named, expr_of, is_distinct_word, listed, query_of, select_of}
 use Rattle.sq_meaning.specs.Syntax.{Query, specification}
-use Rattle.sq_module.specs.Program.{same_name}
 use Rattle.sq_rules.specs.Words.{is_some_and}
 use Rattle.sq_rules.specs.WellFormed.{only_specification}
 use Rattle.sq_check.specs.declared.rule.Rule.{Rule}

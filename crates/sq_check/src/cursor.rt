@@ -1,6 +1,6 @@
 //! What is to be said of cursors (ISO/IEC 9075:1992, 13.1).
 
-ghost use Rattle.std.specs.Prelude.{◌≡◌, IfOk};
+ghost use Rattle.std.specs.Prelude.{IfOk};
 ghost use Rattle.sq_check.specs.Remark as spec;
 
 use crate::remark::Remark;

@@ -4,7 +4,7 @@ ghost use Rattle.std.specs.Prelude.{◌≡◌, IfOk, OnOk};
 ghost use Rattle.std.specs.List.{IsAmong};
 ghost use Rattle.indexmap.specs.IndexMap.{insert_entry};
 ghost use Rattle.sq_tree.specs.declared.module.ModuleText.{ModuleText as AnyModule};
-ghost use Rattle.sq_module.specs.Program.{same_name};
+ghost use Rattle.sq_meaning.specs.Environment.{same_name};
 ghost use Rattle.sq_module.specs.declared.program.Program.{Program as AnyProgram};
 ghost use Rattle.sq_check.specs.Modules.{AreOpeners};
 ghost use Rattle.sq_check.specs.Remark.{AreParametersFor};

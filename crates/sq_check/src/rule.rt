@@ -4,8 +4,8 @@
 ghost use Rattle.std.specs.Prelude.{◌≡◌, ◌++◌, ◌∷◌, [], true, IfOk, Some, map, not, option_to_list};
 ghost use Rattle.std.specs.List.{list_any};
 ghost use Rattle.std.specs.Option.{option_map};
+ghost use Rattle.sq_meaning.specs.Environment.{same_name};
 ghost use Rattle.sq_meaning.specs.Spelled.{is_distinct_word, listed, query_of, query_term_of};
-ghost use Rattle.sq_module.specs.Program.{same_name};
 ghost use Rattle.sq_rules.specs.Words.{is_some_and};
 ghost use Rattle.sq_check.specs.Rule as spec;
 

@@ -5,6 +5,7 @@ use Rattle.std.proofs.lemmas.List.Folds.{list_any-append}
 use Rattle.std.specs.Cmp.Lexicographic.{same_text}
 use Rattle.std.specs.List.{IsAmong, list_any}
 use Rattle.std.specs.Prelude.{Option, slice_get}
+use Rattle.std.proofs.lemmas.Bool.{and_parts}
 use Rattle.sq_lex.specs.declared.name.Name.{Name}
 use Rattle.sq_tree.specs.declared.«module».ModuleItem.TheVariants as item
 use Rattle.sq_tree.specs.declared.«module».ModuleText.{ModuleText}
@@ -21,14 +22,14 @@ use Rattle.sq_rules.specs.SchemaRefusal.{elements_of}
 use Rattle.sq_laws.proofs.CallLaws.{StateHolds}
 use Rattle.sq_model.specs.Constraints.{ConstraintsHold}
 use Rattle.sq_model.specs.Machine as by_name
-use Rattle.sq_model.specs.Machine.{CursorEntry, Running, is_entry, running}
+use Rattle.sq_model.specs.Machine.{CursorEntry, Running, running}
 use Rattle.sq_model.specs.Parameter.{inputs_of, started_parameters}
 use Rattle.sq_model.specs.Run.{program_of}
 use Rattle.sq_bound.specs.Known.{KnownTables}
 use Rattle.sq_bound.specs.declared.names.ParameterDesc.{ParameterDesc}
-use Rattle.sq_module.specs.Program.{same_name as same_text_name}
 use Rattle.sq_module.specs.Written.{AreApart, Declare, IsDeclaredFrom, IsNumberOf, is_cursor}
 use Rattle.sq_module.specs.declared.program.DeclaredCursor.{DeclaredCursor}
+use Rattle.sq_module.proofs.Named.{bound_declared}
 use Rattle.sq_session.specs.Kind.{caller_of}
 use Rattle.sq_session.specs.Parameter.{started_values}
 use Rattle.sq_session.specs.Schemas.{Schemas}
@@ -40,12 +41,12 @@ use Rattle.sq_places.proofs.Parameters.{AreNamed}
 use Rattle.sq_agreement.proofs.SameStates.{SameStates}
 use Rattle.sq_agreement.proofs.SessionKeeps.{IsCursorHere}
 use Rattle.sq_places.proofs.TargetsSet.{AreParameters}
-use Rattle.sq_headline.proofs.Found.{at_mapped, both_true, cursor_found, itself, never_both}
+use Rattle.sq_headline.proofs.Found.{at_mapped, cursor_found, itself, never_both}
 use Rattle.sq_headline.proofs.GoesOver.{GoesOver}
 use Rattle.sq_headline.proofs.InDomains.{in_domains}
 use Rattle.sq_headline.proofs.Moves.{AllRise, HaveCount}
 use Rattle.sq_headline.proofs.Projected.{IsOver, entry_of, projected, running_projected}
-use Rattle.sq_headline.proofs.Started.{are_parameters, bound_declared, started_same}
+use Rattle.sq_headline.proofs.Started.{are_parameters, started_same}
 
 abbrev pub module_of : DeclaredCursor → Name
 module_of d = d.«module»
@@ -67,7 +68,7 @@ pub record Agrees (texts : List SchemaText) (row_numbers : ℕ) (schemas : Schem
 -- ---- cursors by their names
 
 both_names : (c : DeclaredCursor) (m name : Name) → c.«module» ≡ m → c.name ≡ name → is_cursor m name c ≡ true
-both_names c m name e f = (λ i. same_text_name m (e i) && same_text_name name (f i)) ∙ (λ i. itself m i && itself name i)
+both_names c m name e f = (λ i. same_name m (e i) && same_name name (f i)) ∙ (λ i. itself m i && itself name i)
 
 -- of two places under one name, both are one
 module _ (m name : Name) where
@@ -172,7 +173,7 @@ module _ (texts : List SchemaText) (modules : List ModuleText) (row_numbers : �
               only = λ i e at is.
                   let other = unmapped_at (entry_of module_of name_of x) declared i e at in
                   let e_is : entry_of module_of name_of x other.0 ≡ e = other.2 in
-                  let parts = both_true (same_name e.in_module m.name) (same_name e.name name) is in
+                  let parts = and_parts (same_name e.in_module m.name) (same_name e.name name) is in
                   one_place m.name name [] declared apart i n other.0 d other.1 found.1
                   (ap (λ (y : CursorEntry). y.in_module) e_is ∙ same_text e.in_module m.name (sym parts.0))
                   (ap (λ (y : CursorEntry). y.name) e_is ∙ same_text e.name name (sym parts.1)) found.2.of_module named;

@@ -2,14 +2,13 @@
 -- order of their declaration, and states that are to each other what they were before it.
 --
 -- A procedure with a fault answers 42000 in both, and changes nothing.
-use Rattle.std.proofs.Common.{◌≡◌, ℕ, Bool, true, false, ◌&&◌, List, [], ◌∷◌, length, Option, Some, None, get_or, refl, sym, ap, subst, ◌∙◌, Ok, Err}
-use Rattle.std.proofs.lemmas.List.Quantifiers.{position-Some}
-use Rattle.std.proofs.lemmas.Option.{slice_get-get_or}
+use Rattle.std.proofs.Common.{◌≡◌, ℕ, Bool, true, false, ◌&&◌, List, length, Option, Some, None, refl, sym, ap, subst, ◌∙◌, Ok, Err}
 use Rattle.std.specs.Cmp.Lexicographic.{same_text}
 use Rattle.std.specs.List.{list_any}
 use Rattle.std.specs.Option.{option_and_then, option_map, option_map_or}
-use Rattle.std.specs.Prelude.{IfOk, Result, is_ok, position, slice_get, unwrap_or}
+use Rattle.std.specs.Prelude.{IfOk, Result, is_ok, slice_get, unwrap_or}
 use Rattle.std.specs.Result.{result_map_both, result_ok}
+use Rattle.std.proofs.lemmas.Bool.{and_parts}
 use Rattle.sq_lex.specs.declared.name.Name.{Name}
 use Rattle.sq_tree.specs.declared.«module».ModuleText.{ModuleText}
 use Rattle.sq_tree.specs.declared.schema.SchemaText.{SchemaText}
@@ -29,7 +28,7 @@ use Rattle.sq_rules.specs.SchemaRefusal.{elements_of}
 use Rattle.sq_rules.specs.WellFormed.{is_well_formed_procedure}
 use Rattle.sq_laws.proofs.NameLaws.{accepted_hold_after}
 use Rattle.sq_model.specs.Machine as by_name
-use Rattle.sq_model.specs.Machine.{Call, Outcomes, Running, call_in, call_of, ends_with, outcome, performed, performed_if, replied, running, stepped}
+use Rattle.sq_model.specs.Machine.{Call, Outcomes, Running, call_in, call_of, outcome, performed, performed_if, replied, running, stepped}
 use Rattle.sq_model.specs.Parameter.{replied_with}
 use Rattle.sq_model.specs.Run.{program_of}
 use Rattle.sq_bound.specs.Fits.{FitsStatement}
@@ -43,6 +42,7 @@ use Rattle.sq_bound.specs.declared.statement.ChangeTarget.{ChangeTarget}
 use Rattle.sq_bound.specs.declared.statement.ChangeTarget.TheVariants as change
 use Rattle.sq_promises.specs.Written.{IsTargetOf, filter_placed}
 use Rattle.sq_bound.specs.Condition.{PlacedClause}
+use Rattle.sq_declaring.proofs.Names.{position_at}
 use Rattle.sq_module.specs.Program.{FitsProcedure, OpensWellFormed, ProcedureOpens}
 use Rattle.sq_module.specs.Written.{IsDeclaredFrom, IsFromTexts, IsNumberOf, IsStatementIn}
 use Rattle.sq_module.specs.declared.program.BoundProcedure.{BoundProcedure}
@@ -58,19 +58,13 @@ use Rattle.sq_session.specs.declared.reply.Done.{Done}
 use Rattle.sq_agreement.proofs.SameStates.{SameReply, SameStates, ended_same}
 use Rattle.sq_headline.proofs.Agrees.{Agrees, has_one, module_of, name_of, unmapped_at}
 use Rattle.sq_headline.proofs.Exact.{IsBoundExactly, IsOpenedFrom, IsProcedureExactly}
-use Rattle.sq_headline.proofs.Found.{both_true, each_of_all, itself, module_found, procedure_found}
+use Rattle.sq_headline.proofs.Found.{each_of_all, itself, module_found, procedure_found}
 use Rattle.sq_headline.proofs.GoesOver.{GoesOver, still_over}
 use Rattle.sq_headline.proofs.Moves.{AllRise, HaveCount, InWhere, NamesOnly, count_kept, kept_of_both, performed_goes, rise_kept}
 use Rattle.sq_headline.proofs.Projected.{IsOver, is_named, performed_projected, projected}
 use Rattle.sq_headline.proofs.Started.{as_many}
 use Rattle.sq_headline.proofs.Statements.{some_same, statement_is}
 use Rattle.sq_headline.proofs.Turns.{any_at, over_after}
-
--- what stands at the first place that passes
-pub placed_at : {A : Type 0} (test : A → Bool) (xs : List A) (n : ℕ) → position test xs ≡ Some n → (x : A) × (slice_get xs n ≡ Some x) × (test x ≡ true)
-placed_at test [] n e = cc
-placed_at test (y ∷ xs) n e =
-    let passes = position-Some test (y ∷ xs) n y e in (get_or (y ∷ xs) n y, slice_get-get_or (y ∷ xs) n y passes.0, passes.1)
 
 module _ (texts : List SchemaText) (modules : List ModuleText) (row_numbers : ℕ) (known : KnownTables) (schemas : Schemas) (program : Program)
     (o : IsOpenedFrom texts modules known schemas program) (exact : IsBoundExactly texts modules program) where
@@ -201,12 +195,12 @@ module _ (texts : List SchemaText) (modules : List ModuleText) (row_numbers : �
       × SameReply d (replied machine x (record { in_module = «module»; procedure = name; values = values }))
   call_is_step s x agrees procedures are «module» name number called_as values fit_them d after may =
       let all = procedures_of declared program.procedures.entries in
-      let there = placed_at (is_procedure «module» name) all number (subst (λ ps. procedure_number ps «module» name ≡ Some number) are called_as) in
+      let there = position_at (is_procedure «module» name) all number (subst (λ ps. procedure_number ps «module» name ≡ Some number) are called_as) in
       let found = unmapped_at (procedure_of declared) program.procedures.entries number there.0 there.1 in
       let e : ProcedureName × BoundProcedure = found.0 in
       let is : procedure_of declared e ≡ there.0 = found.2 in
       let here : slice_get procedures number ≡ Some (procedure_of declared e) = ap (λ ps. slice_get ps number) are ∙ there.1 ∙ ap (λ q. Some q) (sym is) in
-      let names = both_true _ _ (subst (λ q. is_procedure «module» name q ≡ true) (sym is) there.2) in
+      let names = and_parts _ _ (subst (λ q. is_procedure «module» name q ≡ true) (sym is) there.2) in
       let f : IsFromTexts known modules declared e = each_of_all (IsFromTexts known modules declared) program.procedures.entries o.is_of.procedures number e found.1 in
       let many = as_many e.1.parameters values (subst (λ z. option_map_or (λ (q : Procedure). fit q.parameters values) z false ≡ true) here fit_them) in
       let both = called s x agrees number e found.1 f values many (exactly number e found.1 f)

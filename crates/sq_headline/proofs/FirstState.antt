@@ -3,6 +3,7 @@ use Rattle.std.proofs.Common.{◌≡◌, ℕ, zero, suc, Bool, true, false, cond
 use Rattle.std.proofs.lemmas.List.Folds.{list_any-append}
 use Rattle.std.specs.List.{AllByRecursion, flat_map, list_any}
 use Rattle.std.specs.Prelude.{find, slice_get}
+use Rattle.std.proofs.lemmas.Bool.{and_parts}
 use Rattle.sq_lex.specs.declared.name.Name.{Name}
 use Rattle.sq_tree.specs.declared.«module».Cursor.{Cursor}
 use Rattle.sq_tree.specs.declared.«module».ModuleText.{ModuleText}
@@ -41,7 +42,6 @@ use Rattle.sq_headline.proofs.Agrees.{Agrees, module_of, name_of}
 use Rattle.sq_headline.proofs.Exact.{IsBoundExactly, IsCursorExactly, IsOpenedFrom}
 use Rattle.sq_headline.proofs.Moves.{AllRise}
 use Rattle.sq_headline.proofs.Projected.{closed_found, entry_of, state_at}
-use Rattle.sq_headline.proofs.Found.{both_true}
 
 -- ---- empty tables
 
@@ -132,7 +132,7 @@ module _ (texts : List SchemaText) (modules : List ModuleText) (row_numbers : �
       let head : c ≡ cursor.Closed = cc in
       let rest : cs ≡ session.all_closed cs = cc in (
         subst (λ y. SameCursor tables d y (cursor_at first d.«module» d.name)) (sym head) (first_closed d.«module» d.name),
-        same_closed tables ds cs (both_true (is_over (over_of d.cursor.body) c) (are_over ds cs) h).1 rest,
+        same_closed tables ds cs (and_parts (is_over (over_of d.cursor.body) c) (are_over ds cs) h).1 rest,
       )
 
   module _ (known : KnownTables) (schemas : Schemas) (program : Program) (o : IsOpenedFrom texts modules known schemas program)

@@ -1,9 +1,8 @@
 -- In modules that the definitions do not refuse each module, procedure and cursor is found by its name, each cursor is opened by exactly
 -- one procedure, and the parameters of a procedure have different names and a domain each (ISO/IEC 9075:1992, 12.1 to 12.3 and 13.1).
-use Rattle.std.proofs.Common.{◌≡◌, ℕ, zero, suc, ◌+◌, ◌<◌, Bool, true, false, cond, not, ◌&&◌, ◌||◌, List, [], ◌∷◌, length, map, take, Option, Some, None, refl, sym, ap, subst, ◌∙◌, arith, ltb-true, eqb-true}
-use Rattle.std.proofs.lemmas.Bool.{lt-ltb}
+use Rattle.std.proofs.Common.{◌≡◌, ℕ, zero, suc, ◌+◌, ◌<◌, Bool, true, false, cond, not, ◌||◌, List, [], ◌∷◌, length, map, take, Option, Some, None, refl, sym, ap, subst, ◌∙◌, arith, ltb-true, eqb-true}
+use Rattle.std.proofs.lemmas.Bool.{lt-ltb, or_parts}
 use Rattle.std.proofs.lemmas.Cmp.{nat_list_eq_equiv}
-use Rattle.std.specs.Cmp.Lexicographic.{same_text}
 use Rattle.std.specs.List.{AllByRecursion, IsAmong, cons_option, enumerate_from, list_any, position_or_len}
 use Rattle.std.specs.Option.{option_or}
 use Rattle.std.specs.Prelude.{◌==◌, filter_map, find, if◌then◌else◌, nat_lt, option_map, position, slice_get, slice_index_or}
@@ -20,6 +19,7 @@ use Rattle.sq_rules.specs.declared.refusal.ModuleFault.{ModuleFault}
 use Rattle.sq_rules.specs.declared.refusal.ModuleFault.TheVariants as module_fault
 use Rattle.sq_rules.specs.Schema.{is_among}
 use Rattle.sq_rules.specs.Words.{first_of, is_some_and}
+use Rattle.sq_change.proofs.RowsChanged.{all_unmapped}
 
 -- ---- lists
 
@@ -81,33 +81,16 @@ found_at {A} test (y ∷ xs) (suc i) x at is none = by_test (test y) (found_at t
 pub itself : (name : Name) → same_name name name ≡ true
 itself name = nat_list_eq_equiv.refl name
 
-pub turned : (a b : Name) → same_name a b ≡ same_name b a
-turned a b = by_tests (same_name a b) (same_name b a) refl refl
-  where
-    by_tests : (x y : Bool) → same_name a b ≡ x → same_name b a ≡ y → x ≡ y
-    by_tests true true e f = refl
-    by_tests false false e f = refl
-    by_tests true false e f = let same : a ≡ b = same_text a b (sym e) in let it : same_name b a ≡ true = ap (same_name b) same ∙ itself b in cc
-    by_tests false true e f = let same : b ≡ a = same_text b a (sym f) in let it : same_name a b ≡ true = ap (same_name a) same ∙ itself a in cc
-
 pub never_both : (b : Bool) → b ≡ true → b ≡ false → ⊥
 never_both b e f = cc
-
-pub both_true : (a b : Bool) → (a && b) ≡ true → (a ≡ true) × (b ≡ true)
-both_true true b h = (refl, h)
-both_true false b h = cc
-
-pub both_false : (a b : Bool) → (a || b) ≡ false → (a ≡ false) × (b ≡ false)
-both_false true b e = cc
-both_false false b e = (refl, e)
 
 -- none of them has the name
 none_among : {A : Type 0} (name_of : A → Name) (name : Name) (xs : List A) → is_among (map name_of xs) name ≡ false
     → list_any (λ x. same_name (name_of x) name) xs ≡ false
 none_among name_of name [] e = refl
 none_among name_of name (x ∷ xs) e =
-    let parts = both_false (same_name name (name_of x)) (is_among (map name_of xs) name) e in
-    (λ i. (turned (name_of x) name ∙ parts.0) i || none_among name_of name xs parts.1 i)
+    let parts = or_parts (same_name name (name_of x)) (is_among (map name_of xs) name) e in
+    (λ i. (nat_list_eq_equiv.symm (name_of x) name ∙ parts.0) i || none_among name_of name xs parts.1 i)
 
 pub mapped_before : {A B : Type 0} (f : A → B) (i : ℕ) (xs : List A) → take i (map f xs) ≡ map f (take i xs)
 mapped_before f zero xs = refl
@@ -132,8 +115,8 @@ found_among {A} of name_of (y ∷ items) (suc i) x a at is none = by_item (of y)
         → find (λ b. same_name (name_of b) (name_of a)) (cons_option o (filter_map of items)) ≡ Some a
     by_item None others none = others none
     by_item (Some b) others none =
-        let parts = both_false (same_name (name_of a) (name_of b)) (is_among (names_before (map (λ z. option_map name_of (of z)) items) i) (name_of a)) none in
-        ap (λ t. cond t (Some b) (find (λ c. same_name (name_of c) (name_of a)) (filter_map of items))) (turned (name_of b) (name_of a) ∙ parts.0)
+        let parts = or_parts (same_name (name_of a) (name_of b)) (is_among (names_before (map (λ z. option_map name_of (of z)) items) i) (name_of a)) none in
+        ap (λ t. cond t (Some b) (find (λ c. same_name (name_of c) (name_of a)) (filter_map of items))) (nat_list_eq_equiv.symm (name_of b) (name_of a) ∙ parts.0)
         ∙ others parts.1
 
 -- at a place of a list with places
@@ -144,10 +127,6 @@ at_enumerated P k (y ∷ xs) h zero x e =
     let same : y ≡ x = cc in let here : k ≡ k + 0 = omega arith in subst (λ n. P (n, x)) here (subst (λ z. P (k, z)) same h.0)
 at_enumerated P k (y ∷ xs) h (suc i) x e =
     let there : k + 1 + i ≡ k + suc i = omega arith in subst (λ n. P (n, x)) there (at_enumerated P (k + 1) xs h.1 i x e)
-
-pub unmapped : {A B : Type 0} (P : B → Type 0) (f : A → B) (xs : List A) → AllByRecursion P (map f xs) → AllByRecursion (λ x. P (f x)) xs
-unmapped P f [] h = tt
-unmapped P f (x ∷ xs) h = (h.0, unmapped P f xs h.1)
 
 pub at_mapped : {A B : Type 0} (f : A → B) (xs : List A) (i : ℕ) (x : A) → slice_get xs i ≡ Some x → slice_get (map f xs) i ≡ Some (f x)
 at_mapped f [] i x e = cc
@@ -206,7 +185,7 @@ admitted_at modules e i m at =
     let none : 0 + i ≡ i = omega arith in
     let all = none_of_first (map (λ n. module_refusal (modules_before modules n.0) n.0 n.1) (enumerate_from 0 modules)) e in
     let here = at_enumerated (λ n. module_refusal (modules_before modules n.0) n.0 n.1 ≡ None) 0 modules
-    (unmapped (λ o. o ≡ None) (λ n. module_refusal (modules_before modules n.0) n.0 n.1) (enumerate_from 0 modules) all) i m at in
+    (all_unmapped (λ o. o ≡ None) (λ n. module_refusal (modules_before modules n.0) n.0 n.1) (enumerate_from 0 modules) all) i m at in
     admitted_by modules i m (subst (λ n. module_refusal (modules_before modules n) n m ≡ None) none here)
 
 -- ---- what is found

@@ -1,8 +1,8 @@
 -- What a statement makes of the machine's state (ISO/IEC 9075:1992, 13.2 to 13.10, 14.3 and 14.4): of its tables, whose rows go on to stand by
 -- rising numbers, and of its cursors, of which it sets none but the one that it names.
-use Rattle.std.proofs.Common.{◌≡◌, ℕ, zero, suc, ◌+◌, ◌≤◌, Bool, true, false, cond, not, ◌&&◌, List, [], ◌∷◌, filter, length, map, slice_set, Option, Some, None, refl, sym, ap, subst, ◌∙◌, arith, Ok, Err, eqb-true}
+use Rattle.std.proofs.Common.{◌≡◌, ℕ, zero, suc, ◌+◌, ◌≤◌, Bool, true, false, not, ◌&&◌, List, [], ◌∷◌, filter, length, map, slice_set, Option, Some, None, refl, sym, ap, subst, ◌∙◌, arith, Ok, Err}
 use Rattle.std.proofs.lemmas.Grind.{common_steps}
-use Rattle.std.specs.Prelude.{⊤, ◌==◌, find, if◌then◌else◌, nat_le, option_map, unwrap_or}
+use Rattle.std.specs.Prelude.{⊤, if◌then◌else◌, nat_le, option_map, unwrap_or}
 use Rattle.sq_lex.specs.declared.name.Name.{Name}
 use Rattle.sq_store.proofs.Rises.{rising_push}
 use Rattle.sq_store.specs.Content.{Content, inserted, table_at, with_table}
@@ -33,6 +33,7 @@ use Rattle.sq_model.specs.Constraints.{constraints_checked, demanded}
 use Rattle.sq_model.specs.Cursor.{CursorState, fetched, is_open, off_row}
 use Rattle.sq_model.specs.Machine.{Outcomes, Running, State, all_closed, behind_delete, change_by, cursor_now, delete_rows, ends_with, fetch_cursor, fetch_to, move_of, moved, open_by, open_cursor, opened, performed, set_cursor, setting, shown_now, surroundings, update_rows, which_rows}
 use Rattle.sq_model.specs.Parameter.{Reply, replied_with}
+use Rattle.sq_agreement.proofs.UpdateSame.{number_kept}
 
 -- ---- rows that stand by rising numbers
 
@@ -53,15 +54,6 @@ rising_mapped : (f : Numbered → Numbered) → ((r : Numbered) → (f r).number
 rising_mapped f h low [] next = refl
 rising_mapped f h low (r ∷ rs) next =
     (λ i. nat_le low (h r i) && rising_between (h r i + 1) (map f rs) next) ∙ ap (λ b. nat_le low r.number && b) (rising_mapped f h (r.number + 1) rs next)
-
-number_stays : (changed : List Numbered) (r : Numbered) → (replaced changed r).number ≡ r.number
-number_stays [] r = refl
-number_stays (c ∷ changed) r = by_test (c.number == r.number) refl (number_stays changed r)
-  where
-    by_test : (b : Bool) → (c.number == r.number) ≡ b → (replaced changed r).number ≡ r.number
-        → (unwrap_or (cond b (Some c) (find (λ x. x.number == r.number) changed)) r).number ≡ r.number
-    by_test true is others = eqb-true c.number r.number is
-    by_test false is others = others
 
 rising_inserted : (rows : List Row) (t : Table) → has_rising_rows t ≡ true → has_rising_rows (with_rows t rows) ≡ true
 rising_inserted [] t h = h
@@ -103,7 +95,7 @@ update_is s u which after e =
     let numbers = bind_ok (numbers_changed s target.0 which) _ after t.2 in
     let changed = bind_ok (each (updated_row s d.0 target.0 t.0 u) (filter (is_numbered numbers.0) (rows_at s (target.0).place))) _ after numbers.2 in
     completed_is s target.0 t.0 (map (λ r. r.row) changed.0) (with_replaced (table_at s.content (target.0).place) changed.0) after
-    (λ h. rising_mapped (replaced changed.0) (number_stays changed.0) 1 (table_at s.content (target.0).place).rows (table_at s.content (target.0).place).next ∙ h) changed.2
+    (λ h. rising_mapped (replaced changed.0) (number_kept changed.0) 1 (table_at s.content (target.0).place).rows (table_at s.content (target.0).place).next ∙ h) changed.2
 
 delete_is : (s : Setting) (x : Delete) (which : Which) (after : Content) → delete_outcome s x which ≡ Ok after → IsChanged s.content after
 delete_is s x which after e =

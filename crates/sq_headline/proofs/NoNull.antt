@@ -1,5 +1,5 @@
 -- No statement and no cursor spells a literal that is null (ISO/IEC 9075:1992, 5.3).
-use Rattle.std.proofs.Common.{◌≡◌, List, [], ◌∷◌, Option, Some, None}
+use Rattle.std.proofs.Common.{List, [], ◌∷◌, Option, Some, None}
 use Rattle.std.specs.List.{AllByRecursion}
 use Rattle.sq_tree.specs.declared.«module».Cursor.{Cursor}
 use Rattle.sq_tree.specs.declared.statement.Assignment.{Assignment}

@@ -22,8 +22,8 @@ use Rattle.sq_promises.specs.Written.{IsCursorOf}
 use Rattle.sq_module.specs.Written.{IsDeclaredFrom, IsOpenedIn}
 use Rattle.sq_module.specs.declared.program.DeclaredCursor.{DeclaredCursor}
 use Rattle.sq_promises.specs.Names.{declared}
+use Rattle.sq_module.proofs.Named.{bound_declared}
 use Rattle.sq_headline.proofs.Found.{itself, opened_once, procedure_found}
-use Rattle.sq_headline.proofs.Started.{bound_declared}
 
 -- ---- parameters are the same where their names and domains are
 

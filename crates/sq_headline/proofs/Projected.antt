@@ -4,6 +4,7 @@ use Rattle.std.proofs.Common.{◌≡◌, ℕ, Bool, true, false, cond, ◌&&◌,
 use Rattle.std.specs.Cmp.Lexicographic.{same_text}
 use Rattle.std.specs.List.{AllByRecursion, list_any}
 use Rattle.std.specs.Prelude.{find, if◌then◌else◌, option_and_then, option_map, unwrap_or}
+use Rattle.std.proofs.lemmas.Bool.{and_parts}
 use Rattle.sq_lex.specs.declared.name.Name.{Name}
 use Rattle.sq_store.specs.Content.{Content}
 use Rattle.sq_tree.specs.declared.«module».Cursor.{Cursor}
@@ -23,7 +24,6 @@ use Rattle.sq_model.specs.Change.{Which, delete_outcome, insert_outcome, update_
 use Rattle.sq_model.specs.Cursor.{CursorState, fetched, is_open, number_on, off_row}
 use Rattle.sq_model.specs.Machine.{CursorEntry, Outcomes, Running, State, all_closed, behind_delete, change_by, close_cursor, committed_state, cursor_at, cursor_now, delete_rows, ends_with, fetch_cursor, fetch_to, is_entry, move_of, moved, open_by, open_cursor, opened, performed, rolled_back, row_is_there, set_cursor, setting, shown_now, surroundings, update_rows, which_rows, with_cursor, with_named}
 use Rattle.sq_model.specs.Parameter.{replied_with}
-use Rattle.sq_headline.proofs.Found.{both_true}
 
 -- ---- entries under a name
 
@@ -42,7 +42,7 @@ set_found m name k other x (e ∷ es) there =
   where
     names_are : is_entry k other e ≡ true → is_entry m name e ≡ (same_name k m && same_name other name)
     names_are h =
-        let parts = both_true (same_name e.in_module k) (same_name e.name other) h in
+        let parts = and_parts (same_name e.in_module k) (same_name e.name other) h in
         (λ i. same_name (same_text e.in_module k (sym parts.0) i) m && same_name (same_text e.name other (sym parts.1) i) name)
 
     by_tests : (a : Bool) → is_entry m name e ≡ a → (b : Bool) → is_entry k other e ≡ b
@@ -122,7 +122,7 @@ module _ {D : Type 0} (module_of name_of : D → Name) where
                 → ((list_any (is_named m name) ds ≡ false → cursor_at x m name ≡ CursorState.closed) → state_at (map (entry_of x) ds) m name ≡ cursor_at x m name)
                 → state_in (cond b (Some (entry_of x d)) (find (is_entry m name) (map (entry_of x) ds))) ≡ cursor_at x m name
             by_test true is h others =
-                let parts = both_true (same_name (module_of d) m) (same_name (name_of d) name) is in
+                let parts = and_parts (same_name (module_of d) m) (same_name (name_of d) name) is in
                 (λ i. cursor_at x (same_text (module_of d) m (sym parts.0) i) (same_text (name_of d) name (sym parts.1) i))
             by_test false is h others = others h
 

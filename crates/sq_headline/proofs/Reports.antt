@@ -4,6 +4,7 @@ use Rattle.std.proofs.Common.{◌≡◌, ℕ, zero, suc, List, [], ◌∷◌, �
 use Rattle.std.specs.Cmp.Lexicographic.{pointwise, same_text}
 use Rattle.std.specs.Option.{option_map}
 use Rattle.std.specs.Prelude.{nat_eq, slice_get, unwrap_or}
+use Rattle.std.proofs.lemmas.Bool.{and_parts}
 use Rattle.sq_lex.specs.declared.name.Name.{Name}
 use Rattle.sq_tree.specs.declared.«module».ModuleText.{ModuleText}
 use Rattle.sq_tree.specs.declared.schema.SchemaText.{SchemaText}
@@ -13,11 +14,12 @@ use Rattle.sq_rules.specs.Schema.{BaseTable, base_place}
 use Rattle.sq_rules.specs.SchemaRefusal.{elements_of, first_schema_refusal}
 use Rattle.sq_laws.proofs.NameLaws.{accepted_names_differ}
 use Rattle.sq_model.specs.Machine as by_name
-use Rattle.sq_model.specs.Machine.{replied, stepped}
+use Rattle.sq_model.specs.Machine.{replied}
 use Rattle.sq_model.specs.Parameter.{Reply as MachineReply}
 use Rattle.sq_model.specs.Report.{Bytes, call_line, item_lines, report, shown_table, table_lines}
 use Rattle.sq_model.specs.Run.{after_item, program_of}
 use Rattle.sq_bound.specs.Known.{KnownTables}
+use Rattle.sq_declaring.proofs.Names.{position_at}
 use Rattle.sq_catalog.specs.Catalog.{declared_definitions, declared_tables, is_table, table_number}
 use Rattle.sq_catalog.specs.declared.catalog.FullName.{FullName}
 use Rattle.sq_module.specs.declared.program.Program.{Program}
@@ -34,9 +36,8 @@ use Rattle.sq_agreement.proofs.Declared.{definitions_counted}
 use Rattle.sq_agreement.proofs.DeclaredTables.{base_tables_named, named_table, named_tables}
 use Rattle.sq_agreement.proofs.SameStates.{SameReply}
 use Rattle.sq_headline.proofs.Agrees.{Agrees}
-use Rattle.sq_headline.proofs.CallIsStep.{call_is_step, placed_at}
+use Rattle.sq_headline.proofs.CallIsStep.{call_is_step}
 use Rattle.sq_headline.proofs.Exact.{IsBoundExactly, IsOpenedFrom}
-use Rattle.sq_headline.proofs.Found.{both_true}
 
 -- what a script asks a session for has no public name
 abbrev source_of : {A B : Type 0} → (A → B) → Type 0
@@ -60,8 +61,8 @@ pub base_found : (texts : List SchemaText) → first_schema_refusal texts ≡ No
     → table_number (declared_tables texts) user name ≡ Some k
     → base_place (elements_of texts) (record { user = user; name = name }) ≡ Some k
 base_found texts accepted user name k at =
-    let found = placed_at (is_table user name) (declared_tables texts) k at in
-    let parts = both_true (pointwise nat_eq user (found.0).user) (pointwise nat_eq name (found.0).name) found.2 in
+    let found = position_at (is_table user name) (declared_tables texts) k at in
+    let parts = and_parts (pointwise nat_eq user (found.0).user) (pointwise nat_eq name (found.0).name) found.2 in
     let counted : length (declared_definitions texts) ≡ length (declared_tables texts)
     = ap (λ ds. length ds) (declared_definitions_are texts) ∙ definitions_counted (elements_of texts) ∙ ap (λ ts. length ts) (sym (declared_tables_are texts)) in
     let base = named_at (declared_tables texts) (declared_definitions texts) k found.0 counted found.1 in

@@ -5,6 +5,7 @@ use Rattle.std.proofs.Common.{◌≡◌, Bool, true, false, cond, not, ◌&&◌,
 use Rattle.std.specs.List.{AllByRecursion, flat_map, list_any, zip}
 use Rattle.std.specs.Prelude.{find, if◌then◌else◌, is_err, is_ok, option_and_then, option_map}
 use Rattle.std.specs.Result.{result_ok}
+use Rattle.std.proofs.lemmas.Bool.{not-false}
 use Rattle.sq_lex.specs.declared.name.Name.{Name}
 use Rattle.sq_value.specs.declared.domain.Kind.{Kind}
 use Rattle.sq_tree.specs.declared.«module».Cursor.{Cursor}
@@ -66,14 +67,10 @@ module _ (j : Judged) (sites : List Site) (e : is_well_formed j sites ≡ true) 
   pub all_cursors : AllByRecursion (λ s. unknown_cursor j.known s ≡ false) sites
   all_cursors = none_passes (unknown_cursor j.known) sites none_there.1.1.1.1.1.1.1.1.1.1.1.1.1.1.0
 
-is_true : (b : Bool) → not b ≡ false → b ≡ true
-is_true true e = refl
-is_true false e = cc
-
 -- ---- a table that is changed
 
 known_there : (k : Known) (t : TableName) → IsSound k (Site.table_changed t) → is_known_table k t ≡ true
-known_there k t h = is_true (is_known_table k t) h.tables
+known_there k t h = not-false (is_known_table k t) h.tables
 
 not_failed : (b : Bool) (o : Outcome Target) → b ≡ true → (b && is_err o) ≡ false → (target : Target) × (o ≡ Ok target)
 not_failed true (Ok target) is e = (target, refl)
@@ -104,7 +101,7 @@ module _ (u : Surroundings) (name : Name) (c : Cursor) (named : cursor_named u.i
 
   -- its query has no fault
   pub cursor_sound : unknown_cursor (known_in u) (Site.cursor_used name) ≡ false → is_sound u c ≡ true
-  cursor_sound e = is_true (is_sound u c) (sym (ap (λ (o : Option KnownCursor). not (is_some_and (λ k. k.sound) o)) known_as) ∙ e)
+  cursor_sound e = not-false (is_sound u c) (sym (ap (λ (o : Option KnownCursor). not (is_some_and (λ k. k.sound) o)) known_as) ∙ e)
 
   -- What a positioned statement changes is the table that the cursor is over.
   pub record IsOverTable (t : TableName) : Type 0 where
@@ -119,7 +116,7 @@ module _ (u : Surroundings) (name : Name) (c : Cursor) (named : cursor_named u.i
       over : (b : Bool) → b ≡ true → (b && is_some_and (λ k. not (is_over t k)) (cursor_known (known_in u) name)) ≡ false
           → is_over t (known_cursor u c) ≡ true
       over false is e = cc
-      over true is e = is_true (is_over t (known_cursor u c)) (sym (ap (λ (o : Option KnownCursor). is_some_and (λ k. not (is_over t k)) o) known_as) ∙ e)
+      over true is e = not-false (is_over t (known_cursor u c)) (sym (ap (λ (o : Option KnownCursor). is_some_and (λ k. not (is_over t k)) o) known_as) ∙ e)
 
       by_under : (q : Select Named) → updatable_query u c ≡ Some q → (s : Source) → updatable_source (tables_of u.elements) q ≡ Ok s
           → (o : Outcome Target) → target_of (tables_of u.elements) s.item.reference.table ≡ o

@@ -4,6 +4,7 @@ use Rattle.std.proofs.Common.{◌≡◌, ℕ, zero, suc, true, false, List, [], 
 use Rattle.std.specs.List.{AllByRecursion, IsAmong, flat_map}
 use Rattle.std.specs.Option.{option_and_then, option_map}
 use Rattle.std.specs.Prelude.{slice_get, slice_index_or, unwrap_or}
+use Rattle.std.proofs.lemmas.Bool.{and_parts}
 use Rattle.sq_lex.specs.declared.name.Name.{Name}
 use Rattle.sq_tree.specs.declared.«module».Cursor.{Cursor}
 use Rattle.sq_tree.specs.declared.«module».ModuleItem.TheVariants as item
@@ -35,7 +36,7 @@ use Rattle.sq_rules.specs.WellFormed.{Surroundings, column_kind, delete_sites, i
 use Rattle.sq_laws.proofs.SiteLaws.{AreSound, IsSound, all_parts}
 use Rattle.sq_model.proofs.KindLaws.{started_of_its_kind}
 use Rattle.sq_model.specs.Machine as by_name
-use Rattle.sq_model.specs.Machine.{Outcomes, performed}
+use Rattle.sq_model.specs.Machine.{performed}
 use Rattle.sq_bound.specs.Fits.{FitsStatement, FitsTarget, IsBase, IsColumnOf, under as below}
 use Rattle.sq_bound.specs.Known.{KnownTables, under_of}
 use Rattle.sq_bound.specs.WellFormed.{IsCursor, kinds_of_parameters}
@@ -75,7 +76,7 @@ use Rattle.sq_places.proofs.Stars.{ClauseStars}
 use Rattle.sq_places.proofs.TargetsSet.{AreApart}
 use Rattle.sq_headline.proofs.Agrees.{Agrees, called, cursor_here, few, has_one, kept}
 use Rattle.sq_headline.proofs.Exact.{IsBoundExactly, IsCursorExactly, IsOpenedFrom}
-use Rattle.sq_headline.proofs.Found.{both_true, cursor_found, module_found, parameters_good}
+use Rattle.sq_headline.proofs.Found.{cursor_found, module_found, parameters_good}
 use Rattle.sq_headline.proofs.Openers.{bound_for}
 use Rattle.sq_headline.proofs.Rules.{all_behind, all_cursors, all_updatable, are_sound, cursor_sound, cursor_stars, over_table, select_into_stars, source_right, target_there, where_stars, written}
 use Rattle.sq_headline.proofs.Started.{bound_apart}
@@ -96,8 +97,8 @@ over_one [] cs n d h at = cc
 over_one (x ∷ ds) [] n d h at = cc
 over_one (x ∷ ds) (c ∷ cs) zero d h at =
     let same : x ≡ d = cc in
-    subst (λ (y : DeclaredCursor). is_over (over_of y.cursor.body) c ≡ true) same (both_true (is_over (over_of x.cursor.body) c) (are_over ds cs) h).0
-over_one (x ∷ ds) (c ∷ cs) (suc n) d h at = over_one ds cs n d (both_true (is_over (over_of x.cursor.body) c) (are_over ds cs) h).1 at
+    subst (λ (y : DeclaredCursor). is_over (over_of y.cursor.body) c ≡ true) same (and_parts (is_over (over_of x.cursor.body) c) (are_over ds cs) h).0
+over_one (x ∷ ds) (c ∷ cs) (suc n) d h at = over_one ds cs n d (and_parts (is_over (over_of x.cursor.body) c) (are_over ds cs) h).1 at
 
 -- a search condition as it is written, whatever the user
 stars_written : (u : Surroundings) (w : Option Where) → ClauseStars (written u w) → WhereStars (own u) w

@@ -3,11 +3,12 @@ use Rattle.std.proofs.Common.{◌≡◌, ℕ, zero, suc, Bool, true, false, cond
 use Rattle.std.specs.Cmp.Lexicographic.{same_text}
 use Rattle.std.specs.List.{AllByRecursion, list_any}
 use Rattle.std.specs.Prelude.{find, if◌then◌else◌, slice_get}
+use Rattle.std.proofs.lemmas.Bool.{and_parts}
 use Rattle.sq_lex.specs.declared.name.Name.{Name}
 use Rattle.sq_meaning.specs.Environment.{same_name}
 use Rattle.sq_model.specs.Cursor.{CursorState}
 use Rattle.sq_model.specs.Machine.{CursorEntry, State, all_closed, is_entry, set_cursor}
-use Rattle.sq_headline.proofs.Found.{both_true, never_both}
+use Rattle.sq_headline.proofs.Found.{never_both}
 use Rattle.sq_headline.proofs.Moves.{Turn}
 use Rattle.sq_headline.proofs.Projected.{IsOver, closed_found, closed_there, is_named, set_found, state_at, state_in, still_there}
 
@@ -49,7 +50,7 @@ module _ {D : Type 0} (module_of name_of : D → Name) (ds : List D) (x y : Stat
     where
       apart : (same_name k m && same_name other name) ≡ true → ⊥
       apart e =
-          let parts = both_true (same_name k m) (same_name other name) e in
+          let parts = and_parts (same_name k m) (same_name other name) e in
           let it : list_any (is_named module_of name_of k other) ds ≡ true
           = (λ i. list_any (is_named module_of name_of (same_text k m (sym parts.0) i) (same_text other name (sym parts.1) i)) ds) ∙ named in
           never_both (list_any (is_named module_of name_of k other) ds) it none

@@ -1,11 +1,11 @@
 -- Cursors that differ in their modules or their names: each is added with the only procedure that opens it.
-use Rattle.std.proofs.Common.{◌≡◌, ℕ, zero, suc, ◌+◌, ◌<◌, ◌≤◌, Bool, true, false, cond, not, ◌&&◌, ◌||◌, List, [], ◌∷◌, ◌++◌, Option, None, Some, IfSome, Result, Ok, Err, OnOk, if◌then◌else◌, length, get_or, take, map, flat_map, refl, ap, ap₂, sym, subst, ◌∙◌, true≢false, append_assoc, arith}
-use Rattle.std.proofs.lemmas.Bool.{eqb-true, not-false}
+use Rattle.std.proofs.Common.{◌≡◌, ℕ, zero, suc, ◌+◌, ◌<◌, ◌≤◌, Bool, true, false, cond, not, ◌&&◌, ◌||◌, List, [], ◌∷◌, ◌++◌, Option, None, Some, IfSome, if◌then◌else◌, length, get_or, take, map, flat_map, refl, ap, ap₂, sym, subst, ◌∙◌, true≢false, append_assoc, arith}
+use Rattle.std.proofs.lemmas.Bool.{eqb-true, not-false, or_parts}
 use Rattle.std.proofs.lemmas.List.{append-nil, map-append, take_more}
 use Rattle.std.proofs.lemmas.List.Folds.{list_any-append}
 use Rattle.std.proofs.lemmas.List.Sums.{sum_by-append}
 use Rattle.std.specs.Borrow.{Bor}
-use Rattle.std.specs.List.{AllByRecursion, IsAmong, list_any}
+use Rattle.std.specs.List.{AllByRecursion, list_any}
 use Rattle.std.specs.Map.{lookup}
 use Rattle.std.specs.Prelude.{◌==◌, count_by}
 use Rattle.sq_lex.specs.declared.name.Name.{Name}
@@ -13,24 +13,19 @@ use Rattle.sq_tree.specs.declared.module.Cursor.{Cursor}
 use Rattle.sq_tree.specs.declared.module.ModuleItem.{ModuleItem}
 use Rattle.sq_tree.specs.declared.module.ModuleItem.TheVariants as item
 use Rattle.sq_tree.specs.declared.statement.Statement.TheVariants as tree
+use Rattle.sq_meaning.specs.Environment.{same_name}
 use Rattle.sq_module.specs.Admitted.{AreAdmitted, OpensEachOnce, opened_of, opening_in, openings}
 use Rattle.sq_bound.specs.WellFormed.{kinds_of_parameters}
+use Rattle.sq_binding.proofs.SameParameters.{name_itself, names_equal}
 use Rattle.sq_module.specs.Opened.{AreOfOthers, HaveKinds, IsNew, IsOnlyOpener, OpenedBy, OpensNew, is_in}
-use Rattle.sq_module.specs.Program.{same_name}
 use Rattle.sq_module.specs.Refusal.{has_open_count, is_name, opened_by, opened_in, opener_count}
 use Rattle.sq_module.specs.Written.{AreApart, IsCursorIn, is_cursor}
 use Rattle.sq_module.specs.declared.admission.AdmittedModule.{AdmittedModule}
 use Rattle.sq_module.specs.declared.admission.AdmittedProcedure.{AdmittedProcedure}
 use Rattle.sq_module.specs.declared.program.DeclaredCursor.{DeclaredCursor}
 use Rattle.sq_module.proofs.Fitting.{all_last}
-use Rattle.sq_module.proofs.Opening.{name_itself}
-use Rattle.sq_module.proofs.Written.{names_equal}
 
 -- ---- names and tests
-
-pub either : (a b : Bool) → (a || b) ≡ false → (a ≡ false) × (b ≡ false)
-either true b h = cc
-either false b h = (refl, h)
 
 or_true : (b : Bool) → (b || true) ≡ true
 or_true true = refl
@@ -87,7 +82,7 @@ opened_by_turn n procedures i p cursors lt is all =
 pub opened_by_none : (n : Name) (cursors : List DeclaredCursor) → AreOfOthers n cursors → OpenedBy n [] cursors
 opened_by_none n [] none = tt
 opened_by_none n (c ∷ cursors) none =
-    let both = either (is_in n c) (list_any (is_in n) cursors) none in
+    let both = or_parts (is_in n c) (list_any (is_in n) cursors) none in
     ((λ own. absurd (true≢false (sym own ∙ both.0))), opened_by_none n cursors both.1)
 
 -- a cursor that none of these procedures opens isn't there
@@ -145,7 +140,7 @@ none_counted p (y ∷ ys) none = by (p y) refl (count_cons p y ys) (λ left. non
 
 none_pass : {X : Type 0} (p : X → Bool) (x : X) (xs : List X) → list_any p xs ≡ false → AllByRecursion (λ y. p y ≡ true → y ≡ x) xs
 none_pass p x [] none = tt
-none_pass p x (y ∷ ys) none = let both = either (p y) (list_any p ys) none in ((λ passes. absurd (true≢false (sym passes ∙ both.0))), none_pass p x ys both.1)
+none_pass p x (y ∷ ys) none = let both = or_parts (p y) (list_any p ys) none in ((λ passes. absurd (true≢false (sym passes ∙ both.0))), none_pass p x ys both.1)
 
 -- where one passes, and it is this one, no other does
 pub only_passes : {X : Type 0} (p : X → Bool) (xs : List X) (i : ℕ) (x : X) → i < length xs → x ≡ get_or xs i x → p x ≡ true → count_by p xs ≡ 1 → AllByRecursion (λ y. p y ≡ true → y ≡ x) xs
@@ -174,7 +169,7 @@ counted_any {X} p xs once = by (list_any p xs) refl
     counted_none : (ys : List X) → list_any p ys ≡ false → count_by p ys ≡ 0
     counted_none [] none = refl
     counted_none (y ∷ ys) none =
-        let both = either (p y) (list_any p ys) none in
+        let both = or_parts (p y) (list_any p ys) none in
         let more = count_cons p y ys in
         let zero_here : ◌≡◌ {A = ℕ} (cond (p y) 1 0) 0 = ap (λ b. cond b 1 0) both.0 in
         let rest : count_by p ys ≡ 0 = counted_none ys both.1 in omega (arith, zero_here, more, rest)
@@ -274,8 +269,8 @@ count_opened (item.Cursor c ∷ items) name =
 
 none_among : {X : Type 0} (p : X → Bool) (xs : List X) (i : ℕ) (x : X) → i < length xs → x ≡ get_or xs i x → list_any p xs ≡ false → p x ≡ false
 none_among p [] i x lt is none = let no : ⊥ = omega (arith, lt) in absurd no
-none_among p (y ∷ ys) zero x lt is none = ap p is ∙ (either (p y) (list_any p ys) none).0
-none_among p (y ∷ ys) (suc i) x lt is none = none_among p ys i x (omega (arith, lt)) is (either (p y) (list_any p ys) none).1
+none_among p (y ∷ ys) zero x lt is none = ap p is ∙ (or_parts (p y) (list_any p ys) none).0
+none_among p (y ∷ ys) (suc i) x lt is none = none_among p ys i x (omega (arith, lt)) is (or_parts (p y) (list_any p ys) none).1
 
 pub admitted_once : (items : List ModuleItem) (procedures : List AdmittedProcedure) (cursors : List (Name × Bor Cursor)) → openings procedures ≡ flat_map opening_in items
     → list_any (has_open_count items) items ≡ false → AllByRecursion (IsCursorIn items) cursors → AllByRecursion (λ e. count_by (is_name e.0) (openings procedures) ≡ 1) cursors
@@ -329,5 +324,5 @@ some_next modules i a cursors new lt is others of n none =
     let split : (list_any (same_name n) (map (λ x. x.name) (take i modules)) || (same_name n a.name || false)) ≡ false =
     sym (list_any-append (same_name n) (map (λ x. x.name) (take i modules)) (a.name ∷ [])) ∙ sym (ap (list_any (same_name n)) (map-append (λ x. x.name) (take i modules) (a ∷ [])))
     ∙ sym (ap (λ l. list_any (same_name n) (map (λ x. x.name) l)) more) ∙ none in
-    let both = either (list_any (same_name n) (map (λ x. x.name) (take i modules))) (same_name n a.name || false) split in
-    others n (either (same_name n a.name) false both.1).0 (of n both.0)
+    let both = or_parts (list_any (same_name n) (map (λ x. x.name) (take i modules))) (same_name n a.name || false) split in
+    others n (or_parts (same_name n a.name) false both.1).0 (of n both.0)

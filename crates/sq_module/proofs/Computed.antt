@@ -1,10 +1,11 @@
 -- What is bound, one after the other, is what the definitions compute (ISO/IEC 9075:1992, 12.1, 12.3 and 13.1).
-use Rattle.std.proofs.Common.{◌≡◌, ◌∙◌, ℕ, Bool, true, false, List, [], ◌∷◌, ◌++◌, Option, Some, None, Result, Ok, Err, refl, sym, ap, subst}
-use Rattle.std.specs.List.{AllByRecursion, IsAmong, list_any}
+use Rattle.std.proofs.Common.{◌≡◌, ◌∙◌, ℕ, true, false, List, [], ◌∷◌, ◌++◌, Option, Some, Result, Ok, Err, sym, ap, subst}
+use Rattle.std.specs.List.{IsAmong, list_any}
 use Rattle.std.specs.Map.{lookup}
 use Rattle.std.specs.Option.{option_map}
 use Rattle.std.specs.Borrow.{Bor}
 use Rattle.std.specs.Prelude.{IfSome}
+use Rattle.std.proofs.lemmas.Bool.{and_parts}
 use Rattle.indexmap.specs.IndexMap.{insert_entry}
 use Rattle.sq_lex.specs.declared.name.Name.{Name}
 use Rattle.sq_tree.specs.declared.module.Cursor.{Cursor}
@@ -12,17 +13,18 @@ use Rattle.sq_tree.specs.declared.module.ModuleItem.TheVariants as item
 use Rattle.sq_tree.specs.declared.module.ModuleText.{ModuleText}
 use Rattle.sq_tree.specs.declared.module.Procedure.{Procedure}
 use Rattle.sq_tree.specs.declared.statement.Statement.TheVariants as tree
-use Rattle.sq_meaning.specs.Tables.{Declared}
+use Rattle.sq_meaning.specs.Environment.{same_name}
 use Rattle.sq_rules.specs.Module.{cursor_named, declared_parameters}
 use Rattle.sq_rules.specs.WellFormed.{opener_parameters}
 use Rattle.sq_bound.specs.declared.query.BoundCursor.{BoundCursor}
 use Rattle.sq_bound.specs.declared.statement.BoundStatement.{BoundStatement}
 use Rattle.sq_binding.specs.Change.{NamedCursors}
 use Rattle.sq_binding.specs.Changeable.{UserNames}
-use Rattle.sq_binding.specs.Cursor.{NumberedCursor, cursor_bound}
+use Rattle.sq_binding.specs.Cursor.{cursor_bound}
 use Rattle.sq_binding.specs.Outcome.{Outcome}
 use Rattle.sq_binding.specs.Procedure.{module_cursors, procedure_bound}
 use Rattle.sq_binding.specs.Statement.{NumberedStatement, statement_bound}
+use Rattle.sq_binding.proofs.SameParameters.{names_equal}
 use Rattle.sq_binder.specs.Binds.{Binds}
 use Rattle.sq_binder.specs.declared.stop.Fault.{Fault}
 use Rattle.sq_binder.specs.declared.stop.Stop.{Stop}
@@ -30,8 +32,8 @@ use Rattle.sq_promises.specs.Names.{declared}
 use Rattle.sq_promises.specs.Seen.{cursor_seen, statement_seen}
 use Rattle.sq_module.specs.Admitted.{opened_of}
 use Rattle.sq_module.specs.Computed.{AreComputedCursors, AreComputedProcedures, IsComputed, IsComputedCursor, IsComputedProcedure, as_bound}
-use Rattle.sq_module.specs.Named.{AreNamedAs, IsNext, IsOnlyIn, cursors_named, number_in}
-use Rattle.sq_module.specs.Program.{same_name, same_procedure}
+use Rattle.sq_module.specs.Named.{IsNext, IsOnlyIn}
+use Rattle.sq_module.specs.Program.{same_procedure}
 use Rattle.sq_module.specs.Refusal.{is_name, opened_by}
 use Rattle.sq_module.specs.Written.{IsOfText, IsProcedureOf}
 use Rattle.sq_module.specs.Admitted.{openings}
@@ -42,7 +44,7 @@ use Rattle.sq_module.specs.declared.program.DeclaredCursor.{DeclaredCursor}
 use Rattle.sq_module.specs.declared.program.ProcedureName.{ProcedureName}
 use Rattle.sq_module.proofs.Fitting.{all_last}
 use Rattle.sq_module.proofs.Named.{bound_declared, named_in_text}
-use Rattle.sq_module.proofs.Written.{all_entries, both_true, names_equal}
+use Rattle.sq_module.proofs.Written.{all_entries}
 
 -- ---- statements
 
@@ -73,7 +75,7 @@ procedures_computed names texts m procedures more name p number b is among named
 
     same : (q : ProcedureName) → same_procedure name q ≡ true → IsComputedProcedure names texts (q, b)
     same q h =
-        let both = both_true (same_name name.«module» q.«module») (same_name name.name q.name) h in record {
+        let both = and_parts (same_name name.«module» q.«module») (same_name name.name q.name) h in record {
           text = m;
           among = among;
           named = sym (names_equal name.«module» q.«module» both.0) ∙ named;

@@ -1,5 +1,5 @@
 -- What a program names is there and its parts are well formed with a cursor or a procedure more.
-use Rattle.std.proofs.Common.{◌≡◌, ℕ, ◌≤◌, Bool, true, false, List, [], ◌∷◌, ◌++◌, length, length-append, Option, None, Some, IfSome, slice_get, Result, Ok, Err, IfOk, nat_lt, zero, suc, refl, sym, ap, ◌∙◌, subst, arith}
+use Rattle.std.proofs.Common.{◌≡◌, ℕ, ◌≤◌, Bool, true, false, List, [], ◌∷◌, ◌++◌, length, length-append, Option, None, Some, slice_get, Result, Ok, Err, IfOk, nat_lt, zero, suc, refl, sym, ap, ◌∙◌, subst, arith}
 use Rattle.std.proofs.lemmas.Bool.{lt-ltb, ltb-true}
 use Rattle.std.proofs.lemmas.List.{map-append}
 use Rattle.std.specs.List.{AllByRecursion}
@@ -7,6 +7,7 @@ use Rattle.indexmap.specs.IndexMap.{insert_entry}
 use Rattle.sq_value.specs.declared.domain.Kind.{Kind}
 use Rattle.sq_meaning.specs.Status.{well_formed}
 use Rattle.sq_meaning.specs.WellFormed.{Has}
+use Rattle.sq_meaning.proofs.AnswerLaws.{all_weaker}
 use Rattle.sq_bound.specs.declared.names.BaseTable.{BaseTable}
 use Rattle.sq_binder.specs.declared.stop.Fault.{Fault}
 use Rattle.sq_binder.specs.declared.stop.Stop.{Stop}
@@ -30,10 +31,6 @@ use Rattle.sq_module.proofs.Opening.{procedures_open_more}
 pub all_last : {X : Type 0} (P : X → Type 0) (xs : List X) (x : X) → AllByRecursion P xs → P x → AllByRecursion P (xs ++ x ∷ [])
 all_last P [] x all one = (one, tt)
 all_last P (y ∷ xs) x all one = (all.0, all_last P xs x all.1 one)
-
-all_mapped : {X : Type 0} (P Q : X → Type 0) → ((x : X) → P x → Q x) → (xs : List X) → AllByRecursion P xs → AllByRecursion Q xs
-all_mapped P Q f [] all = tt
-all_mapped P Q f (x ∷ xs) all = (f x all.0, all_mapped P Q f xs all.1)
 
 all_inserted : {K V : Type 0} (eq : K → K → Bool) (P : V → Type 0) (es : List (K × V)) (k : K) (v : V) → AllByRecursion (λ e. P e.1) es → P v
     → AllByRecursion (λ e. P e.1) (insert_entry eq es k v)
@@ -108,7 +105,7 @@ pub cursor_added : (bases : List BaseTable) (cursors more : List DeclaredCursor)
 cursor_added bases cursors more procedures c is fit all one =
     let le : length cursors ≤ length more = omega (arith, ap length is, length-append cursors (c ∷ [])) in (
       rw is (all_last (λ c. FitsCursor bases c.cursor) cursors c fit one),
-      all_mapped (λ e. FitsProcedure bases (length cursors) e.1) (λ e. FitsProcedure bases (length more) e.1) (λ e h. procedure_more bases (length cursors) (length more) e.1 le h)
+      all_weaker (λ e. FitsProcedure bases (length cursors) e.1) (λ e. FitsProcedure bases (length more) e.1) (λ e h. procedure_more bases (length cursors) (length more) e.1 le h)
           procedures all,
     )
 
@@ -122,7 +119,7 @@ cursor_stands columns parameters cursors more procedures c is stand all opens on
     let before : List (List Kind) = kinds_of_cursors cursors in
     let last : List (List Kind) = kinds_of_cursors (c ∷ []) in (
       rw is (all_last (λ c. (ps : List Kind) × IsCursor columns ps c.cursor) cursors c stand (parameters, one)),
-      subst (λ ks. ProceduresAreWellFormed columns ks procedures) (sym (kinds_added cursors more c is)) (all_mapped (λ e. ProcedureIsWellFormed columns before e.1)
+      subst (λ ks. ProceduresAreWellFormed columns ks procedures) (sym (kinds_added cursors more c is)) (all_weaker (λ e. ProcedureIsWellFormed columns before e.1)
           (λ e. ProcedureIsWellFormed columns (before ++ last) e.1) (λ e h. procedure_stands columns before last e.1 h) procedures all),
       subst (λ cs. ProceduresOpen columns cs procedures) (sym is) (procedures_open_more columns cursors (c ∷ []) procedures opens),
     )

@@ -1,21 +1,22 @@
 -- The cursors and procedures of an admitted module are those of its text, in order (ISO/IEC 9075:1992, 12.1 and 13.1).
-use Rattle.std.proofs.Common.{◌≡◌, ◌∙◌, ℕ, ◌+◌, ◌<◌, ◌≤◌, Bool, true, false, if◌then◌else◌, List, [], ◌∷◌, ◌++◌, length, get_or, take, map, Option, Some, None, refl, sym, ap, subst}
-use Rattle.std.proofs.lemmas.List.{append-nil, map-append, take_more}
+use Rattle.std.proofs.Common.{◌≡◌, ◌∙◌, ℕ, ◌+◌, ◌<◌, ◌≤◌, Bool, true, false, if◌then◌else◌, List, [], ◌∷◌, ◌++◌, length, get_or, take, map, Option, Some, None, refl, sym, ap}
+use Rattle.std.proofs.lemmas.List.{map-append, take_more}
 use Rattle.std.proofs.lemmas.List.Elements.{filter_map-append}
 use Rattle.std.specs.Borrow.{Bor}
 use Rattle.std.specs.List.{AllByRecursion}
 use Rattle.std.specs.Map.{lookup}
 use Rattle.std.specs.Option.{option_map}
 use Rattle.std.specs.Prelude.{filter_map, find, option_to_list}
+use Rattle.std.proofs.lemmas.Cmp.{nat_list_eq_equiv}
 use Rattle.indexmap.specs.IndexMap.{insert_entry}
 use Rattle.sq_lex.specs.declared.name.Name.{Name}
 use Rattle.sq_tree.specs.declared.module.Cursor.{Cursor}
 use Rattle.sq_tree.specs.declared.module.ModuleItem.{ModuleItem}
+use Rattle.sq_meaning.specs.Environment.{same_name}
+use Rattle.sq_binding.proofs.SameParameters.{names_equal}
 use Rattle.sq_module.specs.Admitted.{cursors_written}
-use Rattle.sq_module.specs.Program.{same_name}
 use Rattle.sq_module.specs.Written.{IsCursorIn}
-use Rattle.sq_module.proofs.Opening.{name_itself}
-use Rattle.sq_module.proofs.Written.{names_equal, take_whole}
+use Rattle.sq_module.proofs.Written.{take_whole}
 
 -- ---- one item more
 
@@ -53,21 +54,12 @@ cursor_listed entries new name c none is = ap cursors_written (is ∙ entered_la
 
 -- ---- the cursor of a name
 
-pub turned : (a b : Name) → same_name a b ≡ same_name b a
-turned a b = by (same_name a b) (same_name b a) refl refl
-  where
-    by : (x y : Bool) → same_name a b ≡ x → same_name b a ≡ y → x ≡ y
-    by true true e f = refl
-    by false false e f = refl
-    by true false e f = let same : a ≡ b = names_equal a b e in let it : same_name b a ≡ true = ap (same_name b) same ∙ name_itself b in cc
-    by false true e f = let same : b ≡ a = names_equal b a f in let it : same_name a b ≡ true = ap (same_name a) same ∙ name_itself a in cc
-
 -- it is found by its name where it is found under it
 pub found_written : (items : List ModuleItem) (entries : List (Name × Bor Cursor)) (name : Name) → AllByRecursion (IsCursorIn items) entries
     → option_map (λ (c : Bor Cursor). c.now) (lookup (same_name name) entries) ≡ find (λ c. same_name c.name name) (cursors_written entries)
 found_written items [] name all = refl
 found_written items (e ∷ es) name all =
-    let same : same_name name e.0 ≡ same_name e.1.now.name name = ap (same_name name) all.0.1 ∙ turned name e.1.now.name in
+    let same : same_name name e.0 ≡ same_name e.1.now.name name = ap (same_name name) all.0.1 ∙ nat_list_eq_equiv.symm name e.1.now.name in
     by (same_name name e.0) (same_name e.1.now.name name) same (found_written items es name all.1)
   where
     by : (a b : Bool) → a ≡ b → option_map (λ (c : Bor Cursor). c.now) (lookup (same_name name) es) ≡ find (λ c. same_name c.name name) (cursors_written es)

@@ -1,25 +1,26 @@
 -- The cursors that the names of a module mean, with one procedure after the other, are those that the definitions compute (ISO/IEC 9075:1992,
 -- 13.1).
 use Rattle.std.proofs.Common.{◌≡◌, ◌∙◌, ℕ, zero, suc, ◌+◌, ◌<◌, Bool, true, false, cond, ◌||◌, if◌then◌else◌, List, [], ◌∷◌, ◌++◌, length, get_or, take, map, Option, Some, None, IfSome, Result, Ok, Err, slice_get, refl, sym, ap, ap₂, subst, arith}
-use Rattle.std.proofs.lemmas.List.{append-nil, get_or-map, length-map, map-append}
+use Rattle.std.proofs.lemmas.List.{append-nil, map-append}
 use Rattle.std.proofs.lemmas.List.Folds.{list_any-append}
-use Rattle.std.specs.List.{AllByRecursion, IsAmong, list_any}
+use Rattle.std.specs.List.{list_any}
 use Rattle.std.specs.Map.{lookup}
 use Rattle.std.specs.Option.{option_and_then, option_map}
 use Rattle.std.specs.Prelude.{count_by, filter, filter_map, find, flat_map, unwrap_or}
 use Rattle.std.specs.Result.{result_ok}
 use Rattle.std.specs.List.{cons_option}
 use Rattle.std.specs.Borrow.{Bor}
+use Rattle.std.proofs.lemmas.Cmp.{nat_list_eq_equiv}
 use Rattle.indexmap.specs.IndexMap.{insert_entry}
 use Rattle.sq_lex.specs.declared.name.Name.{Name}
 use Rattle.sq_tree.specs.declared.module.Cursor.{Cursor}
 use Rattle.sq_tree.specs.declared.module.Declaration.{Declaration}
 use Rattle.sq_tree.specs.declared.module.Declaration.TheVariants as declaration
-use Rattle.sq_tree.specs.declared.module.ModuleItem.TheVariants as item
 use Rattle.sq_tree.specs.declared.module.ModuleText.{ModuleText}
 use Rattle.sq_tree.specs.declared.module.Procedure.{Procedure}
 use Rattle.sq_tree.specs.declared.statement.Statement.{Statement}
 use Rattle.sq_tree.specs.declared.statement.Statement.TheVariants as tree
+use Rattle.sq_meaning.specs.Environment.{same_name}
 use Rattle.sq_meaning.specs.Spelled.{domain_of}
 use Rattle.sq_rules.specs.Module.{cursor_named, declarations_of, declared_by, declared_in, declared_parameters, opens, procedures}
 use Rattle.sq_rules.specs.WellFormed.{opener_parameters}
@@ -27,29 +28,28 @@ use Rattle.sq_bound.specs.declared.names.ParameterDesc.{ParameterDesc}
 use Rattle.sq_bound.specs.declared.query.BoundCursor.{BoundCursor}
 use Rattle.sq_binding.specs.Change.{NamedCursor}
 use Rattle.sq_binding.specs.Changeable.{UserNames}
-use Rattle.sq_binding.specs.Cursor.{NumberedCursor, cursor_bound}
-use Rattle.sq_binding.specs.Outcome.{Outcome}
+use Rattle.sq_binding.specs.Cursor.{cursor_bound}
 use Rattle.sq_binding.specs.Procedure.{cursor_if_sound, module_cursors, numbered}
+use Rattle.sq_binding.proofs.SameParameters.{name_itself, names_equal}
 use Rattle.sq_binder.specs.declared.stop.Fault.{Fault}
 use Rattle.sq_binder.specs.declared.stop.Stop.{Stop}
 use Rattle.sq_binder.specs.declared.stop.Stop.TheVariants as stop
 use Rattle.sq_binder.specs.Binds.{Binds}
 use Rattle.sq_promises.specs.Names.{declared}
 use Rattle.sq_promises.specs.Seen.{cursor_seen}
-use Rattle.sq_module.specs.Admitted.{OpensEachOnce, admitted_written, cursors_written, opened_of, openings}
+use Rattle.sq_module.specs.Admitted.{OpensEachOnce, admitted_written, opened_of, openings}
 use Rattle.sq_module.specs.Named.{AreNamed, AreNamedAs, IsNext, IsOnlyIn, cursor_at, cursors_named, number_in, numbered_as, opened_so_far}
 use Rattle.sq_module.specs.Opened.{AreThere}
-use Rattle.sq_module.specs.Program.{same_name}
 use Rattle.sq_module.specs.Refusal.{is_name, opened_by}
 use Rattle.sq_module.specs.Written.{Declare, IsOfText, IsProcedureOf, named_as, named_in}
 use Rattle.sq_module.specs.declared.admission.AdmittedModule.{AdmittedModule}
 use Rattle.sq_module.specs.declared.admission.AdmittedProcedure.{AdmittedProcedure}
 use Rattle.sq_module.specs.declared.program.DeclaredCursor.{DeclaredCursor}
 use Rattle.sq_module.proofs.Apart.{any_mapped, count_cons, count_mapped, counted_any, none_before, none_counted, once_found}
-use Rattle.sq_module.proofs.Listed.{found_named, found_written, turned}
+use Rattle.sq_module.proofs.Listed.{found_named, found_written}
 use Rattle.sq_module.proofs.Openers.{or_false, or_true}
-use Rattle.sq_module.proofs.Opening.{lookup_inserted, lookup_other, name_itself, number_there}
-use Rattle.sq_module.proofs.Written.{all_at, names_equal}
+use Rattle.sq_module.proofs.Opening.{lookup_inserted, lookup_other, number_there}
+use Rattle.sq_module.proofs.Written.{all_at}
 
 -- ---- parameters
 
@@ -113,7 +113,7 @@ only_kept {X} test (y ∷ ys) (suc i) x lt is passes once = by (test y) (sym (co
 -- ---- the procedure that opens a cursor
 
 opens_named : (name : Name) (s : Statement) → opens name s ≡ is_name name (opened_by s)
-opens_named name (tree.Open other) = turned other name
+opens_named name (tree.Open other) = nat_list_eq_equiv.symm other name
 opens_named name (tree.Fetch f) = refl
 opens_named name (tree.Close other) = refl
 opens_named name (tree.Select s) = refl

@@ -11,11 +11,12 @@ use Rattle.sq_lex.specs.declared.name.Name.{Name}
 use Rattle.sq_tree.specs.declared.module.ModuleItem.{ModuleItem}
 use Rattle.sq_tree.specs.declared.module.ModuleItem.TheVariants as item
 use Rattle.sq_tree.specs.declared.module.ModuleText.{ModuleText}
+use Rattle.sq_meaning.specs.Environment.{same_name}
 use Rattle.sq_module.specs.declared.admission.AdmittedModule.{AdmittedModule}
 use Rattle.sq_module.specs.declared.admission.AdmittedProcedure.{AdmittedProcedure}
 use Rattle.sq_module.specs.declared.program.ProcedureName.{ProcedureName}
 use Rattle.sq_module.specs.Admitted.{admitted_procedures, module_keys, name_of, procedure_names}
-use Rattle.sq_module.specs.Program.{AreNew, HaveNames, declared_procedures, module_procedures, name_in, names_in, procedure_in, same_name, same_procedure, with_procedures}
+use Rattle.sq_module.specs.Program.{AreNew, HaveNames, declared_procedures, module_procedures, name_in, names_in, procedure_in, same_procedure, with_procedures}
 
 -- ---- keys of a map
 

@@ -8,10 +8,10 @@ use Rattle.std.specs.Prelude.{nat_lt}
 use Rattle.indexmap.specs.IndexSet.{insert_key}
 use Rattle.sq_lex.specs.declared.name.Name.{Name}
 use Rattle.sq_tree.specs.declared.module.ModuleItem.{ModuleItem}
+use Rattle.sq_meaning.specs.Environment.{same_name}
+use Rattle.sq_binding.proofs.SameParameters.{names_equal}
 use Rattle.sq_module.specs.declared.opener.Openers.{Openers}
-use Rattle.sq_module.specs.Program.{same_name}
 use Rattle.sq_module.specs.Refusal.{AreOpeners, is_name, opened_in, opener_count}
-use Rattle.sq_module.proofs.Written.{names_equal}
 
 pub or_false : (b : Bool) → (b || false) ≡ b
 or_false true = refl

@@ -1,8 +1,6 @@
 -- Cursors that procedures open, where cursors come behind the others.
-use Rattle.std.proofs.Common.{◌≡◌, ℕ, zero, suc, ◌+◌, ◌<◌, ◌≤◌, Bool, true, false, ◌&&◌, if◌then◌else◌, List, [], ◌∷◌, ◌++◌, length, length-append, nat_lt, take, get_or, append_assoc, Option, Some, None, IfSome, slice_get, Result, Ok, Err, IfOk, refl, sym, ap, ap₂, ◌∙◌, subst, arith}
+use Rattle.std.proofs.Common.{◌≡◌, ℕ, zero, suc, ◌+◌, ◌<◌, ◌≤◌, Bool, true, false, ◌&&◌, if◌then◌else◌, List, [], ◌∷◌, ◌++◌, length, length-append, nat_lt, get_or, append_assoc, Option, Some, None, IfSome, slice_get, Result, Ok, Err, IfOk, refl, sym, ap, ap₂, ◌∙◌, subst, arith}
 use Rattle.std.proofs.lemmas.Bool.{and_parts, lt-ltb, ltb-true}
-use Rattle.std.proofs.lemmas.List.{take_more}
-use Rattle.std.proofs.lemmas.Cmp.{nat_list_eq_equiv}
 use Rattle.std.specs.Cmp.Lexicographic.{same_text}
 use Rattle.std.specs.List.{list_all}
 use Rattle.std.specs.Map.{lookup}
@@ -12,19 +10,21 @@ use Rattle.sq_lex.specs.declared.name.Name.{Name}
 use Rattle.sq_value.specs.declared.domain.Kind.{Kind}
 use Rattle.sq_tree.specs.declared.statement.Statement.{Statement}
 use Rattle.sq_tree.specs.declared.statement.Statement.TheVariants as tree
+use Rattle.sq_meaning.specs.Environment.{same_name}
 use Rattle.sq_meaning.specs.Status.{well_formed}
 use Rattle.sq_meaning.specs.WellFormed.{Has}
 use Rattle.sq_binder.specs.declared.stop.Fault.{Fault}
 use Rattle.sq_binder.specs.declared.stop.Stop.{Stop}
 use Rattle.sq_bound.specs.declared.statement.BoundStatement.{BoundStatement}
 use Rattle.sq_bound.specs.declared.statement.BoundStatement.TheVariants as statement
-use Rattle.sq_bound.specs.WellFormed.{IsCursor, TableKinds, kinds_of_parameters, kinds_of_results}
+use Rattle.sq_bound.specs.WellFormed.{IsCursor, TableKinds, kinds_of_parameters}
 use Rattle.sq_bound.specs.declared.names.ParameterDesc.{ParameterDesc}
+use Rattle.sq_binding.proofs.SameParameters.{name_itself}
 use Rattle.sq_promises.specs.Written.{IsStatementOf}
 use Rattle.sq_module.specs.Admitted.{opened_of}
 use Rattle.sq_module.specs.Computed.{as_bound}
 use Rattle.sq_module.specs.Opened.{AreOpenable, AreThere, Grow, HaveKinds, IsOpenable}
-use Rattle.sq_module.specs.Program.{OpensWellFormed, ProcedureOpens, ProceduresOpen, kinds_of_cursors, same_name}
+use Rattle.sq_module.specs.Program.{OpensWellFormed, ProcedureOpens, ProceduresOpen}
 use Rattle.sq_module.specs.Refusal.{is_name, opened_by}
 use Rattle.sq_module.specs.declared.admission.AdmittedProcedure.{AdmittedProcedure}
 use Rattle.sq_module.specs.declared.program.BoundProcedure.{BoundProcedure}
@@ -122,9 +122,6 @@ number_there n (e ∷ es) name v h is =
     by false same found one rest = rest found
 
 -- ---- the number of a name in a map
-
-pub name_itself : (n : List ℕ) → same_name n n ≡ true
-name_itself n = nat_list_eq_equiv.refl n
 
 pub lookup_inserted : {V : Type 0} (numbers : List (Name × V)) (name q : Name) (n : V) → same_name q name ≡ true → lookup (same_name q) (insert_entry same_name numbers name n) ≡ Some n
 lookup_inserted [] name q n same = ap (λ b. if b then Some n else None) same

@@ -1,6 +1,6 @@
 -- The first place in a list at which a test passes, and that it passes at none.
 use Rattle.std.proofs.Common.{◌≡◌, ℕ, zero, suc, ◌+◌, ◌<◌, ◌≤◌, Bool, true, false, not, cond, ◌||◌, List, [], ◌∷◌, ◌++◌, Some, None, Result, Ok, Err, IfOk, length, get_or, take, refl, ap, sym, subst, ◌∙◌, arith}
-use Rattle.std.proofs.lemmas.Bool.{lt-ltb}
+use Rattle.std.proofs.lemmas.Bool.{lt-ltb, or_parts}
 use Rattle.std.proofs.lemmas.Bool.Decides.{nat_tests}
 use Rattle.std.proofs.lemmas.List.{take_more}
 use Rattle.std.proofs.lemmas.List.Folds.{list_any_more}
@@ -9,16 +9,12 @@ use Rattle.std.specs.Prelude.{OnOk, is_ok, nat_lt}
 use Rattle.sq_module.proofs.Fitting.{all_last}
 use Rattle.sq_module.proofs.Written.{take_whole}
 
-neither : (a b : Bool) → (a || b) ≡ false → (a ≡ false) × (b ≡ false)
-neither true b h = cc
-neither false b h = (refl, h)
-
 -- the place is the first
 len_at : {X : Type 0} (p : X → Bool) (xs : List X) (i : ℕ) (x : X) → i < length xs → x ≡ get_or xs i x → list_any p (take i xs) ≡ false → p x ≡ true → position_or_len p xs ≡ i
 len_at p [] i x lt is none passes = let no : ⊥ = omega (arith, lt) in absurd no
 len_at p (y ∷ ys) zero x lt is none passes = ap (λ b. cond (not b) (1 + position_or_len p ys) 0) (ap p (sym is) ∙ passes)
 len_at p (y ∷ ys) (suc i) x lt is none passes =
-    let both = neither (p y) (list_any p (take i ys)) none in
+    let both = or_parts (p y) (list_any p (take i ys)) none in
     let rest : position_or_len p ys ≡ i = len_at p ys i x (omega (arith, lt)) is both.1 passes in
     ap (λ b. cond (not b) (1 + position_or_len p ys) 0) both.0 ∙ omega (arith, rest)
 
@@ -26,7 +22,7 @@ len_at p (y ∷ ys) (suc i) x lt is none passes =
 len_none : {X : Type 0} (p : X → Bool) (xs : List X) → list_any p xs ≡ false → position_or_len p xs ≡ length xs
 len_none p [] none = refl
 len_none p (y ∷ ys) none =
-    let both = neither (p y) (list_any p ys) none in
+    let both = or_parts (p y) (list_any p ys) none in
     let rest : position_or_len p ys ≡ length ys = len_none p ys both.1 in
     ap (λ b. cond (not b) (1 + position_or_len p ys) 0) both.0 ∙ omega (arith, rest)
 

@@ -1,5 +1,5 @@
 -- The refusal of a module that is answered is the first, by the definitions.
-use Rattle.std.proofs.Common.{◌≡◌, ℕ, zero, suc, ◌+◌, ◌<◌, ◌≤◌, Bool, true, false, not, cond, ◌||◌, List, [], ◌∷◌, ◌++◌, Option, Some, None, Result, Ok, Err, length, get_or, map, take, drop, refl, ap, sym, subst, ◌∙◌, arith}
+use Rattle.std.proofs.Common.{◌≡◌, ℕ, ◌+◌, ◌<◌, ◌≤◌, Bool, true, false, not, cond, List, [], ◌∷◌, ◌++◌, Option, Some, None, Result, Ok, Err, length, get_or, map, take, drop, refl, ap, sym, subst, ◌∙◌, arith}
 use Rattle.std.specs.Prelude.{◌==◌, IfErr, IsErrAnd, count_by, filter_map, if◌then◌else◌, position}
 use Rattle.std.specs.List.{enumerate_from, list_any}
 use Rattle.std.specs.Option.{option_or}
@@ -14,15 +14,14 @@ use Rattle.sq_tree.specs.declared.module.ModuleText.{ModuleText}
 use Rattle.sq_tree.specs.declared.module.Procedure.{Procedure}
 use Rattle.sq_tree.specs.declared.statement.Statement.{Statement}
 use Rattle.sq_tree.specs.declared.statement.Statement.TheVariants as statement
+use Rattle.sq_meaning.specs.Environment.{same_name}
 use Rattle.sq_rules.specs.Module.{opens, procedure_in}
-use Rattle.sq_rules.specs.Module as rule
 use Rattle.sq_rules.specs.ModuleRefusal.{ModuleRefusal as Refusal, at_item, cursor_name, first_module_refusal, first_repeated, has_bad_parameter, has_status_fault, module_refusal, modules_before, name_refusal, procedure_name}
 use Rattle.sq_rules.specs.ModuleRefusal as rules
 use Rattle.sq_rules.specs.Words.{first_of}
 use Rattle.sq_rules.specs.declared.refusal.ModuleFault.{ModuleFault}
 use Rattle.sq_rules.specs.declared.refusal.ModuleFault.TheVariants as fault
 use Rattle.sq_module.specs.FirstRefusal.{IsFaultAt, IsFaultFor, item_refusal, refusal_of}
-use Rattle.sq_module.specs.Program.{same_name}
 use Rattle.sq_module.specs.Refusal.{has_open_count, is_name, opened_by, opened_in, opener_count}
 use Rattle.sq_module.specs.declared.refusal.SessionFault.{SessionFault}
 use Rattle.sq_module.specs.declared.refusal.SessionFault.TheVariants.{Refused, NoMemory}

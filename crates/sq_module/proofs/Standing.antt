@@ -1,13 +1,13 @@
 -- A cursor and a statement that are bound as the definitions compute them are there, are well formed, and are the ones that are written, where
 -- names mean what is known (ISO/IEC 9075:1992, clause 13).
-use Rattle.std.proofs.Common.{◌≡◌, ◌∙◌, ℕ, zero, suc, ◌<◌, Bool, true, false, List, [], ◌∷◌, length, map, slice_get, Option, Some, None, IfSome, Result, Ok, Err, IfOk, refl, sym, ap, subst, arith}
+use Rattle.std.proofs.Common.{◌≡◌, ◌∙◌, ℕ, zero, suc, Bool, true, false, List, [], ◌∷◌, length, map, slice_get, Option, Some, None, IfSome, Result, Ok, Err, IfOk, refl, sym, ap, subst}
 use Rattle.std.proofs.lemmas.Simd.{map-map}
 use Rattle.std.specs.Map.{lookup}
 use Rattle.std.specs.Option.{option_and_then, option_map}
 use Rattle.sq_lex.specs.declared.name.Name.{Name}
 use Rattle.sq_tree.specs.declared.module.Cursor.{Cursor}
 use Rattle.sq_tree.specs.declared.statement.Statement.{Statement}
-use Rattle.sq_meaning.specs.Environment.{TableName}
+use Rattle.sq_meaning.specs.Environment.{TableName, same_name}
 use Rattle.sq_rules.specs.Privilege.{Privilege}
 use Rattle.sq_bound.specs.Fits.{FitsCursor, FitsStatement, IsBase}
 use Rattle.sq_bound.specs.WellFormed.{IsCursor, IsStatement, kinds_of_parameters}
@@ -43,7 +43,7 @@ use Rattle.sq_catalog.specs.Stored.{IsStored}
 use Rattle.sq_catalog.specs.UserTables.{NamesStand, beneath_in, beneath_leaf, changes_by_user, names_in}
 use Rattle.sq_module.specs.Named.{cursors_named, numbered_as}
 use Rattle.sq_module.specs.Opened.{AreThere}
-use Rattle.sq_module.specs.Program.{kinds_of_cursors, same_name}
+use Rattle.sq_module.specs.Program.{kinds_of_cursors}
 use Rattle.sq_module.specs.declared.program.DeclaredCursor.{DeclaredCursor}
 use Rattle.sq_module.proofs.Opening.{number_there}
 

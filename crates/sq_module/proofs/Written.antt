@@ -1,10 +1,9 @@
 -- What is admitted and bound, one after the other, is what is written.
-use Rattle.std.proofs.Common.{◌≡◌, ℕ, zero, suc, ◌+◌, ◌<◌, ◌≤◌, Bool, true, false, ◌&&◌, List, [], ◌∷◌, ◌++◌, Option, None, Some, Result, Ok, Err, IfOk, if◌then◌else◌, length, get_or, take, flat_map, slice_get, refl, ap, ap₂, sym, subst, ◌∙◌, append_assoc, arith}
-use Rattle.std.proofs.lemmas.Bool.{eqb-true}
-use Rattle.std.proofs.lemmas.List.{take_more}
+use Rattle.std.proofs.Common.{◌≡◌, ℕ, zero, suc, ◌+◌, ◌<◌, ◌≤◌, Bool, true, false, List, [], ◌∷◌, ◌++◌, Option, None, Some, Result, Ok, Err, IfOk, if◌then◌else◌, length, get_or, take, flat_map, slice_get, refl, ap, sym, subst, ◌∙◌, append_assoc, arith}
 use Rattle.std.specs.Borrow.{Bor}
 use Rattle.std.specs.List.{AllByRecursion, IsAmong}
 use Rattle.std.specs.Map.{lookup}
+use Rattle.std.proofs.lemmas.Bool.{and_parts}
 use Rattle.indexmap.specs.IndexMap.{insert_entry}
 use Rattle.sq_bound.specs.Known.{KnownTables}
 use Rattle.sq_lex.specs.declared.name.Name.{Name}
@@ -26,34 +25,25 @@ use Rattle.sq_bound.specs.declared.statement.ChangeTarget.{ChangeTarget}
 use Rattle.sq_bound.specs.declared.statement.ChangeTarget.TheVariants as target
 use Rattle.sq_promises.specs.Written.{IsCursorOf, IsStatementOf, IsTargetOf}
 use Rattle.sq_tree.specs.declared.module.ModuleItem.TheVariants as item
+use Rattle.sq_meaning.specs.Environment.{same_name}
 use Rattle.sq_meaning.specs.Status.{Outcome, well_formed}
 use Rattle.sq_bound.specs.Condition.{PlacedClause}
 use Rattle.sq_meaning.specs.WellFormed.{Has}
 use Rattle.sq_bound.specs.declared.query.BoundCursor.{BoundCursor}
+use Rattle.sq_binding.proofs.SameParameters.{names_equal}
 use Rattle.sq_module.specs.declared.admission.AdmittedModule.{AdmittedModule}
-use Rattle.sq_module.specs.declared.admission.AdmittedProcedure.{AdmittedProcedure}
 use Rattle.sq_module.specs.declared.program.BoundProcedure.{BoundProcedure}
 use Rattle.sq_module.specs.declared.program.DeclaredCursor.{DeclaredCursor}
 use Rattle.sq_module.specs.declared.program.ProcedureName.{ProcedureName}
 use Rattle.sq_module.specs.Admitted.{OpensEachOnce}
 use Rattle.sq_module.specs.Opened.{Grow}
-use Rattle.sq_module.specs.Program.{same_name, same_procedure}
+use Rattle.sq_module.specs.Program.{same_procedure}
 use Rattle.sq_module.specs.Written.{AreFromTexts, AreNumbers, AreOfTexts, IsBoundFrom, IsCursorIn, IsCursorNamed, IsDeclaredFrom, IsFromTexts, IsNumberOf, IsOfText, IsOpenedIn, IsStatementIn}
 use Rattle.sq_module.proofs.Fitting.{all_last}
 use Rattle.sq_module.proofs.Names.{flat_more}
 use Rattle.sq_module.proofs.Opening.{last_there, there_still}
 
 -- ---- names
-
-pub both_true : (a b : Bool) → (a && b) ≡ true → (a ≡ true) × (b ≡ true)
-both_true true b h = (refl, h)
-both_true false b h = cc
-
-pub names_equal : (a b : List ℕ) → same_name a b ≡ true → a ≡ b
-names_equal [] [] h = refl
-names_equal [] (y ∷ b) h = cc
-names_equal (x ∷ a) [] h = cc
-names_equal (x ∷ a) (y ∷ b) h = let both = both_true _ _ h in ap₂ (λ z c. z ∷ c) (eqb-true x y both.0) (names_equal a b both.1)
 
 -- ---- elements
 
@@ -229,7 +219,7 @@ procedure_next names texts m cursors procedures more name p b is among named is_
 
     same : (q : ProcedureName) → same_procedure name q ≡ true → IsFromTexts names texts cursors (q, b)
     same q h =
-        let both = both_true (same_name name.«module» q.«module») (same_name name.name q.name) h in record {
+        let both = and_parts (same_name name.«module» q.«module») (same_name name.name q.name) h in record {
           text = m;
           among = among;
           named = sym (names_equal name.«module» q.«module» both.0) ∙ named;

@@ -7,6 +7,7 @@ use Rattle.sq_lex.specs.declared.name.Name.{Name}
 use Rattle.sq_tree.specs.declared.module.ModuleText.{ModuleText}
 use Rattle.sq_tree.specs.declared.module.Cursor.{Cursor}
 use Rattle.sq_tree.specs.declared.module.ModuleItem.TheVariants as item
+use Rattle.sq_meaning.specs.Environment.{same_name}
 use Rattle.sq_rules.specs.Module.{cursor_named}
 use Rattle.sq_rules.specs.WellFormed.{opener_parameters}
 use Rattle.sq_bound.specs.declared.query.BoundCursor.{BoundCursor}
@@ -20,7 +21,6 @@ use Rattle.sq_binder.specs.declared.stop.Stop.{Stop}
 use Rattle.sq_promises.specs.Names.{declared}
 use Rattle.sq_promises.specs.Seen.{cursor_seen, table_named}
 use Rattle.sq_module.specs.Admitted.{opened_of, openings}
-use Rattle.sq_module.specs.Program.{same_name}
 use Rattle.sq_module.specs.Refusal.{is_name}
 use Rattle.sq_module.specs.declared.admission.AdmittedProcedure.{AdmittedProcedure}
 use Rattle.sq_module.specs.declared.program.DeclaredCursor.{DeclaredCursor}

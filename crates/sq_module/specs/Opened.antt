@@ -1,13 +1,14 @@
 -- The cursors that the procedures of a module open, while the module is bound (ISO/IEC 9075:1992, 13.2).
-use Rattle.std.specs.Prelude.{◌≡◌, ℕ, Bool, true, false, List, ◌++◌, Option, IfSome, nat_lt}
+use Rattle.std.specs.Prelude.{◌≡◌, ℕ, Bool, true, false, List, ◌++◌, IfSome, nat_lt}
 use Rattle.std.specs.List.{AllByRecursion, list_all, list_any}
 use Rattle.std.specs.Map.{lookup}
 use Rattle.sq_lex.specs.declared.name.Name.{Name}
 use Rattle.sq_value.specs.declared.domain.Kind.{Kind}
+use Rattle.sq_meaning.specs.Environment.{same_name}
 use Rattle.sq_bound.specs.WellFormed.{TableKinds, kinds_of_parameters}
 use Rattle.sq_bound.specs.declared.statement.BoundStatement.TheVariants as statement
 use Rattle.sq_module.specs.Admitted.{opened_of, openings}
-use Rattle.sq_module.specs.Program.{OpensWellFormed, same_name}
+use Rattle.sq_module.specs.Program.{OpensWellFormed}
 use Rattle.sq_module.specs.Refusal.{is_name}
 use Rattle.sq_module.specs.Written.{is_cursor}
 use Rattle.sq_module.specs.declared.admission.AdmittedModule.{AdmittedModule}

@@ -1,8 +1,7 @@
 -- The procedures that modules declare, that their names differ (ISO/IEC 9075:1992, 12.1 and 12.3), that what they name is there,
 -- and that their cursors and statements are well formed (clause 13).
-use Rattle.std.specs.Prelude.{◌≡◌, ℕ, Bool, false, ◌&&◌, List, [], ◌∷◌, ◌++◌, IfOk, flat_map, fold, length, map, nat_eq, slice_get, ⊤}
+use Rattle.std.specs.Prelude.{◌≡◌, ℕ, Bool, false, ◌&&◌, List, [], ◌∷◌, ◌++◌, IfOk, flat_map, fold, length, map, slice_get, ⊤}
 use Rattle.std.specs.List.{AllByRecursion, list_any}
-use Rattle.std.specs.Cmp.Lexicographic.{pointwise}
 use Rattle.indexmap.specs.IndexSet.{insert_key}
 use Rattle.sq_lex.specs.declared.name.Name.{Name}
 use Rattle.sq_value.specs.declared.domain.Kind.{Kind}
@@ -16,13 +15,11 @@ use Rattle.sq_meaning.specs.WellFormed.{Has}
 use Rattle.sq_tree.specs.declared.module.ModuleItem.{ModuleItem}
 use Rattle.sq_tree.specs.declared.module.ModuleItem.TheVariants as item
 use Rattle.sq_tree.specs.declared.module.ModuleText.{ModuleText}
+use Rattle.sq_meaning.specs.Environment.{same_name}
 use Rattle.sq_module.specs.declared.program.BoundProcedure.{BoundProcedure}
 use Rattle.sq_module.specs.declared.program.DeclaredCursor.{DeclaredCursor}
 use Rattle.sq_module.specs.declared.program.ProcedureName.{ProcedureName}
 use Rattle.sq_module.specs.declared.program.Program.{Program}
-
-abbrev pub same_name : Name → Name → Bool
-same_name = pointwise nat_eq
 
 abbrev pub same_procedure : ProcedureName → ProcedureName → Bool
 same_procedure p q = same_name p.«module» q.«module» && same_name p.name q.name

@@ -1,8 +1,7 @@
 -- That what is admitted and bound is what the module texts say (ISO/IEC 9075:1992, 12.1, 12.3 and 13.1).
-use Rattle.std.specs.Prelude.{◌≡◌, ⊤, ℕ, Bool, false, ◌&&◌, List, [], ◌∷◌, ◌++◌, Option, Some, Result, IfOk, IfSome, flat_map, map, slice_get}
+use Rattle.std.specs.Prelude.{◌≡◌, ⊤, ℕ, Bool, false, ◌&&◌, List, [], ◌∷◌, ◌++◌, Option, Some, Result, IfOk, flat_map, map, slice_get}
 use Rattle.std.specs.Borrow.{Bor}
 use Rattle.std.specs.List.{AllByRecursion, IsAmong, list_any}
-use Rattle.std.specs.Map.{lookup}
 use Rattle.sq_bound.specs.Known.{KnownTables}
 use Rattle.sq_lex.specs.declared.name.Name.{Name}
 use Rattle.sq_value.specs.declared.domain.Domain.{Domain}
@@ -15,6 +14,7 @@ use Rattle.sq_tree.specs.declared.module.ModuleText.{ModuleText}
 use Rattle.sq_tree.specs.declared.module.Procedure.{Procedure}
 use Rattle.sq_tree.specs.declared.statement.Statement.{Statement}
 use Rattle.sq_tree.specs.declared.statement.Statement.TheVariants as tree
+use Rattle.sq_meaning.specs.Environment.{same_name}
 use Rattle.sq_meaning.specs.Spelled.{domain_of}
 use Rattle.sq_meaning.specs.Status.{well_formed}
 use Rattle.sq_meaning.specs.WellFormed.{Has}
@@ -26,7 +26,6 @@ use Rattle.sq_promises.specs.Written.{IsCursorOf, IsStatementOf}
 use Rattle.sq_rules.specs.Module as rules
 use Rattle.sq_rules.specs.Module.{declarations_of}
 use Rattle.sq_module.specs.Admitted.{admitted_written, cursors_written}
-use Rattle.sq_module.specs.Program.{same_name}
 use Rattle.sq_module.specs.declared.program.BoundProcedure.{BoundProcedure}
 use Rattle.sq_module.specs.declared.program.DeclaredCursor.{DeclaredCursor}
 use Rattle.sq_module.specs.declared.program.ProcedureName.{ProcedureName}

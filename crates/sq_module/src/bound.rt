@@ -2,6 +2,7 @@
 
 ghost use Rattle.std.specs.Prelude.{◌≡◌, IfOk, Some, length};
 ghost use Rattle.std.specs.Map.{lookup};
+ghost use Rattle.sq_meaning.specs.Environment.{same_name};
 ghost use Rattle.sq_binding.specs.Cursor.{cursor_bound};
 ghost use Rattle.sq_binding.specs.Statement.{statement_bound};
 ghost use Rattle.sq_binder.specs.Binds.{Binds};
@@ -13,7 +14,7 @@ ghost use Rattle.sq_promises.specs.Names.{declared};
 ghost use Rattle.sq_promises.specs.Seen.{cursor_seen, statement_seen};
 ghost use Rattle.sq_promises.specs.Written.{IsCursorOf, IsStatementOf};
 ghost use Rattle.sq_module.specs.Named.{cursors_named};
-ghost use Rattle.sq_module.specs.Program.{kinds_of_cursors, same_name};
+ghost use Rattle.sq_module.specs.Program.{kinds_of_cursors};
 
 use crate::cursors::ModuleCursors;
 use sq_binder::Stop;

@@ -3,8 +3,8 @@
 ghost use Rattle.std.specs.Prelude.{◌≡◌, ◌==◌, ◌+◌, ◌||◌, [], ◌∷◌, ◌++◌, count_by, filter_map, flat_map, is_none, map, nat_lt, not, option_to_list, true, false, IfOk, IfSome, OnOk, Some};
 ghost use Rattle.std.specs.List.{list_any};
 ghost use Rattle.indexmap.specs.IndexSet.{insert_key};
+ghost use Rattle.sq_meaning.specs.Environment.{same_name};
 ghost use Rattle.sq_meaning.specs.Spelled.{domain_of as domain_meant};
-ghost use Rattle.sq_module.specs.Program.{same_name};
 ghost use Rattle.sq_rules.specs.Module.{declarations_of, declared_in, is_sqlcode, is_sqlstate};
 ghost use Rattle.sq_rules.specs.ModuleRefusal.{has_bad_declared, has_bad_status, is_bad_type};
 ghost use Rattle.sq_rules.specs.Schema.{has_name_twice, is_among};

@@ -4,7 +4,7 @@ ghost use Rattle.std.specs.Prelude.{◌≡◌, ◌==◌, [], ◌∷◌, ◌++◌
 ghost use Rattle.std.specs.List.{list_any};
 ghost use Rattle.indexmap.specs.IndexSet.{insert_key};
 ghost use Rattle.sq_tree.specs.declared.module.ModuleItem.{ModuleItem as AnyItem};
-ghost use Rattle.sq_module.specs.Program.{same_name};
+ghost use Rattle.sq_meaning.specs.Environment.{same_name};
 ghost use Rattle.sq_module.specs.Refusal.{AreOpeners, has_open_count, opened_in, opener_count};
 
 use crate::declared::is_new;

@@ -1,11 +1,10 @@
 //! The procedures and cursors of all modules, with their names as places.
 
-ghost use Rattle.std.specs.Prelude.{◌≡◌, [], ◌∷◌, ◌++◌, IfOk, List, OnOk, Some, false, length, map, true};
+ghost use Rattle.std.specs.Prelude.{◌≡◌, [], ◌∷◌, ◌++◌, IfOk, List, OnOk, Some, false, length, true};
 ghost use Rattle.std.specs.Map.{keys_of};
 ghost use Rattle.indexmap.specs.IndexMap.{insert_entry};
-ghost use Rattle.std.specs.List.{AllByRecursion, IsAmong, list_any};
+ghost use Rattle.std.specs.List.{IsAmong, list_any};
 ghost use Rattle.sq_binding.specs.Changeable.{UserNames};
-ghost use Rattle.sq_binding.specs.Procedure.{module_cursors};
 ghost use Rattle.sq_binding.specs.Statement.{statement_bound};
 ghost use Rattle.sq_bound.specs.Known.{KnownTables};
 ghost use Rattle.sq_lex.specs.declared.name.Name.{Name as AnyName};
@@ -13,7 +12,7 @@ ghost use Rattle.sq_module.specs.Refusal.{is_name};
 ghost use Rattle.sq_module.specs.declared.admission.AdmittedProcedure.{AdmittedProcedure as AnyProcedure};
 ghost use Rattle.sq_tree.specs.declared.module.ModuleText.{ModuleText};
 ghost use Rattle.sq_module.specs.Computed.{AreComputedCursors, AreComputedProcedures, IsComputed, IsPart, IsProgramOf, as_bound};
-ghost use Rattle.sq_module.specs.Named.{AreNamed, AreNamedAs, IsNext, IsOnlyIn, cursors_named, number_in};
+ghost use Rattle.sq_module.specs.Named.{AreNamed, AreNamedAs, IsNext, IsOnlyIn, cursors_named};
 ghost use Rattle.sq_module.specs.Written.{AreApart, AreFrom, AreNumbers, AreOfTexts, IsBoundFrom, IsCursorNamed, IsOfText, IsOfTexts, IsProcedureOf};
 ghost use Rattle.indexmap.specs.IndexSet.{insert_key};
 ghost use Rattle.sq_bound.specs.Fits.{FitsCursor};
@@ -23,9 +22,10 @@ ghost use Rattle.sq_catalog.specs.Catalog.{column_kinds, known};
 ghost use Rattle.sq_catalog.specs.UserTables.{names_in};
 ghost use Rattle.sq_module.specs.Admitted.{AreAdmitted, OpensEachOnce, admitted_procedures, module_keys, name_of, openings};
 ghost use Rattle.sq_module.specs.Opened.{AreOfOthers, AreOpenable, AreThere, Grow, HaveKinds, IsNew, IsOnlyOpener, IsOpenable, OpenedBy, OpensNew};
-ghost use Rattle.sq_module.specs.Program.{FitsProcedure, FitsProgram, ProcedureIsWellFormed, ProcedureOpens, ProgramIsWellFormed, kinds_of_cursors, same_name, same_procedure, with_procedures};
+ghost use Rattle.sq_module.specs.Program.{FitsProcedure, FitsProgram, ProcedureIsWellFormed, ProcedureOpens, ProgramIsWellFormed, kinds_of_cursors, same_procedure, with_procedures};
 ghost use Rattle.sq_promises.specs.Names.{declared};
 ghost use Rattle.sq_value.specs.declared.domain.Kind.{Kind};
+ghost use Rattle.sq_meaning.specs.Environment.{same_name};
 
 use crate::admission::{AdmittedModule, AdmittedProcedure};
 use crate::bound::{bound_cursor, bound_statement};

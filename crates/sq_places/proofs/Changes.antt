@@ -17,7 +17,7 @@ use Rattle.sq_meaning.specs.Target.{Target}
 use Rattle.sq_meaning.proofs.OutcomeLaws.{then_then}
 use Rattle.sq_rules.specs.Schema.{BaseTable}
 use Rattle.sq_model.specs.Change as by_name
-use Rattle.sq_model.specs.Change.{Which, base_at, domain_at, if_some, is_numbered, item_alone, outer_env, place_under, reading, row_env, rows_at, set_places, stored_value, stored_values, tables_in, updated_row, which_target, with_values}
+use Rattle.sq_model.specs.Change.{Which, base_at, is_numbered, rows_at, tables_in, updated_row, which_target}
 use Rattle.sq_bound.specs.Fits.{IsColumnOf, under}
 use Rattle.sq_bound.specs.Known.{KnownTables}
 use Rattle.sq_bound.specs.declared.condition.BoundSpecification.{BoundSpecification}

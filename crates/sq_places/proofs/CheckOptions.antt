@@ -23,7 +23,7 @@ use Rattle.sq_bound.specs.declared.condition.BoundSpecification.{BoundSpecificat
 use Rattle.sq_bound.specs.declared.names.BaseTable.{BaseTable as BoundTable}
 use Rattle.sq_bound.specs.declared.names.Leaf.{Leaf}
 use Rattle.sq_change.specs.Constraints as by_place
-use Rattle.sq_change.specs.Constraints.{check_option_met, keys_met, references_met, row_met, rows_met}
+use Rattle.sq_change.specs.Constraints.{check_option_met, keys_met, references_met, row_met}
 use Rattle.sq_change.specs.Made.{Shown}
 use Rattle.sq_places.proofs.Levels.{HasLength, width_at}
 use Rattle.sq_places.proofs.Searched.{searched, table_item}

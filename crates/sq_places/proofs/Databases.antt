@@ -3,8 +3,9 @@
 -- what its query became, over the tables that a statement reads. Both are the same, view after view.
 use Rattle.std.proofs.Common.{◌≡◌, ℕ, suc, cond, Bool, true, false, List, [], ◌∷◌, length, Option, Some, None, refl, sym, ap, subst, ◌∙◌, Ok, Err}
 use Rattle.std.specs.Cmp.Lexicographic.{pointwise, same_text}
-use Rattle.std.specs.Prelude.{◌&&◌, nat_eq, nat_lt, find, slice_get, if◌then◌else◌, IfOk, IfSome}
+use Rattle.std.specs.Prelude.{nat_eq, nat_lt, find, slice_get, if◌then◌else◌, IfOk, IfSome}
 use Rattle.std.specs.List.{AllByRecursion}
+use Rattle.std.proofs.lemmas.Bool.{and_parts}
 use Rattle.sq_lex.specs.declared.name.Name.{Name}
 use Rattle.sq_value.specs.Domain.{IsOfKind}
 use Rattle.sq_value.specs.declared.domain.Kind.{Kind}
@@ -107,13 +108,9 @@ among_same tables known r h = by_descriptor (descriptor_of tables r.table) h
 
 -- ---- names
 
-both_true : (a b : Bool) → (a && b) ≡ true → (a ≡ true) × (b ≡ true)
-both_true true b h = (refl, h)
-both_true false b h = cc
-
 pub table_is : (s t : TableName) → same_table s t ≡ true → s ≡ t
 table_is s t e =
-    let parts = both_true (pointwise nat_eq s.user t.user) (pointwise nat_eq s.name t.name) e in
+    let parts = and_parts (pointwise nat_eq s.user t.user) (pointwise nat_eq s.name t.name) e in
     λ i. record { user = same_text s.user t.user (sym parts.0) i; name = same_text s.name t.name (sym parts.1) i }
 
 -- ---- how wide rows are

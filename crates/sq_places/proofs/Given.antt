@@ -3,7 +3,6 @@
 use Rattle.std.proofs.Common.{◌≡◌, ℕ, suc, ◌+◌, cond, not, Bool, true, false, List, [], ◌∷◌, length, map, Option, Some, None, refl, sym, ap, ◌∙◌, arith, Ok, Err}
 use Rattle.std.proofs.lemmas.Cmp.{nat_list_eq_equiv}
 use Rattle.std.proofs.lemmas.Grind.{common_steps}
-use Rattle.std.specs.Cmp.Lexicographic.{same_text}
 use Rattle.std.specs.Prelude.{nat_eq, nat_lt, find, slice_get, unwrap_or, ◌==◌}
 use Rattle.std.specs.List.{AllByRecursion, AllZip, cons_option, enumerate_from, filter_map, position, position_or_len, zip}
 use Rattle.std.specs.Option.{option_map, option_and_then}
@@ -38,19 +37,6 @@ positions columns = map (λ c. c.position) columns
 
 -- ---- which columns
 
--- a name is one with another in either order
-pub same_turned : (a b : Name) → same_name a b ≡ same_name b a
-same_turned a b = by (same_name a b) (same_name b a) refl refl
-  where
-    equal : (x y : Name) → same_name x y ≡ true → same_name y x ≡ true
-    equal x y e = ap (same_name y) (same_text x y (sym e)) ∙ nat_list_eq_equiv.refl y
-
-    by : (p q : Bool) → same_name a b ≡ p → same_name b a ≡ q → p ≡ q
-    by true true e f = refl
-    by false false e f = refl
-    by true false e f = sym (equal a b e) ∙ f
-    by false true e f = sym e ∙ equal b a f
-
 -- a column of the statement's table is the same column of the base table
 pub under_same : (m : by_name.Setting) (known : KnownTables) (shown : Shown) (bases : List BoundTable) (name : TableName)
     (leaf : Leaf) (t : IsTableIn m known shown bases name leaf) (column : Name)
@@ -59,7 +45,7 @@ under_same m known shown bases name leaf t column =
     (λ i. option_and_then (slice_get (t.under.columns_are i)) (place_among (t.names i) column))
     ∙ ap (option_and_then (slice_get (leaf_positions t.table.columns)))
     (position_map (same_name column) (λ (c : Column). c.name) t.table.columns
-    ∙ (λ i. position (λ (c : Column). same_turned column c.name i) t.table.columns))
+    ∙ (λ i. position (λ (c : Column). nat_list_eq_equiv.symm column c.name i) t.table.columns))
 
 -- what is found of each
 pub all_found : {A B C : Type 0} (f : A → Option C) (g : B → C) (xs : List A) (ys : List B)

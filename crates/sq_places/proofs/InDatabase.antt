@@ -21,7 +21,7 @@ use Rattle.sq_meaning.specs.Tables.{TableDescriptor, descriptor_of}
 use Rattle.sq_meaning.specs.Target.{Target, target_of}
 use Rattle.sq_rules.specs.Schema.{BaseTable}
 use Rattle.sq_model.specs.Change as by_name
-use Rattle.sq_model.specs.Change.{Which, base_at, outer_env, tables_in, with_rows}
+use Rattle.sq_model.specs.Change.{Which, base_at, outer_env, tables_in}
 use Rattle.sq_bound.specs.Condition.{clause_of}
 use Rattle.sq_bound.specs.Fits.{IsColumnOf, under as below}
 use Rattle.sq_bound.specs.Known.{KnownTable, KnownTables, Under, under_of}
@@ -68,7 +68,7 @@ pub record IsFound (m : by_name.Setting) (bases : List BoundTable) (name : Table
   pub stands : slice_get bases b.place ≡ Some b
 
 -- what is known under a name that may be changed
-known_under : (o : Option KnownTable) (u : Under) → option_and_then (λ k. k.under) o ≡ Some u
+pub known_under : (o : Option KnownTable) (u : Under) → option_and_then (λ k. k.under) o ≡ Some u
     → (k : KnownTable) × (o ≡ Some k) × (k.under ≡ Some u)
 known_under None u e = cc
 known_under (Some k) u e = (k, refl, e)

@@ -10,13 +10,13 @@ use Rattle.sq_meaning.specs.Environment.{Line, Row, TableName, TableReference}
 use Rattle.sq_meaning.specs.Rows.{product}
 use Rattle.sq_meaning.specs.Tables.{TableDescriptor, column_names, descriptor_of, item_of}
 use Rattle.sq_meaning.specs.WellFormed.{Has}
+use Rattle.sq_meaning.proofs.AnswerLaws.{all_appended}
 use Rattle.sq_bound.specs.Known.{KnownTable}
 use Rattle.sq_bound.specs.declared.names.Column.{Column}
 use Rattle.sq_binding.specs.From.{NamedItem, column_over, item_over, items_of, tables_of}
 use Rattle.sq_binding.specs.PlacedQuery.{item_placed}
 use Rattle.sq_binding.specs.Scope.{FromItem, ItemColumn, item_named}
 use Rattle.sq_promises.specs.Names.{descriptor_of as described, leaf_positions, named_table}
-use Rattle.sq_places.proofs.Outcomes.{all_append}
 use Rattle.sq_places.proofs.Seen.{SeenLine, column_of}
 use Rattle.sq_places.proofs.Setting.{Setting, items_named, known_item, named, names_in}
 
@@ -159,7 +159,7 @@ with_rows : (item : FromItem) (items : List FromItem) (rows : List Row) (lines :
     → AllByRecursion (HaveWidths (item ∷ items)) (flat_map (λ row. map (λ line. row ∷ line) lines) rows)
 with_rows item items [] lines w h = tt
 with_rows item items (row ∷ rows) lines w h =
-    all_append (HaveWidths (item ∷ items)) (map (λ line. row ∷ line) lines) (flat_map (λ r. map (λ line. r ∷ line) lines) rows)
+    all_appended (HaveWidths (item ∷ items)) (map (λ line. row ∷ line) lines) (flat_map (λ r. map (λ line. r ∷ line) lines) rows)
     (with_row item items row w.0 lines h) (with_rows item items rows lines w.1 h)
 
 -- each line of the product is as wide as the items

@@ -5,6 +5,7 @@ use Rattle.std.specs.Prelude.{if◌then◌else◌, nat_eq, slice_get}
 use Rattle.std.specs.List.{AllZip, cons_option}
 use Rattle.std.specs.Option.{option_map}
 use Rattle.std.specs.Result.{result_ok}
+use Rattle.std.proofs.lemmas.Bool.{not-true}
 use Rattle.sq_lex.specs.declared.name.Name.{Name}
 use Rattle.sq_tree.specs.declared.cond.Comparison.TheVariants.{Equal}
 use Rattle.sq_tree.specs.declared.expr.Sign.{Sign}
@@ -13,7 +14,7 @@ use Rattle.sq_tree.specs.declared.names.ColumnReference.{ColumnReference}
 use Rattle.sq_value.specs.SetFunctions.{is_null as is_null_value}
 use Rattle.sq_value.specs.declared.value.Value.{Value}
 use Rattle.sq_value.specs.declared.value.Value.TheVariants.{Null, Num, Chars}
-use Rattle.sq_meaning.specs.Environment.{Input, Item, Place, Row, column_in, column_named as column_of_name, input_value, names_item, same_name}
+use Rattle.sq_meaning.specs.Environment.{Input, Place, Row, column_in, column_named as column_of_name, input_value, names_item}
 use Rattle.sq_meaning.specs.Expression.{value, with_sign}
 use Rattle.sq_meaning.specs.Placed.{Placed, by_place}
 use Rattle.sq_meaning.specs.Spelled.{Named}
@@ -23,6 +24,7 @@ use Rattle.sq_meaning.specs.Syntax.{Expr, Cond, Conds, a_cond, column, compare, 
 use Rattle.sq_meaning.specs.WellFormed.{HasValue}
 use Rattle.sq_rules.specs.Keyed.{column_equal, is_known_value, tests_of}
 use Rattle.sq_rules.specs.Words.{is_some_and}
+use Rattle.sq_model.proofs.Bind.{bind_ok}
 use Rattle.sq_bound.specs.Condition.{PlacedCond}
 use Rattle.sq_bound.specs.Expression.{PlacedExpr}
 use Rattle.sq_bound.specs.Keyed.{column_named, is_constant}
@@ -43,11 +45,6 @@ use Rattle.sq_places.proofs.Items.{IsInOrder}
 use Rattle.sq_places.proofs.Outcomes.{known_of, ok_same}
 use Rattle.sq_places.proofs.Parameters.{SameInputs, SameParameter, parameter_same}
 use Rattle.sq_places.proofs.Setting.{named, scopes_with}
-
--- what two steps have to give a value
-pub ok_both : {A B : Type 0} (o : Outcome A) (f : A → Outcome B) (y : B) → and_then o f ≡ Ok y → (x : A) × (o ≡ Ok x) × (f x ≡ Ok y)
-ok_both (Ok x) f y e = (x, refl, e)
-ok_both (Err status) f y e = cc
 
 -- ---- a column of the only item
 
@@ -84,12 +81,8 @@ module _ (item : FromItem) (in_order : IsInOrder item) (r : ColumnReference) (p 
 
 -- ---- values
 
-not_so : (b : Bool) → not b ≡ true → b ≡ false
-not_so true e = cc
-not_so false e = refl
-
 known_outcome : (o : Outcome Value) → is_some_and (λ v. not (is_null_value v)) (result_ok o) ≡ true → IsKnownValue o
-known_outcome (Ok v) e = not_so (is_null_value v) e
+known_outcome (Ok v) e = not-true (is_null_value v) e
 known_outcome (Err status) e = cc
 
 not_null : (v : Value) → SpellsNoNull (literal v) → is_null_value v ≡ false
@@ -116,7 +109,7 @@ module _ (known : KnownTables) (ps : List ParameterDesc) (item : FromItem) (in_o
   constant_of (literal v) x k e = ap is_constant (sym (ok_same (literal v) x e))
   constant_of (signed sign (literal v)) x k e = ap is_constant (sym (ok_same (signed sign (literal v)) x e))
   constant_of (parameter p) x k e =
-      let two = ok_both (placed_parameter (declared ps) p) (λ q. Ok (parameter q)) x e in
+      let two = bind_ok (placed_parameter (declared ps) p) (λ q. Ok (parameter q)) x e in
       ap is_constant (sym (ok_same (parameter two.0) x two.2))
   constant_of _ x k e = cc
 
@@ -132,7 +125,7 @@ module _ (known : KnownTables) (ps : List ParameterDesc) (item : FromItem) (in_o
       subst (λ z. IsKnownValue (value_of tables z)) same
       (signed_known sign v spells (subst (λ z. HasValue (value_of tables z)) (sym same) there))
   value_known (parameter p) x k spells e tables there =
-      let two = ok_both (placed_parameter (declared ps) p) (λ q. Ok (parameter q)) x e in
+      let two = bind_ok (placed_parameter (declared ps) p) (λ q. Ok (parameter q)) x e in
       let same : SameParameter ps p two.0 = known_of (placed_parameter (declared ps) p) (SameParameter ps p) two.0 (parameter_same ps p) two.1 in
       subst (λ z. IsKnownValue (value_of tables z)) (ok_same (parameter two.0) x two.2)
       (subst IsKnownValue (same inputs (inputs_of values) same_inputs) (known_outcome (input_value p inputs) k))
@@ -159,9 +152,9 @@ module _ (known : KnownTables) (ps : List ParameterDesc) (item : FromItem) (in_o
   pub test_known : (c : Cond Named) (t : PlacedCond) → cond_placed here c ≡ Ok t → CondSpellsNoNull c → (n : Name)
       → column_equal inputs c ≡ Some n → IsKnownTest n t
   test_known (compare Equal (column r) e) t is spells n found =
-      let left = ok_both (expr_placed here (column r)) (λ x. and_then (expr_placed here e) (λ y. Ok (compare Equal x y))) t is in
-      let at = ok_both (placed_column (scopes_with ((item ∷ []) ∷ [])) r) (λ p. Ok (column p)) left.0 left.1 in
-      let right = ok_both (expr_placed here e) (λ y. Ok (compare Equal left.0 y)) t left.2 in
+      let left = bind_ok (expr_placed here (column r)) (λ x. and_then (expr_placed here e) (λ y. Ok (compare Equal x y))) t is in
+      let at = bind_ok (placed_column (scopes_with ((item ∷ []) ∷ [])) r) (λ p. Ok (column p)) left.0 left.1 in
+      let right = bind_ok (expr_placed here e) (λ y. Ok (compare Equal left.0 y)) t left.2 in
       let here_at = placed_here item in_order r at.0 at.1 in
       let named = known_if (is_known_value inputs e) r.column n found in
       record {
@@ -200,7 +193,7 @@ module _ (known : KnownTables) (ps : List ParameterDesc) (item : FromItem) (in_o
       → AllZip IsPlacedTest (tests_of cs) (placed_tests ts)
   tests_placed no_cond ts e spells = subst (λ z. AllZip IsPlacedTest [] (placed_tests z)) (ok_same no_cond ts e) tt
   tests_placed (a_cond c cs) ts e spells =
-      let first = ok_both (cond_placed here c) (λ x. and_then (conds_placed here cs) (λ xs. Ok (a_cond x xs))) ts e in
-      let rest = ok_both (conds_placed here cs) (λ xs. Ok (a_cond first.0 xs)) ts first.2 in
+      let first = bind_ok (cond_placed here c) (λ x. and_then (conds_placed here cs) (λ xs. Ok (a_cond x xs))) ts e in
+      let rest = bind_ok (conds_placed here cs) (λ xs. Ok (a_cond first.0 xs)) ts first.2 in
       subst (λ z. AllZip IsPlacedTest (c ∷ tests_of cs) (placed_tests z)) (ok_same (a_cond first.0 rest.0) ts rest.2)
       ((first.1, spells.0), tests_placed cs rest.0 rest.1 spells.1)

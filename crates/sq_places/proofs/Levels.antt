@@ -31,6 +31,7 @@ use Rattle.sq_binding.specs.Scope.{item_named}
 use Rattle.sq_promises.specs.Names.{leaf_positions}
 use Rattle.sq_promises.specs.Written.{IsShownAt, leaf_item}
 use Rattle.sq_query.specs.Target.{and_own}
+use Rattle.sq_change.proofs.RowsChanged.{all_unmapped}
 use Rattle.sq_places.proofs.Databases.{in_database}
 use Rattle.sq_places.proofs.Items.{IsFit, names_at_leaf, names_of_columns, names_over, over_in_order}
 use Rattle.sq_places.proofs.Outcomes.{append_zip, known_of, same_length}
@@ -70,16 +71,11 @@ pub record IsTargetAs (m : Reading Named) (shown : TablePlace → Outcome (List 
   pub few : target.demanded ≤ length target.levels
   pub demanded : u.demanded ≡ length (written (take target.demanded clauses))
 
-of_map : {A B : Type 0} (P : B → Type 0) (f : A → B) (xs : List A) → AllByRecursion P (map f xs)
-    → AllByRecursion (λ x. P (f x)) xs
-of_map P f [] h = tt
-of_map P f (x ∷ xs) h = (h.0, of_map P f xs h.1)
-
 -- such a row has a value for each column
 pub row_reaches : (width : ℕ) (columns : List Column) (positions : List ℕ) → positions ≡ leaf_positions columns
     → AllByRecursion (λ p. p < width) positions → (row : Row) → HasLength width row → Reaches columns row
 row_reaches width columns positions e within row l =
-    of_map (λ p. p < length row) (λ (c : Column). c.leaf_column) columns
+    all_unmapped (λ p. p < length row) (λ (c : Column). c.leaf_column) columns
     (all_weaker (λ p. p < width) (λ p. p < length row) (λ p lt. subst (λ n. p < n) (sym l) lt) (leaf_positions columns) (subst (λ ps. AllByRecursion (λ p. p < width) ps) e within))
 
 -- ---- lists

@@ -132,11 +132,6 @@ kept_of {A} P test (x ∷ xs) p = by_test (test x) (kept_of P test xs p.1)
         if_then (kept test xs) (λ ys. Ok (if b then x ∷ ys else ys)) (AllByRecursion P) (AllByRecursion P) rest
         (λ ys q. chosen b ys q)
 
-pub all_append : {A : Type 0} (P : A → Type 0) (xs ys : List A) → AllByRecursion P xs → AllByRecursion P ys
-    → AllByRecursion P (xs ++ ys)
-all_append P [] ys p q = q
-all_append P (x ∷ xs) ys p q = (p.0, all_append P xs ys p.1 q)
-
 pub all_each : {A : Type 0} (P : A → Type 0) → ((x : A) → P x) → (xs : List A) → AllByRecursion P xs
 all_each P h [] = tt
 all_each P h (x ∷ xs) = (h x, all_each P h xs)

@@ -210,7 +210,7 @@ filtered_twice p q (r ∷ rows) = by_first (p r) (filtered_twice p q rows)
     by_first true rest = rest
     by_first false rest = by_second (q r) rest
 
-all_left : (rows : List Numbered) → filter (λ r. not (is_numbered [] r)) rows ≡ rows
+pub all_left : (rows : List Numbered) → filter (λ r. not (is_numbered [] r)) rows ≡ rows
 all_left [] = refl
 all_left (r ∷ rows) = ap (λ l. r ∷ l) (all_left rows)
 

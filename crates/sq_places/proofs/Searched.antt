@@ -13,7 +13,7 @@ use Rattle.sq_meaning.specs.Syntax.{Clause}
 use Rattle.sq_meaning.specs.Tables.{TableDescriptor, column_names}
 use Rattle.sq_meaning.specs.Target.{Level, Target, chosen, chosen_numbers, places_of, searched_target, seen_through, target_of}
 use Rattle.sq_model.specs.Change as by_name
-use Rattle.sq_model.specs.Change.{Which, if_some, outer_env, reading, rows_at, tables_in}
+use Rattle.sq_model.specs.Change.{if_some, outer_env, reading, rows_at, tables_in}
 use Rattle.sq_bound.specs.Condition.{PlacedClause, clause_of}
 use Rattle.sq_bound.specs.Known.{KnownTables, Under}
 use Rattle.sq_bound.specs.declared.condition.BoundSpecification.{BoundSpecification}

@@ -21,7 +21,7 @@ use Rattle.sq_meaning.specs.Target.{Level, Target}
 use Rattle.sq_meaning.proofs.OutcomeLaws.{then_then}
 use Rattle.sq_rules.specs.Schema.{place_among}
 use Rattle.sq_model.specs.Change as by_name
-use Rattle.sq_model.specs.Change.{Which, base_at, domain_at, if_some, is_numbered, item_alone, outer_env, place_under, reading, row_env, rows_at, set_places, stored_value, stored_values, tables_in, updated_row, which_target, with_values}
+use Rattle.sq_model.specs.Change.{domain_at, is_numbered, item_alone, outer_env, place_under, row_env, rows_at, stored_value, stored_values, tables_in, updated_row, with_values}
 use Rattle.sq_bound.specs.Fits.{IsColumnOf}
 use Rattle.sq_bound.specs.Known.{KnownTables}
 use Rattle.sq_bound.specs.declared.condition.BoundSpecification.{BoundSpecification}

@@ -1,4 +1,4 @@
-use Rattle.std.proofs.Common.{◌≡◌, List, map, subst}
+use Rattle.std.proofs.Common.{List, map, subst}
 use Rattle.std.specs.Borrow.{Bor}
 use Rattle.sq_tree.specs.declared.cond.Cond.{Cond}
 use Rattle.sq_binding.specs.Seen.{cond_seen}

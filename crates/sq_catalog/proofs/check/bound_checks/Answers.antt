@@ -5,7 +5,7 @@ use Rattle.sq_binding.specs.Seen.{cond_seen}
 use Rattle.sq_promises.specs.Names.{descriptor_of}
 use Rattle.sq_catalog.specs.Checks.{check_over}
 use Rattle.sq_catalog.specs.Exact.{name_in}
-use Rattle.sq_catalog.proofs.Turns.{made_all, made_stops, seen_next}
+use Rattle.sq_catalog.proofs.Turns.{made_stops, seen_next}
 use Rattle.sq_catalog.proofs.check.bound_checks.Goals as goal
 
 pub returns-in-Err : goal.returns-in-Err

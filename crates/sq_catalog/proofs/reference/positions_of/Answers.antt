@@ -1,4 +1,4 @@
-use Rattle.std.proofs.Common.{◌≡◌, Some, None, ap, length, map, nat_lt, position, sym, ◌∙◌}
+use Rattle.std.proofs.Common.{◌≡◌, Some, None, ap, length, nat_lt, position, sym, ◌∙◌}
 use Rattle.sq_lex.specs.declared.name.Name.{Name}
 use Rattle.sq_bound.specs.Names.{are_positions, is_name}
 use Rattle.sq_bound.specs.declared.names.Column.{Column}

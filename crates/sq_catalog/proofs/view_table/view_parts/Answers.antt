@@ -9,10 +9,10 @@ placed_columns-columns-requires c = ap length c.as_slice.ensures ∙ zip_length 
 
 pub returns-clause-columns : goal.returns-clause-columns
 returns-clause-columns c =
-    parts_over c.pair_of.result c.placed_columns-columns.result c.view_leaf.result (base_kinds c.args.over.target.leaf.table) c.as_slice.result.now (kinds_of_columns c.args.columns.now) c.pair_of.ensures c.placed_columns-columns.ensures.columns
+    parts_over c.pair_of.result c.placed_columns-columns.result c.view_leaf.result (base_kinds c.args.over.target.leaf.table) c.as_slice.result.now (kinds_of_columns c.args.columns.now) c.pair_of.ensures.values c.placed_columns-columns.ensures.columns
     (subst (λ (ps : List ℕ). AllZip (λ p k. slice_get (base_kinds c.args.over.target.leaf.table) p ≡ Some k) ps (kinds_of_columns c.args.columns.now)) (sym c.as_slice.ensures) c.requires)
 
 pub returns-clause-over : goal.returns-clause-over
 returns-clause-over c =
-    parts_above c.pair_of.result c.placed_columns-columns.result c.view_leaf.result c.args.check_option c.args.over c.as_slice.result.now c.pair_of.ensures c.as_slice.ensures c.placed_columns-columns.ensures.places
+    parts_above c.pair_of.result c.placed_columns-columns.result c.view_leaf.result c.args.check_option c.args.over c.as_slice.result.now c.pair_of.ensures.values c.as_slice.ensures c.placed_columns-columns.ensures.places
     c.view_leaf.ensures.base c.view_leaf.ensures.conditions c.view_leaf.ensures.demanded

@@ -3,13 +3,14 @@ use Rattle.std.proofs.lemmas.Map.Made.{is_some-lookup}
 use Rattle.std.specs.List.{AllByRecursion, list_any}
 use Rattle.std.specs.Map.{keys_of}
 use Rattle.std.specs.Prelude.{if◌then◌else◌, is_some}
+use Rattle.sq_meaning.specs.Environment.{same_name}
 use Rattle.sq_rules.specs.declared.refusal.ModuleFault.TheVariants as fault
-use Rattle.sq_module.specs.Program.{same_name}
+use Rattle.sq_binding.proofs.SameParameters.{names_equal}
 use Rattle.sq_module.specs.Written.{IsCursorIn}
 use Rattle.sq_module.proofs.Listed.{cursor_listed}
 use Rattle.sq_module.proofs.Names.{keys_insert}
 use Rattle.sq_module.proofs.Refused.{fault_there}
-use Rattle.sq_module.proofs.Written.{all_entries, names_equal}
+use Rattle.sq_module.proofs.Written.{all_entries}
 use Rattle.sq_module.proofs.admission.add_cursor.Goals as goal
 
 pub returns-in-Ok-None-clause-written : goal.returns-in-Ok-None-clause-written

@@ -1,7 +1,7 @@
 use Rattle.sq_catalog.specs.Exact.{declared, name_in}
 use Rattle.sq_catalog.specs.ViewMade.{checked_view, view_found}
 use Rattle.sq_catalog.proofs.ViewMade.{option_stops, place_passes, privilege_stops}
-use Rattle.sq_catalog.proofs.ViewSteps.{handed_on}
+use Rattle.sq_catalog.proofs.Turns.{handed_on}
 use Rattle.sq_catalog.proofs.catalog.Catalog.check_view.Goals as goal
 
 pub returns-in_err-refused_if-clause-exact : goal.returns-in_err-refused_if-clause-exact

@@ -2,13 +2,13 @@ use Rattle.std.proofs.Common.{◌≡◌, List, ap, map, subst, ◌∙◌}
 use Rattle.std.specs.Result.{OnOk, is_ok}
 use Rattle.sq_declaring.specs.Catalog as definition
 use Rattle.sq_declaring.specs.Catalog.{with_grants}
-use Rattle.sq_declaring.specs.View.{create_view, declared_view}
+use Rattle.sq_declaring.specs.View.{create_view}
 use Rattle.sq_catalog.specs.Catalog.{Catalog}
 use Rattle.sq_catalog.specs.Exact.{declared}
 use Rattle.sq_catalog.specs.Held.{grant_seen, grants_held}
 use Rattle.sq_catalog.proofs.GainsViews.{view_created}
 use Rattle.sq_catalog.proofs.ViewMade.{create_answered, create_stops}
-use Rattle.sq_catalog.proofs.ViewSteps.{handed_on, out_of_memory}
+use Rattle.sq_catalog.proofs.Turns.{handed_on, no_memory}
 use Rattle.sq_catalog.proofs.catalog.Catalog.create_view.Goals as goal
 
 pub returns-in_err-table-clause-exact : goal.returns-in_err-table-clause-exact
@@ -36,4 +36,4 @@ returns-in-Ok-clause-exact c =
     (ap (λ (s : Catalog). s.users) c.self.view_is) (ap (λ (s : Catalog). s.base_entries) c.self.view_is) (ap (λ (s : Catalog). s.view_entries) c.self.view_is)
 
 pub returns-in-Err-clause-exact : goal.returns-in-Err-clause-exact
-returns-in-Err-clause-exact c = out_of_memory (create_view (declared c.args.self.now) c.args.user c.args.definition.now) c.in-Err.fault c.in-Err.ensures.memory
+returns-in-Err-clause-exact c = no_memory (create_view (declared c.args.self.now) c.args.user c.args.definition.now) c.in-Err.fault c.in-Err.ensures.memory

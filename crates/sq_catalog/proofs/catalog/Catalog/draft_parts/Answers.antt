@@ -22,4 +22,4 @@ returns-clause-exact c =
     (and_then (refused_if NameTwice (has_name_twice (written_names w))) (λ u. names_found (declared c.args.self.now) c.args.user (name_in c.args.name.now) (written_names w) (map (λ (key : WrittenKey). key.columns) w.keys.items) (map reference_seen w.references.items)))
     (each typed_column (definitions_lent w.columns.items)) c.found_in-found.result c.typed_columns-columns.result c.found_in-found.ensures.exact
     (subst (λ (ds : List (Bor ColumnDefinition)). Makes (λ columns. map typed_seen columns.items) (each typed_column (definitions_lent ds)) c.typed_columns-columns.result) c.as_slice.ensures.value c.typed_columns-columns.ensures.exact)
-    c.both.result c.both.ensures.values c.both.ensures.fault
+    c.pair_of.result c.pair_of.ensures.values c.pair_of.ensures.fault

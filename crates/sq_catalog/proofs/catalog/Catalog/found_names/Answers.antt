@@ -19,4 +19,4 @@ returns-clause-exact c =
     (each found (map reference_seen c.args.written.now.references.items)) c.keys_of-keys.result c.references_of-references.result
     (subst (λ (ws : List WrittenKey). Makes (λ keys. keys.columns) (each (positions_of names) (map (λ (key : WrittenKey). key.columns) ws)) c.keys_of-keys.result) c.as_slice.ensures.value c.keys_of-keys.ensures.exact)
     (subst (λ (ws : List WrittenReference). Makes (λ references. map found_seen references.items) (each found (map reference_seen ws)) c.references_of-references.result) c.as_slice-2.ensures.value c.references_of-references.ensures.exact)
-    c.both.result c.both.ensures.values c.both.ensures.fault
+    c.pair_of.result c.pair_of.ensures.values c.pair_of.ensures.fault

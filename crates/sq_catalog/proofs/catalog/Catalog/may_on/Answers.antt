@@ -1,4 +1,4 @@
-use Rattle.std.proofs.Common.{◌&&◌, Bool, ap, sym, ◌∙◌}
+use Rattle.std.proofs.Common.{◌&&◌, ap, sym, ◌∙◌}
 use Rattle.std.specs.List.{list_any}
 use Rattle.sq_rules.specs.Privileges.{is_on_column}
 use Rattle.sq_declaring.specs.Catalog.{gives, owns}

@@ -1,5 +1,4 @@
-use Rattle.std.proofs.Common.{◌≡◌, List, Some, map, ap, ◌∙◌}
-use Rattle.sq_lex.specs.declared.name.Name.{Name}
+use Rattle.std.proofs.Common.{List, map, ap, ◌∙◌}
 use Rattle.sq_bound.specs.declared.condition.ResultColumn.{ResultColumn}
 use Rattle.sq_catalog.specs.Catalog.{known}
 use Rattle.sq_catalog.specs.Exact.{declared}

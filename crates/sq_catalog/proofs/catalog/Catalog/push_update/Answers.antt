@@ -1,4 +1,3 @@
-use Rattle.std.proofs.Common.{Some, None, sym, ◌∙◌}
 use Rattle.sq_binding.specs.Seen.{numbered_of}
 use Rattle.sq_catalog.specs.Exact.{declared, names_in}
 use Rattle.sq_catalog.proofs.ViewHeld.{if_ok, update_none, update_shown}

@@ -1,11 +1,10 @@
-use Rattle.std.proofs.Common.{◌≡◌, Bool, List, Ok, ap, map, subst, sym, ◌∙◌}
+use Rattle.std.proofs.Common.{Bool, ap, map, subst, sym, ◌∙◌}
 use Rattle.std.specs.List.{list_any}
 use Rattle.sq_rules.specs.declared.refusal.SchemaFault.TheVariants.{BadKey, NullableKey}
 use Rattle.sq_declaring.specs.Key.{has_nullable}
 use Rattle.sq_declaring.specs.Outcome.{refused_if}
 use Rattle.sq_catalog.specs.Fault.{Makes}
 use Rattle.sq_catalog.specs.Table.{typed_seen}
-use Rattle.sq_catalog.specs.declared.typed.TypedColumn.{TypedColumn}
 use Rattle.sq_catalog.proofs.NotNull.{known_keys}
 use Rattle.sq_catalog.proofs.TablesMade.{lists_are}
 use Rattle.sq_catalog.proofs.Turns.{on_ok, then_makes}

@@ -1,4 +1,4 @@
-use Rattle.std.proofs.Common.{◌||◌, sym, ◌∙◌}
+use Rattle.std.proofs.Common.{sym, ◌∙◌}
 use Rattle.sq_catalog.specs.Exact.{name_in}
 use Rattle.sq_catalog.specs.Held.{grants_held, privilege_of}
 use Rattle.sq_catalog.proofs.Found.{first_found, second_found}

@@ -1,8 +1,6 @@
 use Rattle.std.proofs.Common.{◌++◌, ◌∷◌, [], ap, arith, ◌∙◌}
 use Rattle.sq_rules.specs.Schema.{has_name_twice}
-use Rattle.sq_rules.specs.declared.refusal.SchemaFault.TheVariants.{NameTwice}
-use Rattle.sq_declaring.specs.Outcome.{refused_if}
-use Rattle.sq_catalog.specs.Written.{definitions_lent, names_at}
+use Rattle.sq_catalog.specs.Written.{names_at}
 use Rattle.sq_catalog.proofs.Turns.{handed_on}
 use Rattle.sq_catalog.proofs.Twice.{added_new, names_next, names_stop, once_more}
 use Rattle.sq_catalog.proofs.written.NamedColumns.add_all.Goals as goal

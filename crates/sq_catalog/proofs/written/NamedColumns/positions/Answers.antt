@@ -3,7 +3,7 @@ use Rattle.sq_bound.specs.Names.{are_positions, is_name}
 use Rattle.sq_declaring.specs.Position.{position_of, positions_of}
 use Rattle.sq_catalog.specs.Written.{column_count, names_at}
 use Rattle.sq_catalog.proofs.Listed.{all_push, below}
-use Rattle.sq_catalog.proofs.Turns.{done_all, done_next, done_stops, handed_on}
+use Rattle.sq_catalog.proofs.Turns.{done_next, done_stops, handed_on}
 use Rattle.sq_catalog.proofs.WrittenParts.{zip_read}
 use Rattle.sq_catalog.proofs.written.NamedColumns.positions.Goals as goal
 

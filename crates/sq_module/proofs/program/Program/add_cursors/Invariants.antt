@@ -4,10 +4,11 @@ use Rattle.sq_catalog.specs.Catalog.{column_kinds, known}
 use Rattle.sq_catalog.specs.UserTables.{names_in}
 use Rattle.sq_lex.specs.declared.name.Name.{Name}
 use Rattle.sq_tree.specs.declared.module.ModuleText.{ModuleText}
+use Rattle.sq_meaning.specs.Environment.{same_name}
 use Rattle.sq_module.specs.Computed.{AreComputedCursors}
 use Rattle.sq_module.specs.Named.{AreNamed}
 use Rattle.sq_module.specs.Opened.{AreOfOthers, AreOpenable, AreThere, Grow, OpenedBy}
-use Rattle.sq_module.specs.Program.{FitsProgram, ProgramIsWellFormed, same_name}
+use Rattle.sq_module.specs.Program.{FitsProgram, ProgramIsWellFormed}
 use Rattle.sq_module.specs.Written.{AreApart, AreNumbers, IsOfText}
 use Rattle.sq_module.proofs.program.Program.add_cursors.Given as goal
 

@@ -1,4 +1,4 @@
-use Rattle.std.proofs.Common.{[], ◌∷◌, ◌++◌, ◌∙◌, IfOk, None, ap, refl, subst, sym}
+use Rattle.std.proofs.Common.{[], ◌∷◌, ◌++◌, ◌∙◌, IfOk, ap, refl, subst, sym}
 use Rattle.std.proofs.lemmas.List.{append-nil}
 use Rattle.std.specs.Borrow.{Bor}
 use Rattle.std.specs.Option.{option_map}

@@ -2,7 +2,7 @@ use Rattle.std.proofs.Common.{◌≡◌, drop}
 use Rattle.std.specs.List.{list_all, zip}
 use Rattle.sq_bound.specs.WellFormed.{kinds_of_columns}
 use Rattle.sq_declaring.specs.Reference.{are_paired}
-use Rattle.sq_catalog.proofs.reference.kinds_agree.Given as goal
+use Rattle.sq_catalog.proofs.bound_reference.kinds_agree.Given as goal
 
 abbrev pub invariant-loop-pair : goal.invariant-loop-pair
 invariant-loop-pair l =

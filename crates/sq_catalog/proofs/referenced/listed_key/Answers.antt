@@ -8,7 +8,7 @@ use Rattle.sq_declaring.specs.Reference.{key_at}
 use Rattle.sq_catalog.specs.References.{is_key_of}
 use Rattle.sq_catalog.proofs.References.{position_first}
 use Rattle.sq_catalog.proofs.ReferencesBound.{key_here, key_past}
-use Rattle.sq_catalog.proofs.reference.listed_key.Goals as goal
+use Rattle.sq_catalog.proofs.referenced.listed_key.Goals as goal
 
 pub returns-then-are_the_same-clause-key : goal.returns-then-are_the_same-clause-key
 returns-then-are_the_same-clause-key c =

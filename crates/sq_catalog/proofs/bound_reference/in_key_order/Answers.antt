@@ -3,7 +3,7 @@ use Rattle.std.specs.List.{list_any}
 use Rattle.sq_catalog.specs.References.{paired_with}
 use Rattle.sq_catalog.proofs.Listed.{all_read_at}
 use Rattle.sq_catalog.proofs.References.{pairs_next}
-use Rattle.sq_catalog.proofs.reference.in_key_order.Goals as goal
+use Rattle.sq_catalog.proofs.bound_reference.in_key_order.Goals as goal
 
 pub push_paired-requires-clause-listed : goal.push_paired-requires-clause-listed
 push_paired-requires-clause-listed c =

@@ -1,6 +1,6 @@
 use Rattle.std.proofs.Common.{◌≡◌, false, nat_eq, take}
 use Rattle.std.specs.List.{list_any}
-use Rattle.sq_catalog.proofs.reference.push_paired.Given as goal
+use Rattle.sq_catalog.proofs.bound_reference.push_paired.Given as goal
 
 abbrev pub invariant-loop-pair : goal.invariant-loop-pair
 invariant-loop-pair l = record {

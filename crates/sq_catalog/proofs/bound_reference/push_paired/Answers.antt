@@ -1,6 +1,6 @@
 use Rattle.std.proofs.Common.{◌<◌, ◌++◌, ◌∷◌, [], length, get_or, ap, arith, ◌∙◌}
 use Rattle.sq_catalog.proofs.References.{pair_added}
-use Rattle.sq_catalog.proofs.reference.push_paired.Goals as goal
+use Rattle.sq_catalog.proofs.bound_reference.push_paired.Goals as goal
 
 pub returns-then-other-key_column-clause-pair : goal.returns-then-other-key_column-clause-pair
 returns-then-other-key_column-clause-pair c =

@@ -6,7 +6,7 @@ use Rattle.sq_catalog.specs.Reference.{IsBound, own_seen}
 use Rattle.sq_catalog.proofs.ReferencesBound.{bound_all, bound_next, bound_none, bound_stops}
 use Rattle.sq_catalog.proofs.Turns.{handed_on}
 use Rattle.sq_catalog.proofs.WrittenParts.{zip_read}
-use Rattle.sq_catalog.proofs.reference.BoundReferences.add_all.Goals as goal
+use Rattle.sq_catalog.proofs.bound_reference.BoundReferences.add_all.Goals as goal
 
 pub returns-in_err-add-clause-exact : goal.returns-in_err-add-clause-exact
 returns-in_err-add-clause-exact c =

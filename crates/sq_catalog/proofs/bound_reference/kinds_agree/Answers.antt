@@ -1,8 +1,8 @@
-use Rattle.std.proofs.Common.{◌≡◌, ◌&&◌, ap, get_or, sym, ◌∙◌}
+use Rattle.std.proofs.Common.{sym, ◌∙◌}
 use Rattle.sq_bound.specs.WellFormed.{kinds_of_columns}
-use Rattle.sq_declaring.specs.Reference.{are_of_one_sort, are_paired}
-use Rattle.sq_catalog.proofs.ReferencesBound.{all_paired_from, pairs_end, pairs_step}
-use Rattle.sq_catalog.proofs.reference.kinds_agree.Goals as goal
+use Rattle.sq_declaring.specs.Reference.{are_of_one_sort}
+use Rattle.sq_catalog.proofs.ReferencesBound.{pairs_end, pairs_step}
+use Rattle.sq_catalog.proofs.bound_reference.kinds_agree.Goals as goal
 
 pub returns-then-not-are_of_one_sort : goal.returns-then-not-are_of_one_sort
 returns-then-not-are_of_one_sort c =

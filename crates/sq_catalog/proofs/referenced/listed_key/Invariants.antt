@@ -3,7 +3,7 @@ use Rattle.std.specs.List.{enumerate_from, list_any}
 use Rattle.std.specs.Prelude.{find}
 use Rattle.sq_declaring.specs.Reference.{are_the_same}
 use Rattle.sq_catalog.specs.References.{is_key_of}
-use Rattle.sq_catalog.proofs.reference.listed_key.Given as goal
+use Rattle.sq_catalog.proofs.referenced.listed_key.Given as goal
 
 abbrev pub invariant-loop-place : goal.invariant-loop-place
 invariant-loop-place l = record {

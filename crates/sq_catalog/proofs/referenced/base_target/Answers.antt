@@ -6,7 +6,7 @@ use Rattle.sq_catalog.specs.Exact.{entry_with}
 use Rattle.sq_catalog.specs.Reference.{HasKinds, own_seen, target_seen}
 use Rattle.sq_catalog.specs.declared.catalog.FullName.{FullName}
 use Rattle.sq_catalog.proofs.ReferencesBound.{base_seen}
-use Rattle.sq_catalog.proofs.reference.base_target.Goals as goal
+use Rattle.sq_catalog.proofs.referenced.base_target.Goals as goal
 
 pub returns-in-Base-clause-exact : goal.returns-in-Base-clause-exact
 returns-in-Base-clause-exact c =

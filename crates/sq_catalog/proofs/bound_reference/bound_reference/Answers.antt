@@ -4,7 +4,7 @@ use Rattle.sq_declaring.specs.Reference.{paired_reference}
 use Rattle.sq_catalog.specs.Fault.{Makes}
 use Rattle.sq_catalog.specs.Reference.{key_seen, target_seen}
 use Rattle.sq_catalog.proofs.ReferencesBound.{badly_paired, pair_well, well_paired}
-use Rattle.sq_catalog.proofs.reference.bound_reference.Goals as goal
+use Rattle.sq_catalog.proofs.bound_reference.bound_reference.Goals as goal
 
 pub returns-then-not-pair_well-clause-exact : goal.returns-then-not-pair_well-clause-exact
 returns-then-not-pair_well-clause-exact c =

@@ -5,7 +5,7 @@ use Rattle.sq_declaring.specs.Reference as definition
 use Rattle.sq_catalog.specs.Exact.{declared}
 use Rattle.sq_catalog.specs.Reference.{entries_seen, names_in}
 use Rattle.sq_catalog.proofs.ReferencesBound.{may_reference_all}
-use Rattle.sq_catalog.proofs.reference.may_reference.Goals as goal
+use Rattle.sq_catalog.proofs.bound_reference.may_reference.Goals as goal
 
 pub returns-in-Some : goal.returns-in-Some
 returns-in-Some c =

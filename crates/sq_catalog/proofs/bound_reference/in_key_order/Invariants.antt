@@ -1,7 +1,7 @@
 use Rattle.std.proofs.Common.{◌≡◌, ℕ, true, Some, length, map, take}
 use Rattle.sq_bound.specs.Names.{are_positions}
 use Rattle.sq_catalog.specs.References.{paired_with}
-use Rattle.sq_catalog.proofs.reference.in_key_order.Given as goal
+use Rattle.sq_catalog.proofs.bound_reference.in_key_order.Given as goal
 
 abbrev pub invariant-loop-key_column : goal.invariant-loop-key_column
 invariant-loop-key_column l = record {

@@ -2,9 +2,9 @@ use Rattle.std.proofs.Common.{◌≡◌, true, length, take}
 use Rattle.std.specs.List.{AllZip, list_all}
 use Rattle.sq_declaring.specs.Reference.{bound_reference}
 use Rattle.sq_catalog.specs.Exact.{declared}
-use Rattle.sq_catalog.specs.Reference.{IsBound, found_seen, is_to, keys_with, own_seen}
+use Rattle.sq_catalog.specs.Reference.{IsBound, is_to, keys_with, own_seen}
 use Rattle.sq_catalog.proofs.ReferencesBound.{AreBoundTo}
-use Rattle.sq_catalog.proofs.reference.BoundReferences.add_all.Given as goal
+use Rattle.sq_catalog.proofs.bound_reference.BoundReferences.add_all.Given as goal
 
 abbrev pub invariant-loop-reference : goal.invariant-loop-reference
 invariant-loop-reference l = record {
