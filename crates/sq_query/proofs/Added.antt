@@ -220,7 +220,7 @@ module _ (before after : Needed) (ts : List TablePlace) (adds : Adds before ts a
   pub needs_more : NeedsMore before after
   needs_more t h = needed_of_among after t (subst (λ (ps : Places). IsAmong ps t) (sym adds) (all_kept (places_in before) ts t (among_of_needed before t h)))
 
-  own : AllByRecursion (IsNeeded after) ts
+  pub own : AllByRecursion (IsNeeded after) ts
   own =
       all_weaker (IsAmong (fold with_table (places_in before) ts)) (IsNeeded after)
       (λ t h. needed_of_among after t (subst (λ (ps : Places). IsAmong ps t) (sym adds) h)) ts (all_own (places_in before) ts)

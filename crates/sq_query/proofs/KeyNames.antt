@@ -48,7 +48,7 @@ module _ (t : Target) (key : ℕ) (is : t.key ≡ Some key) where
   named : is_named_by t.leaf t.condition key ≡ true
   named = sym (ap (option_all (is_named_by t.leaf t.condition)) is) ∙ t.keyed
 
-  condition_there : (own : BoundCond) × (t.condition ≡ Some own)
+  pub condition_there : (own : BoundCond) × (t.condition ≡ Some own)
   condition_there = own_there t.leaf t.condition key named
 
   parts : (own : BoundCond) → t.condition ≡ Some own → (nat_eq (length t.leaf.conditions) 0 ≡ true) × (key < length t.leaf.table.keys) × (names_key (slice_index_or t.leaf.table.keys key []) (out-BoundCond own).terms ≡ true)

@@ -117,7 +117,7 @@ all_both P Q R so (x ∷ xs) p q = (so x p.0 q.0, all_both P Q R so xs p.1 q.1)
 
 -- ---- AND, over a list
 
-all_is : (tables : TablePlace → Outcome (List Row)) (here : Env (Unit {0})) (ts : List BoundTest) → all_truth (by_place tables) (conds (map (test_of []) ts)) here ≡ all_also (λ t. truth (by_place tables) (test_of [] t) here) ts
+pub all_is : (tables : TablePlace → Outcome (List Row)) (here : Env (Unit {0})) (ts : List BoundTest) → all_truth (by_place tables) (conds (map (test_of []) ts)) here ≡ all_also (λ t. truth (by_place tables) (test_of [] t) here) ts
 all_is tables here [] = refl
 all_is tables here (t ∷ ts) = ap (and_also (truth (by_place tables) (test_of [] t) here)) (all_is tables here ts)
 

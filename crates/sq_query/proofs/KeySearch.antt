@@ -18,25 +18,21 @@ use Rattle.sq_meaning.specs.Environment.{Row}
 use Rattle.sq_meaning.specs.Placed.{by_place}
 use Rattle.sq_meaning.specs.Query.{is_true, truth}
 use Rattle.sq_meaning.specs.WellFormed.{Has, IsRowOf}
-use Rattle.sq_meaning.proofs.AnswerLaws.{all_weaker}
 use Rattle.sq_bound.specs.Condition.{cond_of}
-use Rattle.sq_bound.specs.Fits.{IsBase, has_its_values, keys_of_bases, not_nulls_hold}
-use Rattle.sq_bound.specs.WellFormed.{IsTarget, TableKinds, base_kinds}
+use Rattle.sq_bound.specs.Fits.{has_its_values, keys_of_bases, not_nulls_hold}
+use Rattle.sq_bound.specs.WellFormed.{TableKinds, base_kinds}
 use Rattle.sq_bound.specs.declared.condition.BoundCond.{BoundCond}
 use Rattle.sq_bound.specs.declared.condition.TablePlace.{TablePlace}
 use Rattle.sq_bound.specs.declared.condition.TablePlace.TheVariants.{Base}
 use Rattle.sq_bound.specs.declared.names.BaseTable.{BaseTable}
-use Rattle.sq_bound.specs.declared.query.Target.{Target}
 use Rattle.sq_condition.proofs.Conditions.{neither_left, neither_right}
-use Rattle.sq_query.specs.Key.{IsKeyOf, IsKeyOn, StandsOn}
-use Rattle.sq_query.specs.Row.{outside, truth_on_row}
-use Rattle.sq_query.specs.Target.{and_own, are_true, conditions_of, is_true_of}
+use Rattle.sq_query.specs.Key.{IsKeyOn, StandsOn}
+use Rattle.sq_query.specs.Row.{outside}
+use Rattle.sq_query.specs.Target.{is_true_of}
 use Rattle.sq_query.specs.declared.key.KnownKey.{KnownKey}
 use Rattle.sq_query.proofs.KeyColumns.{key_not_null, key_value, rows_have_values}
-use Rattle.sq_query.proofs.KeyNames.{base_under, no_view}
 use Rattle.sq_query.proofs.KeyOut as without
 use Rattle.sq_query.proofs.KeyOut.{all_both}
-use Rattle.sq_query.proofs.KeyValues.{own_stands}
 use Rattle.sq_query.proofs.OnlyOne.{AtMostOne, at_most_one, distinct_at}
 
 -- ---- lists
@@ -110,43 +106,3 @@ module _ (tables : TablePlace → Outcome (List Row)) (columns : TableKinds) (pa
     pub rows_kept : kept test_own (table_at content place).rows ≡ decided test_own has_it (with_key (table_at content place) own_columns known.values)
     rows_kept =
         scan_finds test_own has_it (table_at content place).rows all_out (at_most_one own_columns known.values (table_at content place).rows (distinct_at keys content place known.key keyed k.table k.key))
-
--- ---- the row that a target names by its key, where no view is between
-
-module _ (tables : TablePlace → Outcome (List Row)) (columns : TableKinds) (parameters : List Kind) (values : List Value) (caller : Name) (given : IsRowOf parameters values)
-    (bases : List BaseTable) (content : Content) (keys : List Keys) (t : Target) (known : KnownKey) (k : IsKeyOf t content keys values caller known)
-    (well : IsTarget columns parameters t) (base : IsBase bases t.leaf.table) (keys_are : keys ≡ keys_of_bases bases) (nulls : not_nulls_hold bases content ≡ true) where
-  views_none : t.leaf.conditions ≡ []
-  views_none = no_element t.leaf.conditions (no_view t known.key k.is_key)
-
-  conditions_are : conditions_of t ≡ k.own ∷ []
-  conditions_are = (λ i. and_own (views_none i) (k.is_own i))
-
-  under_kinds : columns (Base t.base) ≡ Ok (base_kinds t.leaf.table)
-  under_kinds = ap (λ (p : ℕ). columns (Base p)) t.is_under ∙ well.leaf.kinds_are
-
-  under_stands : StandsOn columns parameters (Base t.base) k.own
-  under_stands = subst (λ (p : ℕ). StandsOn columns parameters (Base p) k.own) (sym t.is_under) (own_stands columns parameters t k.own well k.is_own)
-
-  module _ (rows_are : AllByRecursion (λ (r : Numbered). IsRowOf (base_kinds t.leaf.table) r.row) (table_at content t.base).rows) (keyed : are_keyed keys content ≡ true) where
-    abbrev target_test : Numbered → Outcome Bool
-    target_test = is_true_of tables values caller k.own
-
-    abbrev has_its_key : Numbered → Bool
-    has_its_key = has_key (key_at keys t.base known.key) known.values
-
-    -- what the conditions say of one row
-    one_condition : (o : Outcome Bool) → and_then o (λ holds. if holds then (let is : Outcome Bool = Ok true in is) else Ok false) ≡ o
-    one_condition (Ok true) = refl
-    one_condition (Ok false) = refl
-    one_condition (Err s) = refl
-
-    -- they are false of a row without the key, which one row has at most
-    pub none_without : AllByRecursion (λ (r : Numbered). has_its_key r ≡ false → are_true (truth_on_row tables values caller r.row) (conditions_of t) ≡ Ok false) (table_at content t.base).rows
-    none_without =
-        all_weaker (λ (r : Numbered). has_its_key r ≡ false → target_test r ≡ Ok false) (λ (r : Numbered). has_its_key r ≡ false → are_true (truth_on_row tables values caller r.row) (conditions_of t) ≡ Ok false)
-        (λ r out lacks. ap (are_true (truth_on_row tables values caller r.row)) conditions_are ∙ one_condition (target_test r) ∙ out lacks) (table_at content t.base).rows
-        (all_out tables columns parameters values caller given bases content keys t.base t.leaf.table k.own known k.on (base_under bases keys t base keys_are) under_kinds under_stands keys_are nulls rows_are keyed)
-
-    pub one_with : AtMostOne has_its_key (table_at content t.base).rows
-    one_with = at_most_one (key_at keys t.base known.key) known.values (table_at content t.base).rows (distinct_at keys content t.base known.key keyed k.on.table k.on.key)

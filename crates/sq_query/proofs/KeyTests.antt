@@ -1,5 +1,5 @@
 -- The values with which tests compare columns.
-use Rattle.std.proofs.Common.{◌≡◌, ℕ, zero, suc, ◌+◌, ◌<◌, ◌≤◌, Bool, true, false, List, [], ◌∷◌, ◌++◌, length, take, get_or, slice_get, slice_index_or, Option, Some, None, refl, sym, ap, subst, ◌∙◌, arith, Ok, Err}
+use Rattle.std.proofs.Common.{◌≡◌, ℕ, zero, suc, ◌+◌, ◌<◌, ◌≤◌, Bool, true, false, List, [], ◌∷◌, ◌++◌, length, take, get_or, slice_get, slice_index_or, Option, Some, None, sym, ap, subst, ◌∙◌, arith, Ok}
 use Rattle.std.proofs.lemmas.List.{take_more, take_all}
 use Rattle.std.specs.Prelude.{IfSome}
 use Rattle.std.specs.List.{AllZip, Contains, list_all}
@@ -7,14 +7,11 @@ use Rattle.sq_lex.specs.declared.name.Name.{Name}
 use Rattle.sq_value.specs.SetFunctions.{is_null}
 use Rattle.sq_value.specs.declared.value.Value.{Value}
 use Rattle.sq_value.specs.declared.value.Value.TheVariants.{Null}
-use Rattle.sq_tree.specs.declared.expr.Sign.{Sign}
-use Rattle.sq_meaning.specs.Status.{Outcome, and_then, well_formed}
-use Rattle.sq_meaning.specs.Syntax.{literal, parameter, user, column, count_rows, set_function, signed, added, scaled, bracketed}
+use Rattle.sq_meaning.specs.Status.{Outcome, well_formed}
 use Rattle.sq_meaning.specs.Environment.{Row, Env, value_at}
-use Rattle.sq_meaning.specs.Expression.{value, with_sign}
+use Rattle.sq_meaning.specs.Expression.{value}
 use Rattle.sq_meaning.specs.Placed.{by_place}
-use Rattle.sq_meaning.specs.Quiet.{is_quiet_expr}
-use Rattle.sq_bound.specs.Expression.{PlacedExpr, expr_of}
+use Rattle.sq_bound.specs.Expression.{expr_of}
 use Rattle.sq_bound.specs.declared.condition.BoundTest.{BoundTest}
 use Rattle.sq_bound.specs.declared.condition.TablePlace.{TablePlace}
 use Rattle.sq_bound.specs.declared.expression.BoundExpr.{BoundExpr}
@@ -72,35 +69,9 @@ in_row (v ∷ row) zero x h = ok_same v x h
 in_row (v ∷ row) (suc n) x h = in_row row n x h
 
 module _ (tables : TablePlace → Outcome (List Row)) (parameters : List Value) (caller : Name) (row : Row) where
-  -- where a row is seen alone, and where none is
+  -- where a row is seen alone
   abbrev here : Env (Unit {0})
   here = outside (row ∷ []) parameters caller
-
-  abbrev nowhere : Env (Unit {0})
-  nowhere = outside [] parameters caller
-
-  -- no column is seen where there is no row
-  no_column : (d i n : ℕ) (v : Value) → value_at nowhere (record { depth = d; item = i; column = n }) ≡ Ok v → ⊥
-  no_column zero i n v h = cc
-  no_column (suc d) i n v h = cc
-
-  then_same : (sign : Sign) (e : PlacedExpr) (v : Value) → ((w : Value) → value (by_place tables) e nowhere ≡ Ok w → value (by_place tables) e here ≡ Ok w)
-      → (o : Outcome Value) → value (by_place tables) e nowhere ≡ o → and_then o (with_sign sign) ≡ Ok v → and_then (value (by_place tables) e here) (with_sign sign) ≡ Ok v
-  then_same sign e v same (Err s) is h = cc
-  then_same sign e v same (Ok w) is h = ap (λ (o : Outcome Value). and_then o (with_sign sign)) (same w is) ∙ h
-
-  -- what has a value without a row has it with any
-  pub same_value : (e : PlacedExpr) (v : Value) → is_quiet_expr e ≡ true → value (by_place tables) e nowhere ≡ Ok v → value (by_place tables) e here ≡ Ok v
-  same_value (literal w) v quiet h = h
-  same_value (parameter p) v quiet h = h
-  same_value user v quiet h = h
-  same_value (column p) v quiet h = absurd (no_column p.depth p.item p.column v h)
-  same_value count_rows v quiet h = absurd cc
-  same_value (set_function function distinct e) v quiet h = absurd cc
-  same_value (signed sign e) v quiet h = then_same sign e v (λ w. same_value e w quiet) (value (by_place tables) e nowhere) refl h
-  same_value (added sign a b) v quiet h = absurd cc
-  same_value (scaled sign a b) v quiet h = absurd cc
-  same_value (bracketed e) v quiet h = same_value e v quiet h
 
   -- a column of the row
   pub column_is : (i n : ℕ) (x : Value) → value_at here (record { depth = zero; item = i; column = n }) ≡ Ok x → slice_index_or row n Null ≡ x

@@ -244,7 +244,7 @@ read_by_key content keys search tables own read (Ok all) at are as_meant bases v
 
 -- so is a view that stands before the others
 module _ (own : ViewRows) (bases : List BaseRows) (views : List ViewRows) (place : ℕ) (found : Outcome (List Row)) (at : own.place ≡ place) (are : view_outcome own.rows.items own.failure ≡ found) where
-  view_first : rows_among bases (own ∷ views) (View place) ≡ found
+  pub view_first : rows_among bases (own ∷ views) (View place) ≡ found
   view_first = ap (λ (b : Bool). and_then (well_formed (cond b (Some own) (find (λ t. nat_eq t.place place) views))) (λ t. view_outcome t.rows.items t.failure)) (eq-eqb own.place place at) ∙ are
 
   behind_view : (tables : TablePlace → Outcome (List Row)) (t : TablePlace) → rows_among bases views t ≡ tables t → rows_among bases (own ∷ views) t ≡ with_rows (View place) found tables t

@@ -1,8 +1,8 @@
--- A plain view shows a row for each row of its base table of which its WHERE clause is true: the values of the columns in its select list
+-- A plain view shows a row for each row of its only table of which its WHERE clause is true: the values of the columns in its select list
 -- (ISO/IEC 9075:1992, 7.6, 7.9 and 11.19).
-use Rattle.std.proofs.Common.{◌≡◌, ◌∙◌, ℕ, zero, Bool, true, false, true≢false, not, ◌||◌, ◌++◌, List, [], ◌∷◌, Option, Some, None, cond, find, map, nat_eq, refl, sym, ap, subst, Ok, Err}
-use Rattle.std.specs.Prelude.{if◌then◌else◌, is_some, option_to_list, slice_index_or}
-use Rattle.std.specs.List.{AllByRecursion, list_all, list_any}
+use Rattle.std.proofs.Common.{◌≡◌, ◌∙◌, ℕ, zero, Bool, true, false, not, ◌||◌, ◌++◌, List, [], ◌∷◌, Option, Some, None, cond, filter, map, nat_eq, refl, sym, ap, subst, Ok, Err}
+use Rattle.std.specs.Prelude.{if◌then◌else◌, is_some, slice_index_or}
+use Rattle.std.specs.List.{AllByRecursion, list_all}
 use Rattle.std.specs.Option.{option_map}
 use Rattle.std.proofs.lemmas.Bool.{eqb-true}
 use Rattle.std.proofs.lemmas.List.Concat.{flat_map_single}
@@ -32,13 +32,11 @@ use Rattle.sq_bound.specs.WellFormed.{IsSelect, TableKinds}
 use Rattle.sq_bound.specs.declared.condition.BoundCond.{BoundCond}
 use Rattle.sq_bound.specs.declared.condition.BoundSpecification.{BoundSpecification, out-BoundSpecification}
 use Rattle.sq_bound.specs.declared.condition.TablePlace.{TablePlace}
-use Rattle.sq_bound.specs.declared.condition.TablePlace.TheVariants.{Base}
 use Rattle.sq_bound.specs.declared.expression.BoundExpr.{BoundExpr}
 use Rattle.sq_bound.proofs.ConditionLaws.{select_of-out}
 use Rattle.sq_bound.proofs.QuietRows.{no_tables}
 use Rattle.sq_bound.proofs.QuietTruths.{both_left, both_right, quiet_plain, valued_so}
 use Rattle.sq_condition.specs.Specification.{as_line}
-use Rattle.sq_condition.proofs.Conditions.{neither_left, neither_right}
 use Rattle.sq_condition.proofs.Lone.{clause_alone, value_alone}
 use Rattle.sq_condition.proofs.NoFunctions.{have_none}
 use Rattle.sq_query.specs.Key.{on_rows_of}
@@ -50,7 +48,6 @@ use Rattle.sq_query.proofs.AnyTables.{truth_over}
 use Rattle.sq_query.proofs.KeyLacked.{none_fit, test_answers}
 use Rattle.sq_query.proofs.KeyTests.{column_is}
 use Rattle.sq_query.proofs.KeyValues.{answered}
-use Rattle.sq_query.proofs.OnlyOne.{AtMostOne}
 use Rattle.sq_query.proofs.SameTables.{over_rows, shown_of, wanted_of}
 use Rattle.sq_query.proofs.TargetSearch.{is_passed, truth_there}
 
@@ -61,64 +58,28 @@ abbrev pub shown_by : {A B : Type 0} → (A → B) → (A → Bool) → List A �
 shown_by show keep [] = []
 shown_by show keep (x ∷ xs) = if keep x then show x ∷ shown_by show keep xs else shown_by show keep xs
 
-pub shown_map : {A B C : Type 0} (g : A → B) (show : B → C) (keep : B → Bool) (xs : List A) → shown_by show keep (map g xs) ≡ shown_by (λ x. show (g x)) (λ x. keep (g x)) xs
-shown_map g show keep [] = refl
-shown_map g show keep (x ∷ xs) = λ i. if keep (g x) then show (g x) ∷ shown_map g show keep xs i else shown_map g show keep xs i
+-- what is so of each is so, in its way, of what is shown
+pub shown_all : {A B : Type 0} (show : A → B) (keep : A → Bool) (P : A → Type 0) (Q : B → Type 0) → ((x : A) → P x → Q (show x)) → (xs : List A) → AllByRecursion P xs → AllByRecursion Q (shown_by show keep xs)
+shown_all show keep P Q f [] h = tt
+shown_all {A} {B} show keep P Q f (x ∷ xs) h = by (keep x) (shown_all show keep P Q f xs h.1)
+  where
+    by : (b : Bool) → AllByRecursion Q (shown_by show keep xs) → AllByRecursion Q (if b then show x ∷ shown_by show keep xs else shown_by show keep xs)
+    by true later = (f x h.0, later)
+    by false later = later
 
-module _ {A B : Type 0} (show : A → B) (keep : A → Bool) (P : B → Type 0) where
-  -- what is so of all that is shown is so of what is shown of each
-  pub shown_all : (xs : List A) → AllByRecursion P (shown_by show keep xs) → AllByRecursion (λ x. keep x ≡ true → P (show x)) xs
-  shown_all [] h = tt
-  shown_all (x ∷ xs) h = by (keep x) refl h (shown_all xs)
-    where
-      by : (b : Bool) → keep x ≡ b → AllByRecursion P (if b then show x ∷ shown_by show keep xs else shown_by show keep xs)
-          → (AllByRecursion P (shown_by show keep xs) → AllByRecursion (λ y. keep y ≡ true → P (show y)) xs) → AllByRecursion (λ y. keep y ≡ true → P (show y)) (x ∷ xs)
-      by true e all later = (λ is. all.0, later all.1)
-      by false e all later = (λ is. absurd (true≢false (sym is ∙ e)), later all)
-
-  pub one_shown : (o : Option A) → ((x : A) → o ≡ Some x → keep x ≡ true → P (show x)) → AllByRecursion P (shown_by show keep (option_to_list o))
-  one_shown None h = tt
-  one_shown (Some x) h = by (keep x) refl
-    where
-      by : (b : Bool) → keep x ≡ b → AllByRecursion P (if b then show x ∷ [] else [])
-      by true e = (h x refl e, tt)
-      by false e = tt
-
--- a test that what is shown of those without a key does not pass keeps the same of what is shown of the one with it
-module _ {A B : Type 0} (show : A → B) (keep has : A → Bool) (test : B → Outcome Bool) where
-  abbrev shown : List A → List B
-  shown xs = shown_by show keep xs
-
-  abbrev LeavesOut : A → Type 0
-  LeavesOut x = keep x ≡ true → has x ≡ false → test (show x) ≡ Ok false
-
-  itself : (o : Outcome (List B)) → and_then o (λ ys. let is : Outcome (List B) = Ok ys in is) ≡ o
-  itself (Ok ys) = refl
-  itself (Err s) = refl
-
-  one_out : (x : A) (xs : List A) → test (show x) ≡ Ok false → kept test (show x ∷ shown xs) ≡ kept test (shown xs)
-  one_out x xs e = ap (λ (o : Outcome Bool). and_then o (λ passes. and_then (kept test (shown xs)) (λ ys. Ok (if passes then show x ∷ ys else ys)))) e ∙ itself (kept test (shown xs))
-
-  none_shown : (xs : List A) → AllByRecursion LeavesOut xs → list_any has xs ≡ false → kept test (shown xs) ≡ Ok []
-  none_shown [] out none = refl
-  none_shown (x ∷ xs) out none = by (keep x) refl (none_shown xs out.1 (neither_right (has x) (list_any has xs) none))
-    where
-      by : (b : Bool) → keep x ≡ b → kept test (shown xs) ≡ Ok [] → kept test (if b then show x ∷ shown xs else shown xs) ≡ Ok []
-      by true e rest = one_out x xs (out.0 e (neither_left (has x) (list_any has xs) none)) ∙ rest
-      by false e rest = rest
-
-  pub shown_with : (xs : List A) → AllByRecursion LeavesOut xs → AtMostOne has xs → kept test (shown xs) ≡ kept test (shown (option_to_list (find has xs)))
-  shown_with [] out one = refl
-  shown_with (x ∷ xs) out one = by (has x) refl (keep x) refl (shown_with xs out.1 one.1)
-    where
-      by : (b : Bool) → has x ≡ b → (k : Bool) → keep x ≡ k → kept test (shown xs) ≡ kept test (shown (option_to_list (find has xs)))
-          → kept test (if k then show x ∷ shown xs else shown xs) ≡ kept test (shown (option_to_list (cond b (Some x) (find has xs))))
-      by true is true stays others =
-          ap (λ (o : Outcome (List B)). and_then (test (show x)) (λ passes. and_then o (λ ys. Ok (if passes then show x ∷ ys else ys)))) (none_shown xs out.1 (one.0 is))
-          ∙ sym (ap (λ c. kept test (if c then show x ∷ [] else [])) stays)
-      by true is false stays others = none_shown xs out.1 (one.0 is) ∙ sym (ap (λ c. kept test (if c then show x ∷ [] else [])) stays)
-      by false is true stays others = one_out x xs (out.0 stays is) ∙ others
-      by false is false stays others = others
+-- those that are left of what is shown are what is shown of those that are left
+pub left_shown : {A B : Type 0} (show : A → B) (keep has : A → Bool) (was : B → Bool) → ((x : A) → was (show x) ≡ has x) → (xs : List A) → shown_by show keep (filter has xs) ≡ filter was (shown_by show keep xs)
+left_shown show keep has was same [] = refl
+left_shown {A} {B} show keep has was same (x ∷ xs) = by (keep x) refl (has x) refl (left_shown show keep has was same xs)
+  where
+    by : (k : Bool) → keep x ≡ k → (b : Bool) → has x ≡ b → shown_by show keep (filter has xs) ≡ filter was (shown_by show keep xs)
+        → shown_by show keep (cond b (x ∷ filter has xs) (filter has xs)) ≡ filter was (if k then show x ∷ shown_by show keep xs else shown_by show keep xs)
+    by true stays true is later =
+        ap (λ c. if c then show x ∷ shown_by show keep (filter has xs) else shown_by show keep (filter has xs)) stays ∙ ap (λ (l : List B). show x ∷ l) later
+        ∙ sym (ap (λ c. cond c (show x ∷ filter was (shown_by show keep xs)) (filter was (shown_by show keep xs))) (same x ∙ is))
+    by true stays false is later = later ∙ sym (ap (λ c. cond c (show x ∷ filter was (shown_by show keep xs)) (filter was (shown_by show keep xs))) (same x ∙ is))
+    by false stays true is later = ap (λ c. if c then show x ∷ shown_by show keep (filter has xs) else shown_by show keep (filter has xs)) stays ∙ later
+    by false stays false is later = later
 
 -- ---- the row that a plain view shows of a row, and whether it shows one
 
@@ -137,28 +98,28 @@ passed_is : (o : Outcome Bool) → HasValue o → o ≡ Ok (is_passed o)
 passed_is (Ok b) there = refl
 passed_is (Err status) there = absurd there
 
-module _ (columns : TableKinds) (base : ℕ) where
+module _ (columns : TableKinds) (t : TablePlace) where
   abbrev known_kinds : Kinds (Placed TablePlace)
   known_kinds = kinds_by_place columns []
 
   abbrev IsExprOn : PlacedExpr → Type 0
-  IsExprOn = WellFormedExpr (by_place no_tables) known_kinds (IsDeclaredAt []) (on_rows_of (Base base))
+  IsExprOn = WellFormedExpr (by_place no_tables) known_kinds (IsDeclaredAt []) (on_rows_of t)
 
   abbrev IsClauseOn : PlacedClause → Type 0
-  IsClauseOn = WellFormedClause (by_place no_tables) known_kinds (IsDeclaredAt []) (on_rows_of (Base base))
+  IsClauseOn = WellFormedClause (by_place no_tables) known_kinds (IsDeclaredAt []) (on_rows_of t)
 
-  module _ (row : Row) (caller : Name) (fits : Has (λ ks. IsRowOf ks row) (columns (Base base))) (f : TablePlace → Outcome (List Row)) where
+  module _ (row : Row) (caller : Name) (fits : Has (λ ks. IsRowOf ks row) (columns t)) (f : TablePlace → Outcome (List Row)) where
     abbrev here : Env (Unit {0})
     here = outside (row ∷ []) [] caller
 
-    env_is : IsEnvOf (by_place no_tables) known_kinds (IsDeclaredAt []) (on_rows_of (Base base)) here
-    env_is = env_by_place no_tables columns [] (on_rows_of (Base base)) (alone [] (row ∷ []) ∷ []) [] caller (record { line = (fits, tt); group = tt }, tt) tt
+    env_is : IsEnvOf (by_place no_tables) known_kinds (IsDeclaredAt []) (on_rows_of t) here
+    env_is = env_by_place no_tables columns [] (on_rows_of t) (alone [] (row ∷ []) ∷ []) [] caller (record { line = (fits, tt); group = tt }, tt) tt
 
     value_of : (p : Place) → IsExprOn (column p) → HasValue (value_at here p)
     value_of p w =
         valued_so (value_at here p) (sure_value no_tables (column p) here refl)
-        (answered (kind known_kinds (froms (on_rows_of (Base base))) (column p)) (value_at here p) w.0
-        (value_fits (by_place no_tables) known_kinds (IsDeclaredAt []) (places_agree no_tables columns [] (λ t. none_fit (columns t))) (on_rows_of (Base base)) (column p) here w.1 env_is))
+        (answered (kind known_kinds (froms (on_rows_of t)) (column p)) (value_at here p) w.0
+        (value_fits (by_place no_tables) known_kinds (IsDeclaredAt []) (places_agree no_tables columns [] (λ t. none_fit (columns t))) (on_rows_of t) (column p) here w.1 env_is))
 
     cell_at : (i n : ℕ) (o : Outcome Value) → value_at here (record { depth = zero; item = i; column = n }) ≡ o → HasValue o → o ≡ Ok (slice_index_or row n Null)
     cell_at i n (Ok v) is there = ap (λ (x : Value). let o : Outcome Value = Ok x in o) (sym (column_is f [] caller row i n v is))
@@ -198,7 +159,7 @@ module _ (columns : TableKinds) (base : ℕ) where
     -- a condition that is never a fault has a truth
     clause_there : (c : Option BoundCond) → option_all is_sure c ≡ true → IsClauseOn (clause_of [] c) → HasValue (clause_truth (by_place no_tables) (clause_of [] c) here)
     clause_there None sure w = tt
-    clause_there (Some c) sure w = test_answers no_tables columns [] [] caller row (Base base) fits tt (cond_of [] c) w sure
+    clause_there (Some c) sure w = test_answers no_tables columns [] [] caller row t fits tt (cond_of [] c) w sure
 
     clause_same : (c : Option BoundCond) → option_all is_sure c ≡ true → clause_truth (by_place f) (clause_of [] c) here ≡ clause_truth (by_place no_tables) (clause_of [] c) here
     clause_same None sure = refl
@@ -234,21 +195,21 @@ clause_reads : (P : TablePlace → Type 0) (c : Option BoundCond) → option_all
 clause_reads P None sure = tt
 clause_reads P (Some c) sure = quiet_reads P (cond_of [] c) sure
 
-abbrev plain_tree : BoundSpecification → ℕ → PlacedSelect
-plain_tree q base = select false (expressions (map (expr_of []) (out-BoundSpecification q).list)) (Base base ∷ []) (clause_of [] (out-BoundSpecification q).condition) [] absent
+abbrev plain_tree : BoundSpecification → TablePlace → PlacedSelect
+plain_tree q t = select false (expressions (map (expr_of []) (out-BoundSpecification q).list)) (t ∷ []) (clause_of [] (out-BoundSpecification q).condition) [] absent
 
-tree_is : (q : BoundSpecification) (base : ℕ) → IsPlainOver q base → select_of q ≡ plain_tree q base
-tree_is q base plain =
+tree_is : (q : BoundSpecification) (t : TablePlace) → IsPlainOver q t → select_of q ≡ plain_tree q t
+tree_is q t plain =
     select_of-out q
     ∙ (λ i. select_by (plain.is_all i) (out-BoundSpecification q).list (plain.over i) (clause_of [] (out-BoundSpecification q).condition) (groups_if (option_map groups_of (plain.ungrouped i))))
 
--- it reads the base table alone
-pub plain_reads : (P : TablePlace → Type 0) (q : BoundSpecification) (base : ℕ) → IsPlainOver q base → P (Base base) → ReadsSelect P (select_of q)
-plain_reads P q base plain first = subst (ReadsSelect P) (sym (tree_is q base plain)) ((first, tt), clause_reads P (out-BoundSpecification q).condition plain.sure, tt)
+-- it reads this table alone
+pub plain_reads : (P : TablePlace → Type 0) (q : BoundSpecification) (t : TablePlace) → IsPlainOver q t → P t → ReadsSelect P (select_of q)
+plain_reads P q t plain first = subst (ReadsSelect P) (sym (tree_is q t plain)) ((first, tt), clause_reads P (out-BoundSpecification q).condition plain.sure, tt)
 
 -- ---- its rows
 
-module _ (columns : TableKinds) (q : BoundSpecification) (base : ℕ) (plain : IsPlainOver q base) (well : IsSelect columns [] [] q) (caller : Name) (f : TablePlace → Outcome (List Row)) where
+module _ (columns : TableKinds) (q : BoundSpecification) (t : TablePlace) (plain : IsPlainOver q t) (well : IsSelect columns [] [] q) (caller : Name) (f : TablePlace → Outcome (List Row)) where
   abbrev list : List BoundExpr
   list = (out-BoundSpecification q).list
 
@@ -261,15 +222,15 @@ module _ (columns : TableKinds) (q : BoundSpecification) (base : ℕ) (plain : I
   not_grouped : is_grouped {N = Placed TablePlace} (expressions es) [] absent ≡ false
   not_grouped = ap is_some_of (have_none list)
 
-  stands : WellFormedSelect (by_place no_tables) (kinds_by_place columns []) (IsDeclaredAt []) [] (plain_tree q base)
-  stands = subst (WellFormedSelect (by_place no_tables) (kinds_by_place columns []) (IsDeclaredAt []) []) (tree_is q base plain) (well.stands no_tables)
+  stands : WellFormedSelect (by_place no_tables) (kinds_by_place columns []) (IsDeclaredAt []) [] (plain_tree q t)
+  stands = subst (WellFormedSelect (by_place no_tables) (kinds_by_place columns []) (IsDeclaredAt []) []) (tree_is q t plain) (well.stands no_tables)
 
-  list_well : AllByRecursion (IsExprOn columns base) es
+  list_well : AllByRecursion (IsExprOn columns t) es
   list_well =
-      subst (λ (g : Bool). AllByRecursion (WellFormedExpr (by_place no_tables) (kinds_by_place columns []) (IsDeclaredAt []) (record { from = Base base ∷ []; has_line = not g || false } ∷ [])) es) not_grouped stands.1
+      subst (λ (g : Bool). AllByRecursion (WellFormedExpr (by_place no_tables) (kinds_by_place columns []) (IsDeclaredAt []) (record { from = t ∷ []; has_line = not g || false } ∷ [])) es) not_grouped stands.1
 
   abbrev IsFitting : Row → Type 0
-  IsFitting row = Has (λ ks. IsRowOf ks row) (columns (Base base))
+  IsFitting row = Has (λ ks. IsRowOf ks row) (columns t)
 
   abbrev keep : Row → Bool
   keep = keeps condition caller
@@ -278,12 +239,12 @@ module _ (columns : TableKinds) (q : BoundSpecification) (base : ℕ) (plain : I
   left rs = shown_by (λ (row : Row). row) keep rs
 
   abbrev wanted : Line → Outcome Bool
-  wanted = wanted_of f f false (expressions es) (Base base) (clause_of [] condition) [] absent (outermost [] caller) f
+  wanted = wanted_of f f false (expressions es) t (clause_of [] condition) [] absent (outermost [] caller) f
 
   kept_left : (rs : List Row) → AllByRecursion IsFitting rs → kept (λ row. wanted (as_line row)) rs ≡ Ok (left rs)
   kept_left [] fit = refl
   kept_left (row ∷ rs) fit =
-      let first = keeps_so columns base row caller fit.0 f condition plain.sure stands.2 in
+      let first = keeps_so columns t row caller fit.0 f condition plain.sure stands.2 in
       let others = kept_left rs fit.1 in
       λ i. and_then (first i) (λ passes. and_then (others i) (λ ys. Ok (if passes then row ∷ ys else ys)))
 
@@ -298,7 +259,7 @@ module _ (columns : TableKinds) (q : BoundSpecification) (base : ℕ) (plain : I
   listed_left : (rs : List Row) → AllByRecursion IsFitting rs → each (λ row. each (λ e. value (by_place f) e (within (alone (tt ∷ []) (as_line row)) (outermost [] caller))) es) rs ≡ Ok (map (shows list) rs)
   listed_left [] fit = refl
   listed_left (row ∷ rs) fit =
-      let first = cells_are columns base row caller fit.0 f list plain.columns list_well in
+      let first = cells_are columns t row caller fit.0 f list plain.columns list_well in
       let others = listed_left rs fit.1 in
       λ i. and_then (first i) (λ y. and_then (others i) (λ ys. Ok (y ∷ ys)))
 
@@ -317,7 +278,7 @@ module _ (columns : TableKinds) (q : BoundSpecification) (base : ℕ) (plain : I
       ∙ ap (λ (o : Outcome (List Row)). and_then o (λ ys. let is : Outcome (List Line) = Ok (map as_line ys) in is)) (kept_left rs fit)
 
   shown_lines : (rs : List Row) → AllByRecursion IsFitting rs
-      → shown_of f f false (expressions es) (Base base) (clause_of [] condition) [] absent (outermost [] caller) f (map as_line rs) ≡ Ok (map (shows list) rs)
+      → shown_of f f false (expressions es) t (clause_of [] condition) [] absent (outermost [] caller) f (map as_line rs) ≡ Ok (map (shows list) rs)
   shown_lines rs fit =
       let scopes = map (alone (tt ∷ [])) (map as_line rs) in
       ap (λ (g : Bool). and_then (if g then group_scopes (by_place f) (list_functions {N = Placed TablePlace} (expressions es) ++ clause_functions {N = Placed TablePlace} absent) [] (tt ∷ []) (map as_line rs) (outermost [] caller) else Ok scopes)
@@ -330,10 +291,10 @@ module _ (columns : TableKinds) (q : BoundSpecification) (base : ℕ) (plain : I
       ∙ each_map as_line (λ line. listed_values (by_place f) (expressions es) (within (alone (tt ∷ []) line) (outermost [] caller))) rs
       ∙ listed_left rs fit)
 
-  pub rows_shown : (rs : List Row) → f (Base base) ≡ Ok rs → AllByRecursion IsFitting rs → rows_of_view f caller q ≡ Ok (shown_by (shows list) (keeps condition caller) rs)
+  pub rows_shown : (rs : List Row) → f t ≡ Ok rs → AllByRecursion IsFitting rs → rows_of_view f caller q ≡ Ok (shown_by (shows list) (keeps condition caller) rs)
   rows_shown rs at fit =
-      ap (λ (s : PlacedSelect). rows (by_place f) s (outermost [] caller)) (tree_is q base plain)
-      ∙ over_rows f f false (expressions es) (Base base) (clause_of [] condition) [] absent (outermost [] caller) f rs at
-      ∙ ap (λ (o : Outcome (List Line)). and_then o (shown_of f f false (expressions es) (Base base) (clause_of [] condition) [] absent (outermost [] caller) f)) (kept_lines rs fit)
+      ap (λ (s : PlacedSelect). rows (by_place f) s (outermost [] caller)) (tree_is q t plain)
+      ∙ over_rows f f false (expressions es) t (clause_of [] condition) [] absent (outermost [] caller) f rs at
+      ∙ ap (λ (o : Outcome (List Line)). and_then o (shown_of f f false (expressions es) t (clause_of [] condition) [] absent (outermost [] caller) f)) (kept_lines rs fit)
       ∙ shown_lines (left rs) (left_fit rs fit)
       ∙ ap (λ (l : List Row). let is : Outcome (List Row) = Ok l in is) (shown_left rs)

@@ -41,6 +41,7 @@ use Rattle.sq_query.specs.Target.{and_own, are_true, chosen, conditions_of, is_t
 use Rattle.sq_query.specs.declared.key.KnownKey.{KnownKey}
 use Rattle.sq_query.proofs.KeyLacked.{test_answers}
 use Rattle.sq_query.proofs.KeyNames.{base_under}
+use Rattle.sq_query.proofs.KeyOut.{all_both}
 use Rattle.sq_query.proofs.KeySearch.{all_out, decided, itself, scan_finds}
 use Rattle.sq_query.proofs.KeyedRows.{there_so}
 use Rattle.sq_query.proofs.OnlyOne.{AtMostOne, at_most_one, distinct_at, found_is}
@@ -160,6 +161,16 @@ module _ {X : Type 0} (truth_of : X → Numbered → Outcome Truth) where
         ∙ ap (chosen_one (xs ++ own ∷ [])) (found_passing (tested x) has rows one)
         ∙ first_one x (xs ++ own ∷ []) (find has rows) (λ r is. found_is (λ s. HasValue (tested x s)) has rows r truths.0 is)
 
+-- the last is false, and the others have a truth
+ends_false : {X : Type 0} (test : X → Outcome Truth) (own : X) (xs : List X) → AllByRecursion (λ x. HasValue (is_true (test x))) xs → is_true (test own) ≡ Ok false → are_true test (xs ++ own ∷ []) ≡ Ok false
+ends_false test own [] there not = ap (λ (o : Outcome Bool). and_then o (λ holds. if holds then (let is : Outcome Bool = Ok true in is) else Ok false)) not
+ends_false test own (x ∷ xs) there not = by (is_true (test x)) there.0 (ends_false test own xs there.1 not)
+  where
+    by : (o : Outcome Bool) → HasValue o → are_true test (xs ++ own ∷ []) ≡ Ok false → and_then o (λ holds. if holds then are_true test (xs ++ own ∷ []) else Ok false) ≡ Ok false
+    by (Ok true) h later = later
+    by (Ok false) h later = refl
+    by (Err status) h later = absurd h
+
 -- ---- the rows that a target means
 
 pub truth_there : (o : Outcome Truth) → HasValue o → HasValue (is_true o)
@@ -180,6 +191,10 @@ module _ (tables : TablePlace → Outcome (List Row)) (columns : TableKinds) (pa
         truth_there (truth_at c r)
         (test_answers tables columns parameters values caller r.row (Base b.place) (subst (Has (λ ks. IsRowOf ks r.row)) (sym kinds_are) is_row) given (cond_of [] c)
         (subst (WellFormedCond (by_place no_tables) (kinds_by_place columns parameters) (IsDeclaredAt parameters) (of_base_at b.place)) (sym (wide.is_tree [])) (wide.stands no_tables)) sure)
+
+    row_truths : (r : Numbered) → IsRowOf (base_kinds b) r.row → (cs : List BoundCond) → AllByRecursion (IsCondOn columns b) cs → are_sure cs ≡ true → AllByRecursion (λ c. HasValue (tested truth_at c r)) cs
+    row_truths r is_row [] well sure = tt
+    row_truths r is_row (c ∷ cs) well sure = (view_truth c well.0 (both_left (is_sure c) (are_sure cs) sure) r is_row, row_truths r is_row cs well.1 (both_right (is_sure c) (are_sure cs) sure))
 
     view_truths : (rows : List Numbered) → AllByRecursion (λ (r : Numbered). IsRowOf (base_kinds b) r.row) rows → (cs : List BoundCond) → AllByRecursion (IsCondOn columns b) cs → are_sure cs ≡ true → HaveTruths truth_at rows cs
     view_truths rows rows_are [] well sure = tt
@@ -209,14 +224,32 @@ module _ (tables : TablePlace → Outcome (List Row)) (columns : TableKinds) (pa
     under_stands : StandsOn columns parameters (Base t.base) k.own
     under_stands = own_on_base columns parameters t k.own well k.is_own
 
+    abbrev pub has_its_key : Numbered → Bool
+    has_its_key = has_key key_columns known.values
+
+    own_out : AllByRecursion (λ r. has_its_key r ≡ false → tested truth_at k.own r ≡ Ok false) rows_here
+    own_out = all_out tables columns parameters values caller given bases content keys t.base t.leaf.table k.own known k.on (base_under bases keys t base keys_are) under_kinds under_stands keys_are nulls rows_are keyed
+
+    -- one row at most has the key
+    pub one_with : AtMostOne has_its_key rows_here
+    one_with = at_most_one key_columns known.values rows_here (distinct_at keys content t.base known.key keyed k.on.table k.on.key)
+
+    -- the conditions in turn are false of each without it
+    pub none_without : AllByRecursion (λ r. has_its_key r ≡ false → are_true (truth_on_row tables values caller r.row) (conditions_of t) ≡ Ok false) rows_here
+    none_without =
+        all_both (λ (r : Numbered). IsRowOf (base_kinds t.leaf.table) r.row) (λ r. has_its_key r ≡ false → tested truth_at k.own r ≡ Ok false)
+        (λ r. has_its_key r ≡ false → are_true (truth_on_row tables values caller r.row) (conditions_of t) ≡ Ok false)
+        (λ r is_row out lacks. ap (λ (own : Option BoundCond). are_true (truth_on_row tables values caller r.row) (and_own t.leaf.conditions own)) k.is_own
+        ∙ ends_false (truth_on_row tables values caller r.row) k.own t.leaf.conditions (row_truths t.leaf.table well.leaf.kinds_are r is_row t.leaf.conditions well.leaf.conditions k.sure) (out lacks))
+        rows_here rows_are own_out
+
     search_is : whole_search ≡ chosen_one truth_at (conditions_of t) found_row
     search_is =
         ap (λ (o : Outcome (List Numbered)). and_then o (chosen (is_true_of tables values caller) (conditions_of t))) (there_so content t.base k.on.table)
         ∙ ap (λ (own : Option BoundCond). chosen (is_true_of tables values caller) (and_own t.leaf.conditions own) rows_here) k.is_own
-        ∙ search_finds truth_at (has_key key_columns known.values) k.own t.leaf.conditions rows_here
+        ∙ search_finds truth_at has_its_key k.own t.leaf.conditions rows_here
         (view_truths t.leaf.table well.leaf.kinds_are rows_here rows_are t.leaf.conditions well.leaf.conditions k.sure)
-        (all_out tables columns parameters values caller given bases content keys t.base t.leaf.table k.own known k.on (base_under bases keys t base keys_are) under_kinds under_stands keys_are nulls rows_are keyed)
-        (at_most_one key_columns known.values rows_here (distinct_at keys content t.base known.key keyed k.on.table k.on.key))
+        own_out one_with
         ∙ sym (ap (λ (own : Option BoundCond). chosen_one truth_at (and_own t.leaf.conditions own) found_row) k.is_own)
 
     -- no row has the key

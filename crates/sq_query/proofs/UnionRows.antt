@@ -2,7 +2,7 @@
 use Rattle.std.proofs.Common.{◌≡◌, ℕ, zero, suc, ◌+◌, ◌<◌, ◌≤◌, Bool, List, [], ◌∷◌, ◌++◌, length, take, get_or, sym, subst, ap, ◌∙◌, Option, None, Some, Result, Ok, Err}
 use Rattle.std.proofs.lemmas.List.Sums.{fold_more}
 use Rattle.std.proofs.lemmas.List.{take_all}
-use Rattle.std.specs.Prelude.{fold, flat_map, Vec, IsErrAnd}
+use Rattle.std.specs.Prelude.{fold, flat_map, Vec, IfOk, IsErrAnd}
 use Rattle.std.specs.List.{AllByRecursion}
 use Rattle.std.specs.declared.alloc.Global.{Global}
 use Rattle.sq_value.specs.declared.domain.Kind.{Kind}
@@ -38,12 +38,11 @@ use Rattle.sq_condition.specs.Memo.{Meant}
 use Rattle.sq_condition.specs.Specification.{rows_meant}
 use Rattle.sq_condition.specs.Subquery.{KnowsQuery}
 use Rattle.sq_query.specs.Needed.{FindsQuery, FindsSelect, ReadsSelect}
-use Rattle.sq_query.specs.Union.{AreBringable, AreFitting, HasUnionRows, HasTermRows, IsOnly, IsReadAs, MayReadAs, WereJoined, joined_rows}
+use Rattle.sq_query.specs.Union.{AreBringable, AreBrought, AreFitting, HasUnionRows, HasTermRows, IsJoinedTo, IsOnly, IsReadAs, MayReadAs, WereJoined, joined_rows, rows_behind, rows_left}
 use Rattle.sq_expression.specs.declared.context.Context.{Context}
 use Rattle.sq_expression.specs.declared.fault.Fault.{Fault}
 use Rattle.sq_expression.specs.declared.fault.Fault.TheVariants as fault
 use Rattle.sq_query.proofs.Bringable.{both_bringable}
-use Rattle.sq_query.proofs.BroughtRows.{left_by}
 use Rattle.sq_query.proofs.JoinedTerms.{IsJoined, all_left, all_right, all_within, opened, kept_are, sides, kinds_so_far, query_of_term}
 use Rattle.sq_query.proofs.Fitting.{exact, query_fits}
 use Rattle.sq_query.proofs.KeyedRows.{inputs_are}
@@ -284,12 +283,14 @@ module _ (q : BoundQuery) where
         (λ s h. ap (λ p. query_rows m k p env) (query_of-out q) ∙ still_fails m k env o.rest (term_of o.first) s h)
         (term columns parameters tables (part_read columns parameters tables context (specifications_of q) (term_specifications o.first) in_first may) known.0 known.1)
 
-    pub all_meant : (unions : List BoundUnion) (i : ℕ) (rows : Vec (List Value) Global) → unions ≡ (out-BoundQuery q).rest → length unions ≤ i → AreMeant q context i rows.items → HasUnionRows (Ok rows) q context
-    all_meant unions i rows are_rest over so_far columns parameters tables may noted =
+    pub all_meant : (unions : List BoundUnion) (i : ℕ) (rows : List Row) (result : Result (Vec (List Value) Global) Fault) → unions ≡ (out-BoundQuery q).rest → length unions ≤ i → AreMeant q context i rows
+        → HasRows result (Ok rows) → HasUnionRows result q context
+    all_meant unions i rows result are_rest over so_far is columns parameters tables may noted =
         let o = out-BoundQuery q in
         let past = subst (λ (us : List BoundUnion). length us ≤ i) are_rest over in
-        ap (λ p. query_rows (by_place tables) (kinds_by_place columns parameters) p (env_around None context)) (query_of-out q ∙ ap (fold with_union (term_of o.first)) (sym (take_all i o.rest past)))
-        ∙ so_far columns parameters tables may noted
+        let all = ap (λ p. query_rows (by_place tables) (kinds_by_place columns parameters) p (env_around None context)) (query_of-out q ∙ ap (fold with_union (term_of o.first)) (sym (take_all i o.rest past)))
+        ∙ so_far columns parameters tables may noted in
+        subst (HasRows result) (sym all) is
 
     -- one UNION more
     module _ (unions : List BoundUnion) (i : ℕ) (u : BoundUnion) (left : List Row) (are_rest : unions ≡ (out-BoundQuery q).rest) (within : i < length unions) (at : u ≡ get_or unions i u) (so_far : AreMeant q context i left) where
@@ -352,19 +353,6 @@ module _ (q : BoundQuery) where
             let rights = found_kinds (term_of u.term) joined.rs right.items (term_known columns parameters tables u.term term_read.well joined.rs joined.rights) (term columns parameters tables term_read joined.rs joined.rights) in
             subst (λ (ks : List Kind). AreBringable ks (left ++ right.items)) joined.noted (both_bringable joined.ls joined.rs known.0 left right.items lefts rights joined.common)
 
-      -- what the UNION is given, and what it answers
-      abbrev IsJoinedTo : Option BoundUnion → List Row → Result (Vec (List Value) Global) Fault → Type 0
-      IsJoinedTo before right result =
-          WereJoined before left → AreBringable (kinds_of_results u.columns) (left ++ right) → HasRows result (joined_rows u.all (kinds_of_results u.columns) (left ++ right))
-
-      pub next_meant : (before : Option BoundUnion) (right out : Vec (List Value) Global) → AreLeft q context before left → HasTermRows (Ok right) u.term context → IsJoinedTo before right.items (Ok out) → AreMeant q context (i + 1) out.items
-      next_meant before right out were term join columns parameters tables may noted =
-          next_rows columns parameters tables may noted right term ∙ join (were columns parameters tables may noted) (bringable columns parameters tables may noted right term)
-
-      pub next_left : (before : Option BoundUnion) (right out : Vec (List Value) Global) → AreLeft q context before left → HasTermRows (Ok right) u.term context → IsJoinedTo before right.items (Ok out) → AreLeft q context (Some u) out.items
-      next_left before right out were term join columns parameters tables may noted =
-          left_by u.all (kinds_of_results u.columns) (left ++ right.items) out.items (join (were columns parameters tables may noted) (bringable columns parameters tables may noted right term))
-
       pub term_failed : (e : Fault) → HasTermRows (Err e) u.term context → HasUnionRows (Err e) q context
       term_failed e term columns parameters tables may noted =
           let m = by_place tables in
@@ -376,9 +364,27 @@ module _ (q : BoundQuery) where
           (ap (λ p. query_rows m k p env) next_query ∙ right_fails m k env u.all (query_so_far q i) (term_of u.term) left status (so_far columns parameters tables may noted) h))
           (term columns parameters tables (term_read columns parameters tables may noted) s.rs s.rights)
 
-      pub join_failed : (before : Option BoundUnion) (e : Fault) (right : Vec (List Value) Global) → AreLeft q context before left → HasTermRows (Ok right) u.term context → IsJoinedTo before right.items (Err e)
-          → HasUnionRows (Err e) q context
-      join_failed before e right were term join columns parameters tables may noted =
-          passed_on rows_in rows_in e (joined_rows u.all (kinds_of_results u.columns) (left ++ right.items)) (query_rows (by_place tables) (kinds_by_place columns parameters) (query_of q) (env_around None context))
-          (λ status h. fails_at columns parameters tables may noted status (next_rows columns parameters tables may noted right term ∙ h))
-          (join (were columns parameters tables may noted) (bringable columns parameters tables may noted right term))
+    -- and the rows that it is given, of which repeats may be left
+    module _ (unions : List BoundUnion) (i : ℕ) (u : BoundUnion) (before : Option BoundUnion) (left : List Row) (are_rest : unions ≡ (out-BoundQuery q).rest) (within : i < length unions) (at : u ≡ get_or unions i u)
+        (so_far : AreMeant q context i (rows_behind before left)) (were : AreLeft q context before left) where
+      module _ (right : Vec (List Value) Global) (term : HasTermRows (Ok right) u.term context) (result : Result (Vec (List Value) Global) Fault) (join : IsJoinedTo before u left right.items result)
+          (columns : TableKinds) (parameters : List Kind) (tables : TablePlace → Outcome (List Row)) (may : MayReadAs columns parameters tables context (specifications_of q)) (noted : joined_kinds q ≡ Ok (kinds_of_query q)) where
+        all_joined : (MeetsAs (rows_left u) result (joined_rows u.all (kinds_of_results u.columns) (rows_behind before left ++ right.items))) × (IfOk result (λ rows. AreBrought (kinds_of_results u.columns) rows.items))
+        all_joined =
+            join (were columns parameters tables may noted)
+            (bringable unions i u (rows_behind before left) are_rest within at so_far columns parameters tables may noted right term)
+
+      pub next_meant : (right out : Vec (List Value) Global) → HasTermRows (Ok right) u.term context → IsJoinedTo before u left right.items (Ok out) → AreMeant q context (i + 1) (rows_behind (Some u) out.items)
+      next_meant right out term join columns parameters tables may noted =
+          next_rows unions i u (rows_behind before left) are_rest within at so_far columns parameters tables may noted right term
+          ∙ (all_joined right term (Ok out) join columns parameters tables may noted).0
+
+      pub next_left : (right out : Vec (List Value) Global) → HasTermRows (Ok right) u.term context → IsJoinedTo before u left right.items (Ok out) → AreLeft q context (Some u) out.items
+      next_left right out term join columns parameters tables may noted = (all_joined right term (Ok out) join columns parameters tables may noted).1
+
+      pub join_failed : (e : Fault) (right : Vec (List Value) Global) → HasTermRows (Ok right) u.term context → IsJoinedTo before u left right.items (Err e) → HasUnionRows (Err e) q context
+      join_failed e right term join columns parameters tables may noted =
+          passed_on (rows_left u) rows_in e (joined_rows u.all (kinds_of_results u.columns) (rows_behind before left ++ right.items)) (query_rows (by_place tables) (kinds_by_place columns parameters) (query_of q) (env_around None context))
+          (λ status h. fails_at unions i u (rows_behind before left) are_rest within at so_far columns parameters tables may noted status
+          (next_rows unions i u (rows_behind before left) are_rest within at so_far columns parameters tables may noted right term ∙ h))
+          (all_joined right term (Err e) join columns parameters tables may noted).0

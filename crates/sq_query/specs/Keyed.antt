@@ -56,6 +56,12 @@ pub record IsKeyedBy (keys : Keys) (own : BoundCond) (parameters : List Value) (
   pub named : names_key columns (out-BoundCond own).terms ≡ true
   pub known : (tests : List BoundTest) → AreFirstTests columns own tests → AreKnownEqual tests parameters user
 
+-- so does a target's own condition, whether views are between or not
+pub record IsKeyedUnder (t : Target) (parameters : List Value) (user : Name) : Type 0 where
+  pub own : BoundCond
+  pub is_own : t.condition ≡ Some own
+  pub by_key : IsKeyedBy t.leaf.table.keys own parameters user
+
 -- so does the WHERE clause of a query specification over one base table alone, no subquery of which reads a table
 pub record IsKeyedSelect (q : BoundSpecification) (keys : List Keys) (parameters : List Value) (user : Name) : Type 0 where
   pub place : ℕ

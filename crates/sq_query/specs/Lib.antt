@@ -1,3 +1,4 @@
+pub mod Items
 pub mod Key
 pub mod Keyed
 pub mod MayRead

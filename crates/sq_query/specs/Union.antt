@@ -1,5 +1,5 @@
 -- Query expressions (ISO/IEC 9075:1992, 7.10).
-use Rattle.std.specs.Prelude.{◌≡◌, ◌≤◌, ⊤, Bool, true, false, nat_eq, if◌then◌else◌, List, [], Option, None, IfSome, Result, Vec, Ok}
+use Rattle.std.specs.Prelude.{◌≡◌, ◌≤◌, ⊤, Bool, true, false, nat_eq, if◌then◌else◌, List, [], ◌++◌, Option, None, Some, IfSome, IfOk, Result, Vec, Ok}
 use Rattle.std.specs.Cmp.Lexicographic.{pointwise}
 use Rattle.std.specs.List.{AllByRecursion, zip}
 use Rattle.std.specs.declared.alloc.Global.{Global}
@@ -24,7 +24,7 @@ use Rattle.sq_bound.specs.declared.query.BoundQuery.{BoundQuery, out-BoundQuery}
 use Rattle.sq_bound.specs.declared.query.BoundTerm.{BoundTerm}
 use Rattle.sq_bound.specs.declared.query.BoundTerm.TheVariants as term
 use Rattle.sq_bound.specs.declared.query.BoundUnion.{BoundUnion}
-use Rattle.sq_expression.specs.Fault.{HasRows}
+use Rattle.sq_expression.specs.Fault.{HasRows, MeetsAs}
 use Rattle.sq_expression.specs.Frame.{table_rows}
 use Rattle.sq_expression.specs.Lines.{env_around}
 use Rattle.sq_query.specs.Needed.{ReadsSelect}
@@ -94,6 +94,22 @@ AreBrought kinds = AllByRecursion (λ row. row_brought_to kinds row ≡ Ok row)
 -- the rows that a UNION has left, if there was one
 abbrev pub WereJoined : Option BoundUnion → List Row → Type 0
 WereJoined before rows = IfSome before (λ u. AreBrought (kinds_of_results u.columns) rows)
+
+-- the rows that a UNION means of those that were joined: without ALL each row at its first occurrence
+abbrev pub rows_behind : Option BoundUnion → List Row → List Row
+rows_behind None rows = rows
+rows_behind (Some u) rows = if u.all then rows else firsts same_row rows
+
+abbrev pub rows_left : BoundUnion → Vec (List Value) Global → List Row
+rows_left u rows = rows_behind (Some u) rows.items
+
+-- The right rows are joined to the left ones, of which repeats may be left. What the UNION means of them all is what it means of the left ones that
+-- the UNION before means, and of the right ones; and all are brought to its columns.
+abbrev pub IsJoinedTo : Option BoundUnion → BoundUnion → List Row → List Row → Result (Vec (List Value) Global) Fault → Type 0
+IsJoinedTo before u left right result =
+    WereJoined before left → AreBringable (kinds_of_results u.columns) (rows_behind before left ++ right)
+    → (MeetsAs (rows_left u) result (joined_rows u.all (kinds_of_results u.columns) (rows_behind before left ++ right)))
+    × (IfOk result (λ rows. AreBrought (kinds_of_results u.columns) rows.items))
 
 -- what was brought to the one kind is the same where it is brought to the other: a varying text is as it is
 abbrev pub stays : Kind → Kind → Bool

@@ -7,6 +7,8 @@
 #![tactic(auto)]
 
 mod inputs;
+mod item_key;
+mod items;
 mod key;
 mod meant;
 mod needed;
@@ -20,8 +22,8 @@ mod union;
 mod view;
 
 pub use inputs::Inputs;
-pub use key::{KnownKey, key_of};
-pub use meant::{numbers_of, rows_of};
+pub use key::KnownKey;
+pub use meant::{key_of, numbers_of, rows_of};
 pub use order::{ordered_rows, specification_rows};
 pub use row::{truth_of, value_of};
 pub use sq_expression::{Failure, Fault};

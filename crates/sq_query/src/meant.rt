@@ -11,7 +11,7 @@ ghost use Rattle.sq_bound.specs.Fits.{IsBase, keys_of_bases, not_nulls_hold};
 ghost use Rattle.sq_bound.specs.WellFormed.{IsTarget, TableKinds};
 ghost use Rattle.sq_bound.specs.declared.condition.TablePlace.{TablePlace};
 ghost use Rattle.sq_expression.specs.Fault.{MeetsAs};
-ghost use Rattle.sq_query.specs.Keyed.{IsKeyed};
+ghost use Rattle.sq_query.specs.Keyed.{IsKeyed, IsKeyedUnder};
 ghost use Rattle.sq_query.specs.MayRead.{MayEnd, MayRead};
 ghost use Rattle.sq_query.specs.Meant.{IsKeyUnder};
 ghost use Rattle.sq_query.specs.Needed.{FindsConds};
@@ -76,7 +76,7 @@ pub fn rows_of<'a, N: Names, S: Store>(
         bases: &[],
         views: &[],
     };
-    match key_of(target, store, &call)? {
+    match key_under(target, store, &call)? {
         Some(known) => {
             let rows = rows_by_key(names, &*target, store, &call, &known, meter);
             drop(known);
@@ -132,9 +132,37 @@ pub fn numbers_of<N: Names, S: Store>(
     numbers(alloc, rows.as_slice())
 }
 
+/// The key by which a target names a row of the base table, through views too, with its values in a call: none where it names none so, or
+/// one of the values is null. The target means no row that lacks it.
+pub fn key_of<S: Store>(
+    alloc: Global,
+    target: &Target,
+    store: &S,
+    inputs: Inputs<'_>,
+) -> Result<Option<KnownKey>, Fault>
+    requires there { target.now.base < length (S.content_now store.now) }
+    requires keys { keys_at (S.key_columns store.now) target.now.base ≡ target.now.leaf.table.keys }
+    ensures known { IfOk result
+        (λ found. IfSome found (IsKeyUnder target.now (S.content_now store.now) (S.key_columns store.now)
+        inputs.entry.parameters.now inputs.entry.user)) }
+    ensures found { target.now.is_quiet ≡ true → IfOk result
+        (λ found. IsKeyedUnder target.now inputs.entry.parameters.now inputs.entry.user → IsSome found) }
+    ensures memory { (columns : TableKinds) (parameters : List Kind) → IsTarget columns parameters target.now
+        → IsRowOf parameters inputs.entry.parameters.now → IfErr result (λ fault. fault ≡ Fault.NoMemory) }
+{
+    let call = Context {
+        alloc,
+        user: inputs.user,
+        parameters: &*inputs.parameters,
+        bases: &[],
+        views: &[],
+    };
+    key_under(target, store, &call)
+}
+
 /// The key by which a target names a row of the base table, with its values, where no other row needs to be read: the one that is
 /// noted for it or, where views are between, the shortest.
-fn key_of<S: Store>(
+fn key_under<S: Store>(
     target: &Target,
     store: &S,
     call: &Context<'_>,
@@ -144,8 +172,10 @@ fn key_of<S: Store>(
     ensures known { IfOk result
         (λ found. IfSome found (IsKeyUnder target.now (S.content_now store.now) (S.key_columns store.now)
         call.now.parameters.now call.now.user)) }
-    ensures found { IfOk result
+    ensures noted { IfOk result
         (λ found. IsKeyed target.now call.now.parameters.now call.now.user → IsSome found) }
+    ensures found { target.now.is_quiet ≡ true → IfOk result
+        (λ found. IsKeyedUnder target.now call.now.parameters.now call.now.user → IsSome found) }
     ensures memory { (columns : TableKinds) (parameters : List Kind) → IsTarget columns parameters target.now
         → IsRowOf parameters call.now.parameters.now → IfErr result (λ fault. fault ≡ Fault.NoMemory) }
 {
@@ -163,9 +193,12 @@ fn key_through_views<S: Store>(
     call: &Context<'_>,
 ) -> Result<Option<KnownKey>, Fault>
     requires there { target.now.base < length (S.content_now store.now) }
+    requires keys { keys_at (S.key_columns store.now) target.now.base ≡ target.now.leaf.table.keys }
     ensures known { IfOk result
         (λ found. IfSome found (IsKeyUnder target.now (S.content_now store.now) (S.key_columns store.now)
         call.now.parameters.now call.now.user)) }
+    ensures found { target.now.is_quiet ≡ true → IfOk result
+        (λ found. IsKeyedUnder target.now call.now.parameters.now call.now.user → IsSome found) }
     ensures memory { (columns : TableKinds) (parameters : List Kind) → IsTarget columns parameters target.now
         → IsRowOf parameters call.now.parameters.now → IfErr result (λ fault. fault ≡ Fault.NoMemory) }
 {
@@ -184,8 +217,12 @@ fn key_through_views<S: Store>(
 
 /// Whether the conditions of the views between are never a fault, and the target's own has no subquery.
 fn may_look_up(alloc: Global, target: &Target, own: &BoundCond) -> Result<bool, AllocError>
-    ensures { IfOk result (λ may. may ≡ true → target.now.leaf.is_quiet ≡ true) }
+    ensures views { IfOk result (λ may. may ≡ true → target.now.leaf.is_quiet ≡ true) }
+    ensures quiet { target.now.is_quiet ≡ true → IfOk result (λ may. may ≡ true) }
 {
+    if target.is_quiet {
+        return Ok(true);
+    }
     if !target.leaf.get().is_quiet {
         return Ok(false);
     }

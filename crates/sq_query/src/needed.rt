@@ -150,7 +150,7 @@ impl Needed {
         self.add_of_specification(&view_at(names, place).query)
     }
 
-    fn add(&mut self, table: TablePlace) -> Result<(), AllocError>
+    pub(crate) fn add(&mut self, table: TablePlace) -> Result<(), AllocError>
         ensures { OnOk result (places_in self.new ≡ with_table (places_in self.old) table) }
     {
         match table {

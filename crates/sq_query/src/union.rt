@@ -1,6 +1,6 @@
 //! The rows of a query expression (ISO/IEC 9075:1992, 7.10).
 
-ghost use Rattle.std.specs.Prelude.{◌≡◌, ◌≤◌, ◌++◌, IsSomeAnd, IsTrue, Ok, option_copied, true};
+ghost use Rattle.std.specs.Prelude.{◌≡◌, ◌≤◌, ◌++◌, IsSomeAnd, IsTrue, Ok, false, option_copied, true};
 ghost use Rattle.sq_value.specs.Storing.{IsStored};
 ghost use Rattle.sq_value.specs.declared.domain.Kind.TheVariants.{Num, Chars};
 ghost use Rattle.sq_value.specs.declared.value.Value.{Value as AnyValue};
@@ -8,7 +8,7 @@ ghost use Rattle.sq_meaning.specs.QueryExpression as meaning;
 ghost use Rattle.sq_meaning.specs.Status.{and_then, each};
 ghost use Rattle.sq_bound.specs.WellFormed.{kinds_of_results};
 ghost use Rattle.sq_expression.specs.Fault.{Meets, HasRows};
-ghost use Rattle.sq_query.specs.Union.{HasUnionRows, HasTermRows, MayBeBrought, IsBringable, AreBringable, WereJoined, all_stay, joined_rows, stays};
+ghost use Rattle.sq_query.specs.Union.{HasUnionRows, HasTermRows, MayBeBrought, IsBringable, AreBringable, IsJoinedTo, WereJoined, all_stay, rows_behind, stays};
 
 use sq_bound::{BoundQuery, BoundTerm, BoundUnion, ResultColumn};
 use sq_condition::outermost_rows;
@@ -33,7 +33,7 @@ pub(crate) fn query_rows<'a, 'm>(
         }
         before = Some(union);
     }
-    Ok(so_far)
+    without_repeats(before, so_far, context.alloc)
 }
 
 #[cycle(query_rows)]
@@ -46,8 +46,8 @@ fn term_rows<'a, 'm>(term: &'a BoundTerm, context: &'a Context<'m>) -> Result<Ve
     }
 }
 
-/// The rows of both sides, brought to their common kinds; without ALL each row at its first occurrence. The left rows are
-/// those that the UNION before it has left, if there is one.
+/// The rows of both sides, brought to their common kinds. Repeats that a UNION drops are still there: they are dropped once,
+/// behind the last one that drops them, and before rows are brought to other columns or kept with their repeats.
 fn joined(
     before: Option<&BoundUnion>,
     union: &BoundUnion,
@@ -55,17 +55,52 @@ fn joined(
     right: Vec<Row>,
     alloc: Global,
 ) -> Result<Vec<Row>, Fault>
-    ensures { WereJoined (option_copied before.entry) left.items
-        → AreBringable (kinds_of_results union.now.columns) (left.items ++ right.items)
-        → HasRows result
-        (joined_rows union.now.all (kinds_of_results union.now.columns) (left.items ++ right.items)) }
+    ensures { IsJoinedTo (option_copied before.entry) union.now left.items right.items result }
 {
     let columns = union.columns.as_slice();
-    let brought = both_brought_to(columns, before, left, right, alloc);
-    if union.all {
-        brought
+    if may_keep_repeats(before, union) {
+        with_brought(left, columns, right, alloc)
     } else {
-        distinct_rows(alloc, brought?)
+        match without_repeats(before, left, alloc) {
+            Ok(left) => both_brought_to(columns, before, left, right, alloc),
+            Err(fault) => {
+                drop(right);
+                Err(fault)
+            }
+        }
+    }
+}
+
+/// Whether the left rows stay as they are, with the repeats that the UNION before has left: this one drops them.
+fn may_keep_repeats(before: Option<&BoundUnion>, union: &BoundUnion) -> bool
+    ensures drops { IsTrue result → union.now.all ≡ false }
+    ensures stay { IsTrue result
+        → IsSomeAnd (option_copied before.entry) (λ u. all_stay u.columns union.now.columns ≡ true) }
+{
+    if union.all {
+        false
+    } else {
+        stay_under(before, union.columns.as_slice())
+    }
+}
+
+/// The rows that a UNION means of those that were joined: without ALL each row at its first occurrence.
+fn without_repeats(
+    before: Option<&BoundUnion>,
+    rows: Vec<Row>,
+    alloc: Global,
+) -> Result<Vec<Row>, Fault>
+    ensures { HasRows result (Ok (rows_behind (option_copied before.entry) rows.items)) }
+{
+    match before {
+        Some(union) => {
+            if union.all {
+                Ok(rows)
+            } else {
+                distinct_rows(alloc, rows)
+            }
+        }
+        None => Ok(rows),
     }
 }
 

@@ -6,6 +6,7 @@ use Rattle.std.specs.Prelude.{fold}
 use Rattle.std.specs.List.{list_any}
 use Rattle.std.specs.Option.{option_map}
 use Rattle.sq_value.specs.declared.value.Value.{Value}
+use Rattle.sq_value.proofs.Cutting.{any_map}
 use Rattle.sq_tree.specs.declared.cond.Comparison.{Comparison}
 use Rattle.sq_tree.specs.declared.expr.Sign.{Sign}
 use Rattle.sq_meaning.specs.Syntax.{conds}
@@ -34,10 +35,6 @@ use Rattle.sq_session.specs.Reads.{cond_reads, conds_read, escape_reads, expr_re
 or_assoc : (a b c : Bool) → ((a || b) || c) ≡ (a || (b || c))
 or_assoc true b c = refl
 or_assoc false b c = refl
-
-any_mapped : {A B : Type 0} (test : B → Bool) (f : A → B) (xs : List A) → list_any test (map f xs) ≡ list_any (λ x. test (f x)) xs
-any_mapped test f [] = refl
-any_mapped test f (x ∷ xs) = ap (λ b. test (f x) || b) (any_mapped test f xs)
 
 -- ---- expressions
 
@@ -111,7 +108,7 @@ reads_in_query sets n a s = ap (cond_reads sets) (predicate_of-InQuery [] n a s)
 
 pub reads_in_list : (sets : List BoundAssignment) (n : Bool) (a : BoundExpr) (es : List BoundExpr)
     → cond_reads sets (predicate_of [] (bound.InList n a es)) ≡ (expr_reads sets (expr_of [] a) || list_any (λ e. expr_reads sets (expr_of [] e)) es)
-reads_in_list sets n a es = ap (cond_reads sets) (predicate_of-InList [] n a es) ∙ reads_not sets n _ ∙ ap (λ b. expr_reads sets (expr_of [] a) || b) (any_mapped (expr_reads sets) (expr_of []) es)
+reads_in_list sets n a es = ap (cond_reads sets) (predicate_of-InList [] n a es) ∙ reads_not sets n _ ∙ ap (λ b. expr_reads sets (expr_of [] a) || b) (any_map (expr_reads sets) (expr_of []) es)
 
 pub reads_like : (sets : List BoundAssignment) (n : Bool) (text pattern : BoundExpr) (escape : Option BoundExpr)
     → cond_reads sets (predicate_of [] (bound.Like n text pattern escape)) ≡ (expr_reads sets (expr_of [] text) || expr_reads sets (expr_of [] pattern) || escape_reads sets (option_map (expr_of []) escape))

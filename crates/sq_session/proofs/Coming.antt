@@ -2,6 +2,7 @@
 use Rattle.std.proofs.Common.{◌≡◌, ◌<◌, ℕ, zero, suc, Bool, true, false, List, [], ◌∷◌, length, map, nat_eq, find, get_or, slice_get, slice_index_or, Option, Some, None, refl, sym, ◌∙◌, subst, arith}
 use Rattle.std.specs.List.{AllByRecursion, AllZip}
 use Rattle.std.specs.Option.{option_map}
+use Rattle.std.proofs.lemmas.Bool.{and_parts}
 use Rattle.sq_lex.specs.declared.name.Name.{Name}
 use Rattle.sq_value.specs.Domain.{IsOfKind, kind_of}
 use Rattle.sq_value.specs.Key.{in_columns}
@@ -41,7 +42,7 @@ use Rattle.sq_session.specs.Parameter.{AreGiven, IsGiven}
 use Rattle.sq_session.specs.Target.{MayTake, MayTakeRows}
 use Rattle.sq_session.specs.declared.cursor.CursorState.{CursorState}
 use Rattle.sq_session.specs.declared.cursor.CursorState.TheVariants as cursor
-use Rattle.sq_session.proofs.Holding.{both, none}
+use Rattle.sq_session.proofs.Holding.{none}
 use Rattle.sq_session.proofs.Over.{as_numbers, over_quiet}
 use Rattle.sq_session.proofs.Taken.{rows_taken}
 
@@ -141,9 +142,9 @@ at_taken : (columns : TableKinds) (bases : List BaseTable) (tables : Content) (d
 at_taken columns bases tables [] cs i n o conditions target user ps ts c in_domains fit are over have takes lt = absurd takes
 at_taken columns bases tables (d ∷ ds) [] i n o conditions target user ps ts c in_domains fit are over have takes lt = absurd have
 at_taken columns bases tables (d ∷ ds) (x ∷ cs) zero n o conditions target user ps ts c in_domains fit are over have takes lt =
-    cursor_taken columns bases tables are.0.0 d x n o conditions target user ps ts in_domains fit.0 are.0.1 takes (both (is_over (over_of d.cursor.body) x) (are_over ds cs) over).0 have.0
+    cursor_taken columns bases tables are.0.0 d x n o conditions target user ps ts in_domains fit.0 are.0.1 takes (and_parts (is_over (over_of d.cursor.body) x) (are_over ds cs) over).0 have.0
 at_taken columns bases tables (d ∷ ds) (x ∷ cs) (suc i) n o conditions target user ps ts c in_domains fit are over have takes lt =
-    at_taken columns bases tables ds cs i n o conditions target user ps ts c in_domains fit.1 are.1 (both (is_over (over_of d.cursor.body) x) (are_over ds cs) over).1 have.1 takes (omega (arith, lt))
+    at_taken columns bases tables ds cs i n o conditions target user ps ts c in_domains fit.1 are.1 (and_parts (is_over (over_of d.cursor.body) x) (are_over ds cs) over).1 have.1 takes (omega (arith, lt))
 
 -- those of the cursor that a FETCH names
 pub fetched_taken : (columns : TableKinds) (bases : List BaseTable) (tables : Content) (ds : List DeclaredCursor) (cs : List CursorState) (user : Name) (ps : List ParameterDesc) (f : BoundFetch) (c : CursorState)

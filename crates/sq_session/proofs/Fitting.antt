@@ -2,6 +2,7 @@
 use Rattle.std.proofs.Common.{rules, ◌≡◌, ◌+◌, ◌<◌, ◌≤◌, ◌&&◌, ◌∙◌, ℕ, zero, suc, Bool, true, false, List, [], ◌∷◌, drop, get_or, length, map, take, Some, None, Result, Err, refl, sym, ap, ap₂, true≢false, arith}
 use Rattle.std.proofs.lemmas.List.{drop_more}
 use Rattle.std.specs.Prelude.{is_ok, if◌then◌else◌}
+use Rattle.std.proofs.lemmas.Bool.{and_parts}
 use Rattle.sq_value.specs.Domain.{FitsKind}
 use Rattle.sq_value.specs.Memory.{takes_memory}
 use Rattle.sq_value.specs.Storing.{stored, text_or_too_long}
@@ -14,7 +15,6 @@ use Rattle.sq_value.specs.declared.value.Value.TheVariants.{Null, Num, Chars}
 use Rattle.sq_bound.specs.declared.names.ParameterDesc.{ParameterDesc}
 use Rattle.sq_rules.specs.Script.{fit, fits_in}
 use Rattle.sq_session.specs.Parameter.{declared}
-use Rattle.sq_session.proofs.Holding.{both}
 
 kept : (b : Bool) (t : List ℕ) → b ≡ is_ok (text_or_too_long (if b then Some t else None))
 kept true t = refl
@@ -120,7 +120,7 @@ pub fit_even : (ps : List ParameterDesc) (vs : List Value) → fit (map declared
 fit_even [] [] h = refl
 fit_even [] (v ∷ vs) h = cc
 fit_even (p ∷ ps) [] h = cc
-fit_even (p ∷ ps) (v ∷ vs) h = ap suc (fit_even ps vs (both (fits_in p.domain v) (fit (map declared ps) vs) h).1)
+fit_even (p ∷ ps) (v ∷ vs) h = ap suc (fit_even ps vs (and_parts (fits_in p.domain v) (fit (map declared ps) vs) h).1)
 
 -- each fits the parameter at its place
 pub fit_at : (ps : List ParameterDesc) (vs : List Value) (i : ℕ) (p : ParameterDesc) (v : Value) → fit (map declared ps) vs ≡ true → i < length ps → i < length vs
@@ -128,6 +128,6 @@ pub fit_at : (ps : List ParameterDesc) (vs : List Value) (i : ℕ) (p : Paramete
 fit_at [] vs i p v h lt in_values at_p at_v = absurd (omega (arith, lt))
 fit_at (q ∷ ps) [] i p v h lt in_values at_p at_v = absurd (omega (arith, in_values))
 fit_at (q ∷ ps) (u ∷ vs) zero p v h lt in_values at_p at_v =
-    ap₂ (λ (r : ParameterDesc) w. fits_in r.domain w) at_p at_v ∙ (both (fits_in q.domain u) (fit (map declared ps) vs) h).0
+    ap₂ (λ (r : ParameterDesc) w. fits_in r.domain w) at_p at_v ∙ (and_parts (fits_in q.domain u) (fit (map declared ps) vs) h).0
 fit_at (q ∷ ps) (u ∷ vs) (suc i) p v h lt in_values at_p at_v =
-    fit_at ps vs i p v (both (fits_in q.domain u) (fit (map declared ps) vs) h).1 (omega (arith, lt)) (omega (arith, in_values)) at_p at_v
+    fit_at ps vs i p v (and_parts (fits_in q.domain u) (fit (map declared ps) vs) h).1 (omega (arith, lt)) (omega (arith, in_values)) at_p at_v

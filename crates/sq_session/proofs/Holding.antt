@@ -1,6 +1,6 @@
 -- Tables that have rows for the base tables.
-use Rattle.std.proofs.Common.{◌≡◌, ◌+◌, ◌<◌, ℕ, zero, suc, Bool, true, false, ◌&&◌, nat_eq, List, [], ◌∷◌, find, length, slice_get, Some, refl, ap, sym, subst, true≢false, arith}
-use Rattle.std.proofs.lemmas.Bool.{eqb-true, ltb-true}
+use Rattle.std.proofs.Common.{◌≡◌, ◌+◌, ◌<◌, ℕ, zero, suc, Bool, true, false, nat_eq, List, [], ◌∷◌, find, length, slice_get, Some, refl, ap, sym, subst, true≢false, arith}
+use Rattle.std.proofs.lemmas.Bool.{and_parts, eqb-true, ltb-true}
 use Rattle.std.proofs.lemmas.Grind.{common_steps}
 use Rattle.std.proofs.lemmas.Slice.Zip.{AllZip-long}
 use Rattle.std.specs.List.{enumerate_from, list_all}
@@ -22,14 +22,10 @@ use Rattle.sq_bound.specs.declared.statement.ChangeTarget.TheVariants as target
 use Rattle.sq_bound.specs.declared.statement.PositionedTarget.{PositionedTarget}
 use Rattle.sq_catalog.specs.Catalog.{Catalog}
 use Rattle.sq_change.specs.Constraints.{constraints_hold, is_met_in, reference_met_in, references_met}
+use Rattle.sq_change.proofs.Held.{is_there, width_at}
 
 pub none : {A : Type 0} → false ≡ true → A
 none h = absurd (true≢false (sym h))
-
-pub both : (a b : Bool) → (a && b) ≡ true → (a ≡ true) × (b ≡ true)
-both true true h = (refl, refl)
-both true false h = none h
-both false b h = none h
 
 -- ---- tables of a new store
 
@@ -97,7 +93,7 @@ pub as_many_tables : (bases : List BaseTable) (tables : Content) → holds bases
 as_many_tables [] [] h = refl
 as_many_tables [] (t ∷ ts) h = none h
 as_many_tables (b ∷ bases) [] h = none h
-as_many_tables (b ∷ bases) (t ∷ ts) h = ap suc (as_many_tables bases ts (both (have_width (length b.columns) t.rows) (holds bases ts) h).1)
+as_many_tables (b ∷ bases) (t ∷ ts) h = ap suc (as_many_tables bases ts (and_parts (have_width (length b.columns) t.rows) (holds bases ts) h).1)
 
 -- and as many names
 pub as_many_names : (c : Catalog) → length c.bases ≡ length c.tables
@@ -106,39 +102,24 @@ as_many_names c = eqb-true (length c.bases) (length c.tables) c.counted
 -- ---- the table of a base table
 
 parts : (b : BaseTable) (bases : List BaseTable) (t : Table) (ts : Content) → holds (b ∷ bases) (t ∷ ts) ≡ true → (have_width (length b.columns) t.rows ≡ true) × (holds bases ts ≡ true)
-parts b bases t ts h = both (have_width (length b.columns) t.rows) (holds bases ts) h
-
-pub table_there : (bases : List BaseTable) (tables : Content) (p : ℕ) (b : BaseTable) → holds bases tables ≡ true → slice_get bases p ≡ Some b → p < length tables
-table_there [] tables p b h at = cc
-table_there (x ∷ bases) [] p b h at = none h
-table_there (x ∷ bases) (t ∷ ts) zero b h at = omega arith
-table_there (x ∷ bases) (t ∷ ts) (suc p) b h at = let ih = table_there bases ts p b (parts x bases t ts h).1 at in omega (arith, ih)
-
-wide_rows : (bases : List BaseTable) (tables : Content) (p : ℕ) (b : BaseTable) → holds bases tables ≡ true → slice_get bases p ≡ Some b → have_width (length b.columns) (table_at tables p).rows ≡ true
-wide_rows [] tables p b h at = cc
-wide_rows (x ∷ bases) [] p b h at = none h
-wide_rows (x ∷ bases) (t ∷ ts) zero b h at =
-    let first : Some x ≡ Some b = at in
-    let same : x ≡ b = cc in
-    subst (λ (y : BaseTable). have_width (length y.columns) t.rows ≡ true) same (parts x bases t ts h).0
-wide_rows (x ∷ bases) (t ∷ ts) (suc p) b h at = wide_rows bases ts p b (parts x bases t ts h).1 at
+parts b bases t ts h = and_parts (have_width (length b.columns) t.rows) (holds bases ts) h
 
 -- ---- a row of it
 
 found_wide : (w n : ℕ) (rows : List Numbered) (r : Numbered) → have_width w rows ≡ true → find (λ x. nat_eq x.number n) rows ≡ Some r → length r.row ≡ w
 found_wide w n [] r h at = cc
-found_wide w n (x ∷ rows) r h at = by (nat_eq x.number n) refl (λ later. found_wide w n rows r (both (nat_eq (length x.row) w) (have_width w rows) h).1 later)
+found_wide w n (x ∷ rows) r h at = by (nat_eq x.number n) refl (λ later. found_wide w n rows r (and_parts (nat_eq (length x.row) w) (have_width w rows) h).1 later)
   where
     by : (b : Bool) → nat_eq x.number n ≡ b → (find (λ y. nat_eq y.number n) rows ≡ Some r → length r.row ≡ w) → length r.row ≡ w
     by true t others =
         let first : Some x ≡ Some r = rw t at at in
         let same : x ≡ r = cc in
-        subst (λ (y : Numbered). length y.row ≡ w) same (eqb-true (length x.row) w (both (nat_eq (length x.row) w) (have_width w rows) h).0)
+        subst (λ (y : Numbered). length y.row ≡ w) same (eqb-true (length x.row) w (and_parts (nat_eq (length x.row) w) (have_width w rows) h).0)
     by false t others = others (rw t at at)
 
 pub row_wide : (bases : List BaseTable) (tables : Content) (p n : ℕ) (b : BaseTable) (r : Numbered) → holds bases tables ≡ true → slice_get bases p ≡ Some b → row_at (table_at tables p) n ≡ Some r
     → length r.row ≡ length b.columns
-row_wide bases tables p n b r h at found = found_wide (length b.columns) n (table_at tables p).rows r (wide_rows bases tables p b h at) found
+row_wide bases tables p n b r h at found = found_wide (length b.columns) n (table_at tables p).rows r (width_at bases tables p b h at) found
 
 -- ---- what an updatable query is over
 
@@ -150,12 +131,12 @@ pub query_over : (bases : List BaseTable) (q : UpdatableQuery) → FitsQuery bas
 query_over bases q fits = (q.target.leaf.table, subst (λ (p : ℕ). slice_get bases p ≡ Some q.target.leaf.table) (sym q.target.is_under) fits.0, fits.1)
 
 pub query_there : (bases : List BaseTable) (tables : Content) (q : UpdatableQuery) → holds bases tables ≡ true → FitsQuery bases q → q.target.base < length tables
-query_there bases tables q held fits = let over = query_over bases q fits in table_there bases tables q.target.base over.0 held over.1
+query_there bases tables q held fits = let over = query_over bases q fits in is_there bases tables q.target.base over.0 held over.1
 
 -- ---- what a positioned statement is over
 
 pub positioned_there : (bases : List BaseTable) (tables : Content) (cursors : ℕ) (p : PositionedTarget) → holds bases tables ≡ true → FitsTarget bases cursors (target.Positioned p) → p.base < length tables
-positioned_there bases tables cursors p held fits = subst (λ (n : ℕ). n < length tables) (sym p.is_under) (table_there bases tables p.leaf.table.place p.leaf.table held fits.0)
+positioned_there bases tables cursors p held fits = subst (λ (n : ℕ). n < length tables) (sym p.is_under) (is_there bases tables p.leaf.table.place p.leaf.table held fits.0)
 
 pub positioned_cursor : (bases : List BaseTable) (cursors : ℕ) (p : PositionedTarget) → FitsTarget bases cursors (target.Positioned p) → p.cursor < cursors
 positioned_cursor bases cursors p fits = ltb-true p.cursor cursors fits.1

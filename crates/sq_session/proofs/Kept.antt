@@ -17,6 +17,7 @@ use Rattle.sq_bound.specs.declared.statement.ChangeTarget.TheVariants as target
 use Rattle.sq_bound.specs.declared.statement.PositionedTarget.{PositionedTarget}
 use Rattle.sq_module.specs.declared.program.DeclaredCursor.{DeclaredCursor}
 use Rattle.sq_bound.specs.declared.statement.BoundUpdate.{BoundUpdate}
+use Rattle.sq_expression.proofs.Kept.{ok_same}
 use Rattle.sq_session.specs.Cursors.{HasKept, HaveKept, MayKeep, OpenHaveKept, go_on, goes_on, listed, reads}
 use Rattle.sq_session.specs.Fetch.{come_to_number, come_to_row, come_to_walk, over_numbers, over_rows, over_walk, place_reached, row_come_to, row_fetched}
 use Rattle.sq_session.specs.Kind.{Caller, Fetching, Updating, caller_of, delete_kind, fetching, kind_of, update_kind, updating}
@@ -96,15 +97,12 @@ module _ (columns : TableKinds) where
 
   -- ---- FETCH
 
-  ok_same : {A : Type 0} (x y : A) (o : Outcome A) → o ≡ Ok x → o ≡ Ok y → x ≡ y
-  ok_same x y o h k = cc
-
   row_listed : (f : Fetching) (vs : List Value) (c : RowsCursor) (come : RowsCursor × Done) → come_to_row f vs c ≡ Ok come → come.0.rows ≡ c.rows
   row_listed f vs c come e =
       let reached = bind_ok (place_reached vs f.orientation (length c.rows) c.place) (row_come_to f c) come e in
       let moved : RowsCursor = record c { place = reached.0 } in
       let shown = bind_ok (row_fetched f (row_of c.rows reached.0)) (λ d. Ok (moved, d)) come reached.2 in
-      sym (ap (λ x. x.0.rows) (ok_same (moved, shown.0) come (Ok (moved, shown.0)) refl shown.2))
+      sym (ap (λ x. x.0.rows) (ok_same (moved, shown.0) come shown.2))
 
   come_rows : (ds : List DeclaredCursor) (f : Fetching) (vs : List Value) (c : RowsCursor) (o : Outcome (RowsCursor × Done)) (b : State) (d : Done) (a : State)
       → cursor_at b f.cursor ≡ cursor.Rows c → come_to_row f vs c ≡ o → HaveKept columns ds b.cursors → Comes (over_rows o) f.cursor b d a → HaveKept columns ds a.cursors

@@ -1,6 +1,6 @@
 -- A walk over the rows of a target that names them by a key comes to one row at most: the one with the key, if it stands among the rows
 -- that are left and is meant.
-use Rattle.std.proofs.Common.{◌≡◌, ◌∙◌, ℕ, ◌+◌, ◌<◌, ◌≤◌, Bool, true, false, nat_eq, nat_le, nat_lt, List, [], ◌∷◌, Option, Some, None, arith, filter, find, refl, sym, ap, subst, Ok}
+use Rattle.std.proofs.Common.{◌≡◌, ◌∙◌, ℕ, ◌+◌, ◌<◌, ◌≤◌, Bool, true, false, nat_eq, nat_le, nat_lt, List, [], ◌∷◌, Option, Some, None, arith, filter, find, refl, ap, subst, Ok}
 use Rattle.std.specs.Prelude.{if◌then◌else◌}
 use Rattle.std.specs.List.{AllByRecursion, list_any}
 use Rattle.std.specs.Option.{option_map}
@@ -14,20 +14,19 @@ use Rattle.sq_store.specs.Keys.{Keys, are_keyed, has_key, key_at, with_key}
 use Rattle.sq_store.specs.Rising.{all_rising, rising_between}
 use Rattle.sq_store.specs.declared.table.Numbered.{Numbered}
 use Rattle.sq_store.proofs.Rises.{rows_rise_at}
-use Rattle.sq_meaning.specs.Status.{Outcome}
 use Rattle.sq_meaning.proofs.AnswerLaws.{all_weaker}
 use Rattle.sq_bound.specs.Fits.{IsBase, keys_of_bases, not_nulls_hold}
 use Rattle.sq_bound.specs.WellFormed.{TableKinds}
 use Rattle.sq_bound.specs.declared.names.BaseTable.{BaseTable}
 use Rattle.sq_bound.specs.declared.query.Target.{Target}
-use Rattle.sq_query.specs.Key.{IsKeyOf}
+use Rattle.sq_query.specs.Meant.{IsKeyUnder}
 use Rattle.sq_query.specs.Row.{truth_on_row}
 use Rattle.sq_query.specs.Target.{are_true, conditions_of}
 use Rattle.sq_query.specs.declared.key.KnownKey.{KnownKey}
-use Rattle.sq_query.proofs.KeySearch.{none_without, one_with}
 use Rattle.sq_query.proofs.OnlyOne.{AtMostOne, found_is}
+use Rattle.sq_query.proofs.TargetSearch.{none_without, one_with}
 use Rattle.sq_session.specs.Fetch.{row_on}
-use Rattle.sq_session.specs.Walk.{AreRowsUnder, IsQuietWith, first_meant, is_meant, is_yes, no_tables, rows_between}
+use Rattle.sq_session.specs.Walk.{AreRowsUnder, IsQuietWith, first_meant, is_meant, is_yes, no_tables}
 
 -- ---- the first that is meant, among some
 
@@ -75,7 +74,7 @@ module _ {A : Type 0} (has meant first second : A → Bool) where
 
 -- ---- the walk
 
-module _ (columns : TableKinds) (bases : List BaseTable) (content : Content) (keys : List Keys) (t : Target) (values : List Value) (user : Name) (known : KnownKey) (k : IsKeyOf t content keys values user known)
+module _ (columns : TableKinds) (bases : List BaseTable) (content : Content) (keys : List Keys) (t : Target) (values : List Value) (user : Name) (known : KnownKey) (k : IsKeyUnder t content keys values user known)
     (quiet : IsQuietWith columns t values) (base : IsBase bases t.leaf.table) (keys_are : keys ≡ keys_of_bases bases) (nulls : not_nulls_hold bases content ≡ true)
     (rows_are : AreRowsUnder t (table_at content t.base).rows) (keyed : are_keyed keys content ≡ true) (from mark : ℕ) where
   abbrev has_it : Numbered → Bool

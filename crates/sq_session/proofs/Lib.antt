@@ -28,6 +28,7 @@ pub mod Selected
 pub mod Shown
 pub mod Started
 pub mod TableWalk
+pub mod StaysOver
 pub mod Taken
 pub mod Targets
 pub mod Unread

@@ -1,5 +1,5 @@
 -- How many rows a call reads, from what its parts read.
-use Rattle.std.proofs.Common.{◌≡◌, ◌+◌, ◌-◌, ◌^◌, ◌≤◌, ◌<◌, refl, ◌∙◌, ℕ, true, false, List, length, get_or, Option, Some, None, Result, Ok, Err, ap, arith, subst, sym, IfSome}
+use Rattle.std.proofs.Common.{◌≡◌, ◌+◌, ◌-◌, ◌^◌, ◌≤◌, ◌<◌, refl, ◌∙◌, ℕ, true, false, List, length, get_or, Option, Some, None, Result, Ok, Err, arith, subst, sym, IfSome}
 use Rattle.std.specs.Prelude.{IfOk, slice_get}
 use Rattle.std.specs.Option.{option_map_or}
 use Rattle.std.specs.declared.alloc.AllocError.{AllocError}
@@ -20,10 +20,10 @@ use Rattle.sq_bound.specs.declared.statement.ChangeTarget.{ChangeTarget}
 use Rattle.sq_bound.specs.declared.statement.ChangeTarget.TheVariants as target
 use Rattle.sq_module.specs.declared.program.DeclaredCursor.{DeclaredCursor}
 use Rattle.sq_expression.specs.declared.fault.Fault.{Fault}
-use Rattle.sq_query.specs.Keyed.{IsKeyed, IsKeyedChange, IsKeyedSelect}
+use Rattle.sq_query.specs.Keyed.{IsKeyedChange, IsKeyedSelect, IsKeyedUnder}
 use Rattle.sq_query.proofs.KnownKeys.{counted_at_most}
 use Rattle.sq_session.specs.Fetch.{next_walked}
-use Rattle.sq_session.specs.Kind.{Caller, Fetching, Kind, Over, Selecting, Updating, caller_of, delete_kind, kind_of, over_at, over_of, over_target, read_parameters, update_kind, updating}
+use Rattle.sq_session.specs.Kind.{Caller, Fetching, Kind, Over, Selecting, Updating, caller_of, delete_kind, kind_of, over_at, over_of, over_target, update_kind, updating}
 use Rattle.sq_session.specs.Metered.{CallReads, FetchReads, FetchReadsFrom, OpenReads, StepReads}
 use Rattle.sq_session.specs.Parameter.{started_values}
 use Rattle.sq_session.specs.State.{State, cursor_at}
@@ -62,10 +62,6 @@ pub meter_comes : (start old new from number found : ℕ) → old + (from - 1) �
 meter_comes start old new from number found so_far first behind positive is =
     (counted_some old new is, comes_by start old new from number found so_far first behind positive (counted_at_most old new is))
 
--- a row that is looked up counts once
-pub counted_once : (old new : ℕ) → new ≡ counted old → new ≤ old + 1
-counted_once old new is = counted_at_most old new is
-
 -- ---- OPEN
 
 pub walk_opened : (t : Target) (count : ℕ) → t.is_quiet ≡ true → count ≡ 0 → OpenReads (over_target t) count
@@ -88,14 +84,14 @@ opened_at cursors number declared count there h =
 -- ---- FETCH
 
 -- a walk whose target names a row by a key
-by_key : (f : Fetching) (c : WalkingCursor) (t : Target) (start count : ℕ) → f.target ≡ Some t → start ≡ 0 → (IsKeyed t c.values f.user → count ≤ start + 1)
-    → IfSome f.target (λ t. IsKeyed t c.values f.user → count ≤ 1)
+by_key : (f : Fetching) (c : WalkingCursor) (t : Target) (start count : ℕ) → f.target ≡ Some t → start ≡ 0 → (IsKeyedUnder t c.values f.user → count ≤ start + 1)
+    → IfSome f.target (λ t. IsKeyedUnder t c.values f.user → count ≤ 1)
 by_key f c t start count is none once =
-    subst (λ (o : Option Target). IfSome o (λ t. IsKeyed t c.values f.user → count ≤ 1)) (sym is) (λ keyed. let most = once keyed in omega (arith, none, most))
+    subst (λ (o : Option Target). IfSome o (λ t. IsKeyedUnder t c.values f.user → count ≤ 1)) (sym is) (λ keyed. let most = once keyed in omega (arith, none, most))
 
 -- where a walk comes to a row
 pub row_come_to : (f : Fetching) (tables : Content) (c : WalkingCursor) (t : Target) (row : Numbered) (start count : ℕ) → f.target ≡ Some t → next_walked f (table_at tables c.table) c ≡ Some row → start ≡ 0
-    → (1 ≤ count) × (count ≤ start + (row.number - (c.next - 1))) → (IsKeyed t c.values f.user → count ≤ start + 1) → FetchReadsFrom (cursor.Walking c) f tables count
+    → (1 ≤ count) × (count ≤ start + (row.number - (c.next - 1))) → (IsKeyedUnder t c.values f.user → count ≤ start + 1) → FetchReadsFrom (cursor.Walking c) f tables count
 row_come_to f tables c t row start count is next none h once = (
   subst (λ (o : Option Numbered). IfSome o (λ r. (1 ≤ count) × (count ≤ r.number - (c.next - 1)))) (sym next) (h.0, omega (arith, none, h.1)),
   by_key f c t start count is none once,
@@ -103,7 +99,7 @@ row_come_to f tables c t row start count is next none h once = (
 
 -- and where it comes to its end
 pub end_come_to : (f : Fetching) (tables : Content) (c : WalkingCursor) (t : Target) (start count : ℕ) → f.target ≡ Some t → next_walked f (table_at tables c.table) c ≡ None → start ≡ 0
-    → (IsKeyed t c.values f.user → count ≤ start + 1) → FetchReadsFrom (cursor.Walking c) f tables count
+    → (IsKeyedUnder t c.values f.user → count ≤ start + 1) → FetchReadsFrom (cursor.Walking c) f tables count
 end_come_to f tables c t start count is next none once =
     (subst (λ (o : Option Numbered). IfSome o (λ r. (1 ≤ count) × (count ≤ r.number - (c.next - 1)))) (sym next) tt, by_key f c t start count is none once)
 

@@ -1,14 +1,11 @@
 -- Outputs whose values are taken from the assignments.
-use Rattle.std.proofs.Common.{◌≡◌, ◌+◌, ◌<◌, ◌≤◌, ℕ, zero, suc, Bool, true, false, List, [], ◌∷◌, ◌++◌, length, drop, get_or, nat_eq, Option, Some, None, refl, sym, ap, arith, ◌∙◌}
+use Rattle.std.proofs.Common.{◌≡◌, ◌+◌, ℕ, zero, suc, false, List, [], ◌∷◌, get_or, nat_eq, Option, Some, None, refl, arith}
 use Rattle.std.proofs.lemmas.Grind.{common_steps}
 use Rattle.std.proofs.lemmas.Bool.Decides.{nat_tests}
-use Rattle.std.proofs.lemmas.List.{drop_more}
 use Rattle.std.specs.Prelude.{position, slice_set}
 use Rattle.std.specs.Option.{option_map}
 use Rattle.sq_value.specs.declared.value.Value.{Value}
-use Rattle.sq_bound.specs.declared.names.ParameterDesc.{ParameterDesc}
-use Rattle.sq_session.specs.Target.{AreSetAlike, output_first, outputs_from, set_to}
-use Rattle.sq_session.specs.declared.reply.Output.{Output}
+use Rattle.sq_session.specs.Target.{AreSetAlike, set_to}
 use Rattle.sq_session.specs.declared.target.Assignment.{Assignment}
 
 abbrev value_of : Option Assignment → Option Value

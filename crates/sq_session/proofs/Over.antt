@@ -1,6 +1,6 @@
 -- Each cursor goes over what the declared one does.
 use Rattle.std.proofs.Common.{if◌then◌else◌, ◌≡◌, ◌<◌, ℕ, zero, suc, Bool, true, false, List, [], ◌∷◌, length, get_or, replicate, slice_index_or, slice_set, refl, ap, subst, arith}
-use Rattle.std.proofs.lemmas.Bool.{eqb-true}
+use Rattle.std.proofs.lemmas.Bool.{and_parts, eqb-true}
 use Rattle.sq_store.specs.Content.{Content}
 use Rattle.sq_bound.specs.Fits.{FitsBody, holds}
 use Rattle.sq_bound.specs.declared.names.BaseTable.{BaseTable}
@@ -9,6 +9,7 @@ use Rattle.sq_bound.specs.declared.query.CursorBody.TheVariants as body
 use Rattle.sq_module.specs.Program.{CursorsFit}
 use Rattle.sq_module.specs.declared.program.DeclaredCursor.{DeclaredCursor}
 use Rattle.sq_bound.specs.declared.statement.BoundUpdate.{BoundUpdate}
+use Rattle.sq_change.proofs.Held.{is_there}
 use Rattle.sq_session.specs.Cursors.{are_over, go_on, goes_on, is_over, is_over_numbers, is_over_table, is_updatable, listed, reads}
 use Rattle.sq_session.specs.Kind.{Over, columns_at, columns_of, over_at, over_of}
 use Rattle.sq_session.specs.State.{all_closed, off_row}
@@ -16,7 +17,7 @@ use Rattle.sq_session.specs.declared.cursor.CursorState.{CursorState}
 use Rattle.sq_session.specs.declared.cursor.CursorState.TheVariants as cursor
 use Rattle.sq_session.specs.declared.cursor.NumbersCursor.{NumbersCursor}
 use Rattle.sq_session.specs.declared.walk.WalkingCursor.{WalkingCursor}
-use Rattle.sq_session.proofs.Holding.{HasColumns, both, none, query_over, table_there}
+use Rattle.sq_session.proofs.Holding.{HasColumns, none, query_over}
 
 -- ---- one cursor
 
@@ -47,7 +48,7 @@ some_over c cs h = none h
 
 first_over : (d : DeclaredCursor) (ds : List DeclaredCursor) (c : CursorState) (cs : List CursorState) → are_over (d ∷ ds) (c ∷ cs) ≡ true
     → (is_over (over_of d.cursor.body) c ≡ true) × (are_over ds cs ≡ true)
-first_over d ds c cs h = both (is_over (over_of d.cursor.body) c) (are_over ds cs) h
+first_over d ds c cs h = and_parts (is_over (over_of d.cursor.body) c) (are_over ds cs) h
 
 next_over : (d : DeclaredCursor) (ds : List DeclaredCursor) (c : CursorState) (cs : List CursorState) → is_over (over_of d.cursor.body) c ≡ true → are_over ds cs ≡ true
     → are_over (d ∷ ds) (c ∷ cs) ≡ true
@@ -181,8 +182,8 @@ walk_over bases ds i w fit h = table_over bases ds i w.table fit (as_numbers (ov
 -- it is in a store that has rows for the base tables
 pub numbers_there : (bases : List BaseTable) (tables : Content) (ds : List DeclaredCursor) (i : ℕ) (c : NumbersCursor) → holds bases tables ≡ true → CursorsFit bases ds
     → is_over (over_at ds i) (cursor.Numbers c) ≡ true → c.table < length tables
-numbers_there bases tables ds i c held fit h = let t = numbers_over bases ds i c fit h in table_there bases tables c.table t.0 held t.1
+numbers_there bases tables ds i c held fit h = let t = numbers_over bases ds i c fit h in is_there bases tables c.table t.0 held t.1
 
 pub walk_there : (bases : List BaseTable) (tables : Content) (ds : List DeclaredCursor) (i : ℕ) (w : WalkingCursor) → holds bases tables ≡ true → CursorsFit bases ds
     → is_over (over_at ds i) (cursor.Walking w) ≡ true → w.table < length tables
-walk_there bases tables ds i w held fit h = let t = walk_over bases ds i w fit h in table_there bases tables w.table t.0 held t.1
+walk_there bases tables ds i w held fit h = let t = walk_over bases ds i w fit h in is_there bases tables w.table t.0 held t.1

@@ -1,10 +1,9 @@
 -- The conditions of a walk answer no status, and what a declared cursor gives of that.
-use Rattle.std.proofs.Common.{◌≡◌, ◌<◌, ◌≤◌, ℕ, zero, suc, Bool, true, false, nat_le, List, [], ◌∷◌, length, get_or, map, slice_get, if◌then◌else◌, Option, Some, None, Ok, Err, refl, sym, ◌∙◌, subst, arith}
+use Rattle.std.proofs.Common.{◌≡◌, ◌<◌, ◌≤◌, ℕ, zero, suc, Bool, true, false, nat_le, List, [], ◌∷◌, length, get_or, map, slice_get, if◌then◌else◌, Some, Ok, Err, refl, sym, ◌∙◌, subst, arith}
 use Rattle.std.proofs.lemmas.Bool.{eqb-true}
 use Rattle.std.specs.List.{AllByRecursion}
 use Rattle.sq_lex.specs.declared.name.Name.{Name}
 use Rattle.sq_value.specs.Domain.{kind_of}
-use Rattle.sq_value.specs.declared.domain.Kind.{Kind}
 use Rattle.sq_value.specs.declared.truth.Truth.{Truth}
 use Rattle.sq_value.specs.declared.truth.Truth.TheVariants as truths
 use Rattle.sq_value.specs.declared.value.Value.{Value}
@@ -14,7 +13,7 @@ use Rattle.sq_meaning.specs.Environment.{Row}
 use Rattle.sq_meaning.specs.Placed.{by_place}
 use Rattle.sq_meaning.specs.Query.{truth}
 use Rattle.sq_meaning.specs.Status.{Outcome}
-use Rattle.sq_meaning.specs.WellFormed.{AreInputsOf, HasValue, IsRowOf}
+use Rattle.sq_meaning.specs.WellFormed.{HasValue, IsRowOf}
 use Rattle.sq_bound.specs.Condition.{cond_of}
 use Rattle.sq_bound.specs.Fits.{AreInDomains, AreRowsIn, FitsBody, IsBase}
 use Rattle.sq_bound.specs.WellFormed.{TableKinds, base_kinds}
@@ -32,7 +31,7 @@ use Rattle.sq_module.specs.declared.program.DeclaredCursor.{DeclaredCursor}
 use Rattle.sq_expression.specs.Frame.{inputs_of}
 use Rattle.sq_query.specs.Row.{outside}
 use Rattle.sq_query.specs.Target.{IsChosen, are_true, conditions_of}
-use Rattle.sq_query.proofs.KeyedRows.{both_are}
+use Rattle.sq_query.proofs.KeyedRows.{both_are, inputs_are}
 use Rattle.sq_query.proofs.QuietTargets.{are_plain}
 use Rattle.sq_expression.specs.declared.fault.Failure.{Failure}
 use Rattle.sq_expression.specs.declared.fault.Fault.TheVariants as fault
@@ -61,16 +60,10 @@ truths_known test (c ∷ cs) h = by (test c) refl h.0 (truths_known test cs h.1)
 
 -- ---- a quiet target
 
-inputs_given : (parameters : List Kind) (values : List Value) → IsRowOf parameters values → AreInputsOf parameters (inputs_of values)
-inputs_given [] [] is = tt
-inputs_given [] (v ∷ values) is = absurd is
-inputs_given (k ∷ parameters) [] is = absurd is
-inputs_given (k ∷ parameters) (v ∷ values) is = (is.0, inputs_given parameters values is.1)
-
 known_on_row : (columns : TableKinds) (t : Target) (values : List Value) (user : Name) (row : Row) → IsQuietWith columns t values → IsRowOf (base_kinds t.leaf.table) row
     → HasValue (are_true (λ c. truth (by_place quiet.no_tables) (cond_of [] c) (outside (row ∷ []) values user)) (conditions_of t))
 known_on_row columns t values user row q is_row =
-    let each = quiet.target_on_row columns q.parameters row (inputs_of values) user (inputs_given q.parameters values q.given) t q.quiet q.is_target is_row in
+    let each = quiet.target_on_row columns q.parameters row (inputs_of values) user (inputs_are q.parameters values q.given) t q.quiet q.is_target is_row in
     truths_known (λ c. truth (by_place quiet.no_tables) (cond_of [] c) (outside (row ∷ []) values user)) (conditions_of t)
     (both_are (λ c. HasValue (truth (by_place quiet.no_tables) (cond_of [] c) (outside (row ∷ []) values user))) t.leaf.conditions t.condition each.0 each.1)
 

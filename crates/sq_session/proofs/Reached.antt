@@ -13,6 +13,7 @@ use Rattle.sq_model.proofs.Bind.{bind_ok}
 use Rattle.sq_expression.specs.Fault.{Meets, status_of}
 use Rattle.sq_expression.specs.declared.fault.Fault.{Fault}
 use Rattle.sq_expression.specs.declared.fault.Fault.TheVariants as fault
+use Rattle.sq_expression.proofs.Kept.{ok_same}
 use Rattle.sq_session.specs.Fetch.{HasCome, come_to_number, come_to_walk, next_walked, row_on, shown_fetched, walk_come_to, walked_to}
 use Rattle.sq_session.specs.Kind.{Fetching}
 use Rattle.sq_session.specs.State.{next_number}
@@ -21,9 +22,6 @@ use Rattle.sq_session.specs.Walk.{first_meant}
 use Rattle.sq_session.specs.declared.cursor.NumbersCursor.{NumbersCursor}
 use Rattle.sq_session.specs.declared.reply.Done.{Done}
 use Rattle.sq_session.specs.declared.walk.WalkingCursor.{WalkingCursor}
-
-ok_same : {A : Type 0} (x y : A) (o : Outcome A) → o ≡ Ok x → o ≡ Ok y → x ≡ y
-ok_same x y o h k = cc
 
 -- ---- a cursor over numbers
 
@@ -62,7 +60,7 @@ pub number_kept : (f : Fetching) (tables : Content) (c : NumbersCursor) (come : 
 number_kept f tables c come e =
     let next = next_number (table_at tables c.table) c in
     let shown = bind_ok (shown_fetched f (row_on (table_at tables c.table) next.on)) (λ d. Ok (next, d)) come e in
-    sym (ap (λ (x : NumbersCursor × Done). x.0) (ok_same (next, shown.0) come (Ok (next, shown.0)) refl shown.2))
+    sym (ap (λ (x : NumbersCursor × Done). x.0) (ok_same (next, shown.0) come shown.2))
 
 -- ---- a cursor that walks
 
@@ -75,7 +73,7 @@ pub walk_kept : (f : Fetching) (tables : Content) (c : WalkingCursor) (come : Wa
 walk_kept f tables c come e =
     let reached = next_walked f (table_at tables c.table) c in
     let shown = bind_ok (shown_fetched f (option_map (λ r. r.row) reached)) (λ d. Ok (walked_to c reached, d)) come e in
-    let first : walked_to c reached ≡ come.0 = ap (λ (x : WalkingCursor × Done). x.0) (ok_same (walked_to c reached, shown.0) come (Ok (walked_to c reached, shown.0)) refl shown.2) in
+    let first : walked_to c reached ≡ come.0 = ap (λ (x : WalkingCursor × Done). x.0) (ok_same (walked_to c reached, shown.0) come shown.2) in
     subst (λ (w : WalkingCursor). w ≡ record c { next = w.next; on = w.on }) first (walked_same c reached)
 
 -- the row that is found is the next

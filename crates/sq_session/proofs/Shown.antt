@@ -1,6 +1,6 @@
 -- The columns of a row that an updatable query shows.
 use Rattle.std.proofs.Common.{◌≡◌, ◌<◌, ℕ, zero, suc, true, List, [], ◌∷◌, length, get_or, nat_lt, slice_get, Some, None, Option, refl, ap, subst, sym, ◌∙◌, arith}
-use Rattle.std.proofs.lemmas.Bool.{ltb-true}
+use Rattle.std.proofs.lemmas.Bool.{and_parts, ltb-true}
 use Rattle.std.proofs.lemmas.List.{get_or_read, length-map}
 use Rattle.std.proofs.lemmas.Option.{slice_get-get_or}
 use Rattle.std.specs.Borrow.{Bor}
@@ -16,13 +16,13 @@ use Rattle.sq_bound.specs.Names.{are_positions}
 use Rattle.sq_bound.specs.declared.names.BaseTable.{BaseTable}
 use Rattle.sq_session.specs.Columns.{are_columns_of, values_in}
 use Rattle.sq_session.specs.Fetch.{row_on}
-use Rattle.sq_session.proofs.Holding.{HasColumns, both, row_wide}
+use Rattle.sq_session.proofs.Holding.{HasColumns, row_wide}
 
 -- each of them is there
 pub column_there : (n : ℕ) (columns : List ℕ) (i d : ℕ) → are_positions n columns ≡ true → i < length columns → get_or columns i d < n
 column_there n [] i d h lt = absurd (omega (arith, lt))
-column_there n (c ∷ columns) zero d h lt = ltb-true c n (both (nat_lt c n) (are_positions n columns) h).0
-column_there n (c ∷ columns) (suc i) d h lt = column_there n columns i d (both (nat_lt c n) (are_positions n columns) h).1 (omega (arith, lt))
+column_there n (c ∷ columns) zero d h lt = ltb-true c n (and_parts (nat_lt c n) (are_positions n columns) h).0
+column_there n (c ∷ columns) (suc i) d h lt = column_there n columns i d (and_parts (nat_lt c n) (are_positions n columns) h).1 (omega (arith, lt))
 
 -- the value in the column at a place
 pub value_there : (row : List Value) (columns : List ℕ) (place d : ℕ) (v : Value) → place < length columns → get_or columns place d < length row → v ≡ get_or row (get_or columns place d) v

@@ -8,23 +8,12 @@ use Rattle.sq_store.specs.Rising.{rising_between, all_rising}
 use Rattle.sq_session.specs.Fetch.{row_on}
 use Rattle.sq_session.specs.Walk.{rows_between, rows_from}
 use Rattle.sq_store.proofs.Rises.{rows_rise_at, next_at}
+use Rattle.sq_store.proofs.Walk.{rows_from_none, walked}
 
 -- below all numbers, these are all rows
 pub rows_from_low : (low number : ℕ) (rs : List Numbered) (next : ℕ) → rising_between low rs next ≡ true → number ≤ low → rows_from number rs ≡ rs
 rows_from_low low number [] next h le = refl
 rows_from_low low number (r ∷ rs) next h le = grind (arith, common_steps, rows_from_low (r.number + 1) number rs next)
-
-pub rows_from_zero : (rs : List Numbered) → rows_from 0 rs ≡ rs
-rows_from_zero [] = refl
-rows_from_zero (r ∷ rs) = grind (arith, common_steps, rows_from_zero rs)
-
-pub rows_from_none : (number : ℕ) (rs : List Numbered) → find (λ r. nat_le number r.number) rs ≡ None → rows_from number rs ≡ []
-rows_from_none number [] h = refl
-rows_from_none number (r ∷ rs) h = grind (arith, common_steps, rows_from_none number rs)
-
-rising_le : (low : ℕ) (rs : List Numbered) (next : ℕ) → rising_between low rs next ≡ true → low ≤ next
-rising_le low [] next h = grind (arith, common_steps)
-rising_le low (r ∷ rs) next h = grind (arith, common_steps, rising_le (r.number + 1) rs next)
 
 -- what is found is the row at hand, or is found among the others
 found_here : (number : ℕ) (r f : Numbered) (rs : List Numbered) → nat_le number r.number ≡ true → find (λ x. nat_le number x.number) (r ∷ rs) ≡ Some f → r ≡ f
@@ -40,12 +29,6 @@ found_by number r f rs P e here later = by_test (nat_le number r.number) refl
     by_test : (b : Bool) → nat_le number r.number ≡ b → P
     by_test true t = here t (found_here number r f rs t e)
     by_test false t = later t (found_later number r f rs t e)
-
-found_below : (low number : ℕ) (rs : List Numbered) (next : ℕ) (f : Numbered) → rising_between low rs next ≡ true → find (λ r. nat_le number r.number) rs ≡ Some f → f.number < next
-found_below low number [] next f h e = cc
-found_below low number (r ∷ rs) next f h e = found_by number r f rs (f.number < next) e
-    (λ t q. rw (← q) (grind (arith, common_steps, rising_le (r.number + 1) rs next)))
-    (λ t k. found_below (r.number + 1) number rs next f (grind (arith, common_steps)) k)
 
 found_from : (number : ℕ) (rs : List Numbered) (f : Numbered) → find (λ r. nat_le number r.number) rs ≡ Some f → number ≤ f.number
 found_from number [] f e = cc
@@ -67,28 +50,6 @@ row_by number (r ∷ rs) f e = found_by number r f rs (find (λ x. nat_eq x.numb
     (λ t k. let ih : find (λ x. nat_eq x.number f.number) rs ≡ Some f = row_by number rs f k in
     let le : number ≤ f.number = found_from number rs f k in grind (arith, common_steps))
 
-rows_from_next : (low number : ℕ) (rs : List Numbered) (next : ℕ) (f : Numbered) → rising_between low rs next ≡ true → find (λ r. nat_le number r.number) rs ≡ Some f
-    → rows_from number rs ≡ f ∷ rows_from (f.number + 1) rs
-rows_from_next low number [] next f h e = cc
-rows_from_next low number (r ∷ rs) next f h e = found_by number r f rs (rows_from number (r ∷ rs) ≡ f ∷ rows_from (f.number + 1) (r ∷ rs)) e
-    (λ t q. let P : Numbered → Type 0 = λ g. rows_from number (r ∷ rs) ≡ g ∷ rows_from (g.number + 1) (r ∷ rs) in
-    subst P q (grind (arith, common_steps, rows_from_low (r.number + 1) (r.number + 1) rs next, rows_from_low (r.number + 1) number rs next)))
-    (λ t k. let ih : rows_from number rs ≡ f ∷ rows_from (f.number + 1) rs = rows_from_next (r.number + 1) number rs next f (grind (arith, common_steps)) k in
-    let le : number ≤ f.number = found_from number rs f k in grind (arith, common_steps))
-
--- the row found from a number is the first of those from there, and the others come after it
-pub walked : (row_numbers : ℕ) (content : Content) (table number : ℕ) (f : Numbered) → all_rising row_numbers content ≡ true → first_from (table_at content table) number ≡ Some f
-    → rows_from number (table_at content table).rows ≡ f ∷ rows_from (f.number + 1) (table_at content table).rows
-walked row_numbers content table number f h e =
-    let t = table_at content table in rows_from_next 1 number t.rows t.next f (rows_rise_at row_numbers content table h) e
-
-pub walked_below : (row_numbers : ℕ) (content : Content) (table number : ℕ) (f : Numbered) → all_rising row_numbers content ≡ true → first_from (table_at content table) number ≡ Some f
-    → f.number < row_numbers + 1
-walked_below row_numbers content table number f h e =
-    let t = table_at content table in
-    let below : f.number < t.next = found_below 1 number t.rows t.next f (rows_rise_at row_numbers content table h) e in
-    omega (arith, below, next_at row_numbers content table h)
-
 rising_length : (low : ℕ) (rs : List Numbered) (next : ℕ) → rising_between low rs next ≡ true → low + length rs ≤ next
 rising_length low [] next h = grind (arith, common_steps)
 rising_length low (r ∷ rs) next h = grind (arith, common_steps, rising_length (r.number + 1) rs next)
@@ -109,11 +70,7 @@ rows_counted row_numbers content table number h =
 pub found_row : (content : Content) (table number : ℕ) (f : Numbered) → first_from (table_at content table) number ≡ Some f → row_on (table_at content table) (Some f.number) ≡ Some f.row
 found_row content table number f e = ap (λ o. option_map (λ (r : Numbered). r.row) o) (row_by number (table_at content table).rows f e)
 
--- what is found from a number is not before it
-pub found_behind : (content : Content) (table number : ℕ) (f : Numbered) → first_from (table_at content table) number ≡ Some f → number ≤ f.number
-found_behind content table number f e = found_from number (table_at content table).rows f e
-
--- and numbers begin at 1
+-- numbers begin at 1
 pub found_positive : (row_numbers : ℕ) (content : Content) (table number : ℕ) (f : Numbered) → all_rising row_numbers content ≡ true → first_from (table_at content table) number ≡ Some f → 1 ≤ f.number
 found_positive row_numbers content table number f h e =
     let t = table_at content table in found_least 1 number t.rows t.next f (rows_rise_at row_numbers content table h) e

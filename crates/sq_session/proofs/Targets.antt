@@ -1,7 +1,7 @@
 -- Targets that are set one after the other.
 use Rattle.std.proofs.Common.{◌&&◌, nat_lt, true, ◌≡◌, ◌++◌, ◌||◌, ◌+◌, ◌<◌, ◌≤◌, ℕ, zero, suc, Bool, false, List, [], ◌∷◌, length, drop, get_or, slice_get, nat_eq, eq-eqb, Some, Ok, Err, refl, ap, sym, ◌∙◌, append_assoc, arith}
 use Rattle.std.proofs.lemmas.List.{drop_more}
-use Rattle.std.proofs.lemmas.Bool.{ltb-true}
+use Rattle.std.proofs.lemmas.Bool.{and_parts, ltb-true}
 use Rattle.std.proofs.lemmas.Option.{slice_get-get_or}
 use Rattle.std.specs.Option.{option_map_or}
 use Rattle.sq_value.specs.declared.domain.Domain.TheVariants as domain
@@ -18,17 +18,16 @@ use Rattle.sq_bound.specs.declared.statement.Output.{Output as Target}
 use Rattle.sq_session.specs.Target.{IsSet, domain_at, each_set, joined, none_set, row_set, set_behind, target_set}
 use Rattle.sq_session.specs.declared.target.Assignment.{Assignment}
 use Rattle.sq_session.specs.declared.target.Assignments.{Assignments}
-use Rattle.sq_session.proofs.Holding.{both}
 
 -- ---- the parameter of a target
 
 pub target_there : (n : ℕ) (ts : List Target) (i : ℕ) (t : Target) → are_parameters n ts ≡ true → i < length ts → (get_or ts i t).parameter < n
 target_there n [] i t h lt = absurd (omega (arith, lt))
 target_there n (x ∷ ts) zero t h lt =
-    let k = both (nat_lt x.parameter n && option_all (λ p. nat_lt p n) x.indicator) (are_parameters n ts) h in
-    ltb-true x.parameter n (both (nat_lt x.parameter n) (option_all (λ p. nat_lt p n) x.indicator) k.0).0
+    let k = and_parts (nat_lt x.parameter n && option_all (λ p. nat_lt p n) x.indicator) (are_parameters n ts) h in
+    ltb-true x.parameter n (and_parts (nat_lt x.parameter n) (option_all (λ p. nat_lt p n) x.indicator) k.0).0
 target_there n (x ∷ ts) (suc i) t h lt =
-    let k = both (nat_lt x.parameter n && option_all (λ p. nat_lt p n) x.indicator) (are_parameters n ts) h in
+    let k = and_parts (nat_lt x.parameter n && option_all (λ p. nat_lt p n) x.indicator) (are_parameters n ts) h in
     target_there n ts i t k.1 (omega (arith, lt))
 
 pub domain_is : (ps : List ParameterDesc) (n : ℕ) (p : ParameterDesc) → n < length ps → p ≡ get_or ps n p → domain_at ps n ≡ p.domain

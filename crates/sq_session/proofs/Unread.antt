@@ -1,6 +1,7 @@
 -- Conditions that read no assigned column have the same truth on rows that differ in assigned columns alone.
-use Rattle.std.proofs.Common.{◌≡◌, ℕ, zero, suc, Bool, true, false, if◌then◌else◌, ◌||◌, List, [], ◌∷◌, Option, Some, None, Ok, refl, ap}
+use Rattle.std.proofs.Common.{◌≡◌, ℕ, zero, suc, false, if◌then◌else◌, ◌||◌, List, [], ◌∷◌, Option, Some, None, Ok, refl, ap}
 use Rattle.std.specs.List.{list_any}
+use Rattle.std.proofs.lemmas.Bool.{or_parts}
 use Rattle.sq_lex.specs.declared.name.Name.{Name}
 use Rattle.sq_tree.specs.declared.cond.Comparison.{Comparison}
 use Rattle.sq_tree.specs.declared.cond.Comparison.TheVariants.{Equal, LessOrEqual, GreaterOrEqual}
@@ -23,10 +24,6 @@ use Rattle.sq_query.specs.Target.{are_true}
 use Rattle.sq_session.specs.Reads.{AreAlike, AreUnread, cond_reads, conds_read, escape_reads, expr_reads, is_assigned, one_reads}
 use Rattle.sq_session.specs.Walk.{is_yes, no_tables}
 
-neither : (a b : Bool) → (a || b) ≡ false → (a ≡ false) × (b ≡ false)
-neither false b h = (refl, h)
-neither true b h = cc
-
 -- where a row is seen outside every query
 abbrev pub on_row : Row → List Input → Name → Env (Unit {0})
 on_row row inputs name = within (alone [] (row ∷ [])) (outermost inputs name)
@@ -48,8 +45,8 @@ module _ {T : Type 0} (tables : T → Outcome (List Row)) (sets : List BoundAssi
   value_same count_rows h = refl
   value_same (set_function function distinct e) h = refl
   value_same (signed sign e) h = (λ i. value_same e h i >>= with_sign sign)
-  value_same (added sign a b) h = let n = neither (expr_reads sets a) (expr_reads sets b) h in (λ i. value_same a n.0 i >>= λ x. value_same b n.1 i >>= λ y. sum_of sign x y)
-  value_same (scaled sign a b) h = let n = neither (expr_reads sets a) (expr_reads sets b) h in (λ i. value_same a n.0 i >>= λ x. value_same b n.1 i >>= λ y. product_of sign x y)
+  value_same (added sign a b) h = let n = or_parts (expr_reads sets a) (expr_reads sets b) h in (λ i. value_same a n.0 i >>= λ x. value_same b n.1 i >>= λ y. sum_of sign x y)
+  value_same (scaled sign a b) h = let n = or_parts (expr_reads sets a) (expr_reads sets b) h in (λ i. value_same a n.0 i >>= λ x. value_same b n.1 i >>= λ y. product_of sign x y)
   value_same (bracketed e) h = value_same e h
 
   compared_same : (op : Comparison) (a b : Expr (Placed T)) → expr_reads sets a ≡ false → expr_reads sets b ≡ false
@@ -59,7 +56,7 @@ module _ {T : Type 0} (tables : T → Outcome (List Row)) (sets : List BoundAssi
   list_same : (a : Expr (Placed T)) (es : List (Expr (Placed T))) → expr_reads sets a ≡ false → list_any (expr_reads sets) es ≡ false
       → any_in_turn (λ e. compared (by_place tables) Equal a e (on_row row inputs name)) es ≡ any_in_turn (λ e. compared (by_place tables) Equal a e (on_row other inputs name)) es
   list_same a [] h k = refl
-  list_same a (e ∷ es) h k = let n = neither (expr_reads sets e) (list_any (expr_reads sets) es) k in (λ i. or_else (compared_same Equal a e h n.0 i) (list_same a es h n.1 i))
+  list_same a (e ∷ es) h k = let n = or_parts (expr_reads sets e) (list_any (expr_reads sets) es) k in (λ i. or_else (compared_same Equal a e h n.0 i) (list_same a es h n.1 i))
 
   like_same : (text pattern : Expr (Placed T)) (escape : Option (Expr (Placed T))) → expr_reads sets text ≡ false → expr_reads sets pattern ≡ false → escape_reads sets escape ≡ false
       → like_truth (by_place tables) text pattern escape (on_row row inputs name) ≡ like_truth (by_place tables) text pattern escape (on_row other inputs name)
@@ -70,18 +67,18 @@ module _ {T : Type 0} (tables : T → Outcome (List Row)) (sets : List BoundAssi
 
   mutual
     pub truth_same : (c : Cond (Placed T)) → cond_reads sets c ≡ false → truth (by_place tables) c (on_row row inputs name) ≡ truth (by_place tables) c (on_row other inputs name)
-    truth_same (compare op a b) h = let n = neither (expr_reads sets a) (expr_reads sets b) h in compared_same op a b n.0 n.1
+    truth_same (compare op a b) h = let n = or_parts (expr_reads sets a) (expr_reads sets b) h in compared_same op a b n.0 n.1
     truth_same (compare_subquery op a q) h = cc
     truth_same (compare_quantified op k a q) h = cc
     truth_same (between a low high) h =
-        let n = neither (expr_reads sets a || expr_reads sets low) (expr_reads sets high) h in
-        let k = neither (expr_reads sets a) (expr_reads sets low) n.0 in
+        let n = or_parts (expr_reads sets a || expr_reads sets low) (expr_reads sets high) h in
+        let k = or_parts (expr_reads sets a) (expr_reads sets low) n.0 in
         (λ i. and_also (compared_same GreaterOrEqual a low k.0 k.1 i) (compared_same LessOrEqual a high k.0 n.1 i))
     truth_same (in_subquery a q) h = cc
-    truth_same (in_list a es) h = let n = neither (expr_reads sets a) (list_any (expr_reads sets) es) h in list_same a es n.0 n.1
+    truth_same (in_list a es) h = let n = or_parts (expr_reads sets a) (list_any (expr_reads sets) es) h in list_same a es n.0 n.1
     truth_same (like text pattern escape) h =
-        let n = neither (expr_reads sets text || expr_reads sets pattern) (escape_reads sets escape) h in
-        let k = neither (expr_reads sets text) (expr_reads sets pattern) n.0 in
+        let n = or_parts (expr_reads sets text || expr_reads sets pattern) (escape_reads sets escape) h in
+        let k = or_parts (expr_reads sets text) (expr_reads sets pattern) n.0 in
         like_same text pattern escape k.0 k.1 n.1
     truth_same (is_null a) h = (λ i. value_same a h i >>= λ x. Ok (known (is_null_value x)))
     truth_same (exists q) h = cc
@@ -91,11 +88,11 @@ module _ {T : Type 0} (tables : T → Outcome (List Row)) (sets : List BoundAssi
 
     all_same : (cs : Conds (Placed T)) → conds_read sets cs ≡ false → all_truth (by_place tables) cs (on_row row inputs name) ≡ all_truth (by_place tables) cs (on_row other inputs name)
     all_same no_cond h = refl
-    all_same (a_cond c cs) h = let n = neither (cond_reads sets c) (conds_read sets cs) h in (λ i. and_also (truth_same c n.0 i) (all_same cs n.1 i))
+    all_same (a_cond c cs) h = let n = or_parts (cond_reads sets c) (conds_read sets cs) h in (λ i. and_also (truth_same c n.0 i) (all_same cs n.1 i))
 
     any_same : (cs : Conds (Placed T)) → conds_read sets cs ≡ false → any_truth (by_place tables) cs (on_row row inputs name) ≡ any_truth (by_place tables) cs (on_row other inputs name)
     any_same no_cond h = refl
-    any_same (a_cond c cs) h = let n = neither (cond_reads sets c) (conds_read sets cs) h in (λ i. or_else (truth_same c n.0 i) (any_same cs n.1 i))
+    any_same (a_cond c cs) h = let n = or_parts (cond_reads sets c) (conds_read sets cs) h in (λ i. or_else (truth_same c n.0 i) (any_same cs n.1 i))
 
 -- ---- rows that are meant
 
@@ -108,7 +105,7 @@ unread sets conditions h values name r other alike = ap is_yes (each_same condit
     each_same : (cs : List BoundCond) → one_reads sets cs ≡ false → are_true (test r) cs ≡ are_true (test other) cs
     each_same [] k = refl
     each_same (c ∷ cs) k =
-        let n = neither (cond_reads sets (cond_of [] c)) (one_reads sets cs) k in
+        let n = or_parts (cond_reads sets (cond_of [] c)) (one_reads sets cs) k in
         let first = truth_same no_tables sets r.row other.row alike (inputs_of values) name (cond_of [] c) n.0 in
         let others = each_same cs n.1 in
         (λ i. is_true (first i) >>= λ holds. if holds then others i else Ok false)

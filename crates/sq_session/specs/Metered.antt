@@ -6,7 +6,7 @@ use Rattle.sq_value.specs.declared.value.Value.{Value}
 use Rattle.sq_store.specs.Content.{Content, table_at}
 use Rattle.sq_bound.specs.declared.statement.ChangeTarget.{ChangeTarget}
 use Rattle.sq_bound.specs.declared.statement.ChangeTarget.TheVariants as target
-use Rattle.sq_query.specs.Keyed.{IsKeyed, IsKeyedChange, IsKeyedSelect}
+use Rattle.sq_query.specs.Keyed.{IsKeyedChange, IsKeyedSelect, IsKeyedUnder}
 use Rattle.sq_session.specs.Fetch.{next_walked}
 use Rattle.sq_session.specs.Kind.{Fetching, Kind, Over, Selecting, read_parameters}
 use Rattle.sq_session.specs.Parameter.{started_values}
@@ -25,11 +25,11 @@ abbrev pub last_number : WalkingCursor → ℕ
 last_number c = c.next - 1
 
 -- A FETCH by which a walk comes to a row reads that row, and at most those between it and the one to which it came last. Where the walk
--- means a row that is named by a key, none of whose values is null, each FETCH reads one row at most.
+-- means a row that is named by a key, none of whose values is null, each FETCH reads one row at most, through views too.
 abbrev pub FetchReadsFrom : CursorState → Fetching → Content → ℕ → Type 0
 FetchReadsFrom (cursor.Walking c) f tables count =
     IfSome (next_walked f (table_at tables c.table) c) (λ r. (1 ≤ count) × (count ≤ r.number - last_number c))
-    × IfSome f.target (λ t. IsKeyed t c.values f.user → count ≤ 1)
+    × IfSome f.target (λ t. IsKeyedUnder t c.values f.user → count ≤ 1)
 FetchReadsFrom _ f tables count = ⊤
 
 abbrev pub FetchReads : Fetching → State → ℕ → Type 0

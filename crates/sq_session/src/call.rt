@@ -6,7 +6,6 @@ ghost use Rattle.sq_bound.specs.WellFormed.{kinds_of_parameters};
 ghost use Rattle.sq_catalog.specs.Catalog.{column_kinds};
 ghost use Rattle.sq_change.specs.Constraints.{constraints_hold};
 ghost use Rattle.sq_module.specs.Program.{CursorsAreWellFormed, CursorsFit, FitsProgram, ProgramIsWellFormed};
-ghost use Rattle.sq_expression.specs.declared.fault.Fault.TheVariants as fault;
 ghost use Rattle.sq_rules.specs.Script.{fit};
 ghost use Rattle.sq_session.specs.Asked.{IsAsked};
 ghost use Rattle.sq_session.specs.Cursors.{IsWhole, OpenHaveKept};

@@ -1,6 +1,6 @@
 //! FETCH (ISO/IEC 9075:1992, 13.3).
 
-ghost use Rattle.std.specs.Prelude.{◌≡◌, ◌≤◌, ◌<◌, length, true, IfOk, IfSome, OnErr};
+ghost use Rattle.std.specs.Prelude.{◌≡◌, ◌≤◌, ◌<◌, length, true, IfSome, OnErr};
 ghost use Rattle.sq_value.specs.Key.{in_columns};
 ghost use Rattle.sq_bound.specs.Fits.{AreInDomains, are_parameters, holds, keys_of_bases, not_nulls_hold};
 ghost use Rattle.sq_bound.specs.Names.{are_positions};

@@ -1,6 +1,6 @@
 //! A session: the modules, the tables, and the cursors.
 
-ghost use Rattle.std.specs.Prelude.{◌≡◌, ◌<◌, false, true, length, map, IfErr, IfOk, IsOk, MatchResult, None, OnErr, OnOk};
+ghost use Rattle.std.specs.Prelude.{◌≡◌, ◌<◌, false, true, length, IfErr, IfOk, IsOk, MatchResult, None, OnErr};
 ghost use Rattle.sq_rules.specs.ModuleRefusal.{first_module_refusal};
 ghost use Rattle.sq_module.specs.FirstRefusal.{IsFaultFor};
 ghost use Rattle.sq_module.specs.Refusal.{IsOfSomeModule};

@@ -9,8 +9,8 @@ ghost use Rattle.sq_bound.specs.Fits.{AreInDomains, FitsBody, IsBase, holds, key
 ghost use Rattle.sq_bound.specs.WellFormed.{base_kinds};
 ghost use Rattle.sq_catalog.specs.Catalog.{column_kinds};
 ghost use Rattle.sq_meaning.specs.WellFormed.{IsRowOf};
-ghost use Rattle.sq_query.specs.Key.{IsKeyOf};
-ghost use Rattle.sq_query.specs.Keyed.{IsKeyed};
+ghost use Rattle.sq_query.specs.Keyed.{IsKeyedUnder};
+ghost use Rattle.sq_query.specs.Meant.{IsKeyUnder};
 ghost use Rattle.sq_query.specs.Table.{numbered_row};
 ghost use Rattle.sq_query.specs.Target.{conditions_of};
 ghost use Rattle.sq_module.specs.Program.{CursorsFit};
@@ -106,7 +106,7 @@ impl<'a> Walk<'a> {
         }
     }
 
-    /// The key by which the target names its only row, if it names one so.
+    /// The key by which the target names its only row, through views too, if it names one so.
     fn key<S: Store>(&self, store: &S) -> Result<Option<KnownKey>, AllocError>
         requires there { self.now.target.now.base < length (S.content_now store.now) }
         requires keys { keys_at (S.key_columns store.now) self.now.target.now.base
@@ -115,10 +115,10 @@ impl<'a> Walk<'a> {
             (column_kinds self.now.catalog.now) self.now.target.now self.now.values.now }
         ensures known { IfOk result
             (λ found. IfSome found
-            (IsKeyOf self.now.target.now (S.content_now store.now) (S.key_columns store.now)
+            (IsKeyUnder self.now.target.now (S.content_now store.now) (S.key_columns store.now)
             self.now.values.now self.now.user)) }
         ensures found { IfOk result
-            (λ found. IsKeyed self.now.target.now self.now.values.now self.now.user → IsSome found) }
+            (λ found. IsKeyedUnder self.now.target.now self.now.values.now self.now.user → IsSome found) }
     {
         let inputs = Inputs {
             user: self.user,
@@ -133,7 +133,7 @@ impl<'a> Walk<'a> {
 }
 
 /// The row with the key that the target names, if it stands from a number on and before a mark, and is meant: no other row is.
-#[tactic(auto, using(crate::proofs::Metering::counted_once))]
+#[tactic(auto, using(sq_query::proofs::KnownKeys::counted_at_most))]
 fn chosen_by_key<'s, S: Store>(
     walk: &Walk<'_>,
     store: &'s S,
@@ -142,7 +142,7 @@ fn chosen_by_key<'s, S: Store>(
     mark: u64,
     meter: &mut Meter,
 ) -> Result<Option<(u64, &'s Row)>, AllocError>
-    requires key { IsKeyOf walk.now.target.now (S.content_now store.now)
+    requires key { IsKeyUnder walk.now.target.now (S.content_now store.now)
         (S.key_columns store.now) walk.now.values.now walk.now.user
         known.now }
     requires base { IsBase walk.now.catalog.now.bases walk.now.target.now.leaf.table }
@@ -182,7 +182,7 @@ fn chosen_by_key<'s, S: Store>(
 
 /// The first row from a number on, and before a mark, that the target means. The meter counts the rows up to it, which have
 /// different numbers from 1 on.
-#[tactic(auto, using(crate::proofs::TableWalk::found_behind))]
+#[tactic(auto, using(sq_store::proofs::Walk::found_behind))]
 fn next_chosen<'s, S: Store>(
     walk: &Walk<'_>,
     store: &'s S,
@@ -246,7 +246,7 @@ pub(crate) fn next_of_walk<'s, S: Store>(
         r.1.now)) }
     ensures read { IfOk result (λ found. IfSome found (λ r. (1 ≤ meter.new) × (meter.new
         ≤ meter.old + (r.0 - last_number cursor.now)))) }
-    ensures once { IsKeyed target.now cursor.now.values called.now.procedure.now.user
+    ensures once { IsKeyedUnder target.now cursor.now.values called.now.procedure.now.user
         → meter.new ≤ meter.old + 1 }
 {
     let walk = Walk {

@@ -1,13 +1,31 @@
-use Rattle.sq_query.proofs.TargetKeys.{own_on_base, views_under}
+use Rattle.std.proofs.Common.{true≢false, sym, ◌∙◌}
+use Rattle.sq_store.specs.Keys.{keys_at}
+use Rattle.sq_query.specs.Keyed.{IsKeyedBy, IsKeyedUnder}
+use Rattle.sq_query.proofs.KnownKeys.{known_if}
+use Rattle.sq_query.proofs.TargetKeys.{known_own, none_known, own_on_base, views_under}
 use Rattle.sq_query.proofs.meant.key_through_views.Goals as goal
 
 pub returns-then-may-clause-known : goal.returns-then-may-clause-known
 returns-then-may-clause-known g c =
     let store = c.args.store.now in
     let call = c.args.call.now in
-    views_under c.args.target.now (g.S.Store.content_now store) (g.S.Store.key_columns store) call.parameters.now call.user c.in-Some.own c.shortest_known_key.result c.in-Some.is (c.in_ok-may-in-Some.ensures c.if-may.true)
+    views_under c.args.target.now (g.S.Store.content_now store) (g.S.Store.key_columns store) call.parameters.now call.user c.in-Some.own c.shortest_known_key.result c.in-Some.is (c.in_ok-may-in-Some.ensures.views c.if-may.true)
     c.shortest_known_key.ensures.known
+
+pub returns-then-may-clause-found : goal.returns-then-may-clause-found
+returns-then-may-clause-found g c = λ quiet.
+    let t = c.args.target.now in
+    let call = c.args.call.now in
+    let keys = keys_at (g.S.Store.key_columns c.args.store.now) t.base in
+    known_if c.shortest_known_key.result (IsKeyedBy keys c.in-Some.own call.parameters.now call.user) (IsKeyedUnder t call.parameters.now call.user)
+    (λ keyed. known_own t call.parameters.now call.user c.in-Some.own keys c.in-Some.is c.requires.keys keyed) c.shortest_known_key.ensures.found
 
 pub returns-then-may-clause-memory : goal.returns-then-may-clause-memory
 returns-then-may-clause-memory g c = λ columns parameters well given.
     c.shortest_known_key.ensures.memory columns parameters (own_on_base columns parameters c.args.target.now c.in-Some.own well c.in-Some.is) given
+
+pub returns-else-may-clause-found : goal.returns-else-may-clause-found
+returns-else-may-clause-found g c = λ quiet keyed. absurd (true≢false (sym (c.in_ok-may-in-Some.ensures.quiet quiet) ∙ c.if-may.false))
+
+pub returns-in-None-clause-found : goal.returns-in-None-clause-found
+returns-in-None-clause-found g c = λ quiet keyed. absurd (none_known c.args.target.now c.args.call.now.parameters.now c.args.call.now.user c.in-None.is keyed)

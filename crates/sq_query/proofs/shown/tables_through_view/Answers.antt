@@ -1,18 +1,15 @@
-use Rattle.std.proofs.Common.{◌≡◌, ◌∙◌, Option, ap}
-use Rattle.sq_meaning.specs.Status.{and_then, well_formed}
+use Rattle.std.proofs.Common.{◌∷◌}
 use Rattle.sq_meaning.specs.WellFormed.{HasValue}
 use Rattle.sq_bound.specs.Condition.{select_of}
 use Rattle.sq_bound.specs.WellFormed.{base_kinds}
-use Rattle.sq_bound.specs.declared.condition.BoundSpecification.{BoundSpecification}
 use Rattle.sq_bound.specs.declared.condition.TablePlace.TheVariants.{View}
 use Rattle.sq_query.specs.Shown.{IsViewSearch}
-use Rattle.sq_query.specs.Table.{rows_of_view}
 use Rattle.sq_query.proofs.KeyNames.{element_at, place_there}
 use Rattle.sq_query.proofs.KeyTests.{if_some}
 use Rattle.sq_query.proofs.KnownConditions.{rows_fit}
 use Rattle.sq_query.proofs.Searched.{inside_read, read_whole, where_stands}
 use Rattle.sq_query.proofs.TablesMeant.{tables_fit}
-use Rattle.sq_query.proofs.ThroughViews.{base_of_view, few_right, read_through_view}
+use Rattle.sq_query.proofs.ThroughViews.{base_of_path, few_right, read_through_view}
 use Rattle.sq_query.proofs.shown.tables_through_view.Goals as goal
 
 pub tables_by_shown_key-requires-clause-known : goal.tables_by_shown_key-requires-clause-known
@@ -29,11 +26,11 @@ tables_by_shown_key-requires-clause-table g c =
     let names = c.args.names.now in
     let store = c.args.store.now in
     let columns = g.N.Names.column_kinds names in
+    let views = g.N.Names.view_queries names in
     let search = c.in-Some.search in
-    let s = if_some (IsViewSearch c.args.query.now columns (g.N.Names.view_queries names) (g.S.Store.key_columns store) c.args.call.now.parameters.now c.args.call.now.user) c.in_ok-search.field-0 search
-    c.in_ok-search.ensures.found c.in-Some.is in
+    let s = if_some (IsViewSearch c.args.query.now columns views (g.S.Store.key_columns store) c.args.call.now.parameters.now c.args.call.now.user) c.in_ok-search.field-0 search c.in_ok-search.ensures.found c.in-Some.is in
     place_there (g.N.Names.base_tables names) (g.S.Store.key_columns store) c.requires.keys (g.S.Store.content_now store) search.base (g.met.S.Store.keyed store)
-    (c.requires.finds.0 search.base (base_of_view columns search.view search.base s.shown s.well s.plain))
+    (c.requires.finds.0 search.base (base_of_path columns views search.view search.base s.views s.path))
 
 pub returns-in-Some : goal.returns-in-Some
 returns-in-Some g c = λ parameters tables may well.
@@ -50,22 +47,20 @@ returns-in-Some g c = λ parameters tables may well.
     let search = c.in-Some.search in
     let s = if_some (IsViewSearch query columns views keys values user) c.in_ok-search.field-0 search c.in_ok-search.ensures.found c.in-Some.is in
     let place = search.base in
-    let within = c.requires.finds.0 place (base_of_view columns search.view place s.shown s.well s.plain) in
+    let within = c.requires.finds.0 place (base_of_path columns views search.view place s.views s.path) in
     let there = place_there bases keys c.requires.keys content place (g.met.S.Store.keyed store) within in
     let table = element_at bases place within in
     let kinds = g.met.N.Names.kinds_of_bases names place table.0 table.1 in
     let rows_are = rows_fit bases views columns content user values (g.met.N.Names.kinds_of_bases names) (g.met.N.Names.kinds_of_views names) parameters tables may place there (base_kinds table.0) kinds in
     let stands = where_stands columns parameters query (View search.view) s.own s.over s.is_where well in
     let fitting = tables_fit bases views columns content user tables (g.met.N.Names.kinds_of_bases names) may.there may.in_domains may.meant (g.met.N.Names.kinds_of_views names) in
-    let is_view : tables (View search.view) ≡ rows_of_view tables user s.shown =
-    may.meant.views search.view ∙ ap (λ (o : Option BoundSpecification). and_then (well_formed o) (rows_of_view tables user)) s.is_shown in
     let right =
-    few_right tables columns parameters values user may.inputs bases content keys search.view place table.0 s.shown s.plain s.well s.own search.key s.key table.1 there kinds s.kinds_are stands c.requires.keys c.requires.not_null rows_are
-    (g.met.S.Store.keyed store) may.meant.bases is_view (fitting (View search.view)) in
-    let read = c.tables_by_shown_key.ensures may.in_domains tables may.meant s.shown s.is_shown s.plain right in (
+    few_right tables columns user bases views content keys place table.0 search.key table.1 there s.key.key c.requires.keys c.requires.not_null rows_are (g.met.S.Store.keyed store) may.meant fitting (search.view ∷ s.views) s.key.columns
+    s.path s.key.shown in
+    let read = c.tables_by_shown_key.ensures may.in_domains tables may.meant s.views s.path right in (
       read.0,
-      read_through_view tables columns parameters values user may.inputs bases content keys search.view place table.0 s.shown s.plain s.well s.own search.key s.key table.1 there kinds s.kinds_are stands c.requires.keys c.requires.not_null
-          rows_are (g.met.S.Store.keyed store) may.meant.bases is_view (fitting (View search.view)) query search.others c.tables_by_shown_key.result s.over s.is_where s.beside fitting read.1,
+      read_through_view tables columns user bases views content keys place table.0 search.key table.1 there s.key.key c.requires.keys c.requires.not_null rows_are (g.met.S.Store.keyed store) may.meant fitting parameters values may.inputs
+          search.view s.views s.path s.own s.key stands query search.others c.tables_by_shown_key.result s.over s.is_where s.beside read.1,
     )
 
 pub tables_of-requires-clause-known : goal.tables_of-requires-clause-known

@@ -4,20 +4,20 @@ use Rattle.sq_bound.specs.declared.condition.TablePlace.TheVariants.{View}
 use Rattle.sq_query.specs.Search.{IsOver}
 use Rattle.sq_query.proofs.KeyNames.{place_there}
 use Rattle.sq_query.proofs.Searched.{only_read, where_stands}
-use Rattle.sq_query.proofs.ThroughViews.{base_of_view}
+use Rattle.sq_query.proofs.ThroughViews.{base_of_path}
 use Rattle.sq_query.proofs.shown.view_search.Goals as goal
 
-pub view_at-requires-clause-known : goal.view_at-requires-clause-known
-view_at-requires-clause-known g c =
+pub base_under-requires-clause-known : goal.base_under-requires-clause-known
+base_under-requires-clause-known g c =
     only_read (λ t. HasValue (g.N.Names.column_kinds c.args.names.now t)) c.args.query.now (View c.in-Some-View.view) (subst (IsOver c.args.query.now) c.in-Some-View.field-0-is c.in-Some-View.ensures.over) c.requires.finds.1
 
-pub shown_key-requires : goal.shown_key-requires
-shown_key-requires g c =
+pub shown_key-requires-clause-base : goal.shown_key-requires-clause-base
+shown_key-requires-clause-base g c =
     let names = c.args.names.now in
     let store = c.args.store.now in
-    let base = c.in-Some-base_under.base in
-    place_there (g.N.Names.base_tables names) (g.S.Store.key_columns store) c.requires.keys (g.S.Store.content_now store) base (g.met.S.Store.keyed store)
-    (c.requires.finds.0 base (base_of_view (g.N.Names.column_kinds names) c.in-Some-View.view base c.view_at.result.now.query c.view_at.ensures.is.0 c.in-Some-base_under.ensures))
+    let path = c.in-Some-base_under.ensures in
+    place_there (g.N.Names.base_tables names) (g.S.Store.key_columns store) c.requires.keys (g.S.Store.content_now store) c.in-Some-base_under.base (g.met.S.Store.keyed store)
+    (c.requires.finds.0 c.in-Some-base_under.base (base_of_path (g.N.Names.column_kinds names) (g.N.Names.view_queries names) c.in-Some-View.view c.in-Some-base_under.base path.0 path.1))
 
 pub returns-in-Err-clause-memory : goal.returns-in-Err-clause-memory
 returns-in-Err-clause-memory g c = λ parameters well given.

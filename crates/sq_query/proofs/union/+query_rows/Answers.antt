@@ -1,6 +1,7 @@
 use Rattle.std.proofs.Common.{ap, sym, ◌∙◌}
 use Rattle.std.specs.Prelude.{option_copied}
 use Rattle.sq_bound.specs.declared.query.BoundTerm.TheVariants.{Bracketed}
+use Rattle.sq_query.specs.Union.{rows_behind}
 use Rattle.sq_query.proofs.UnionRows.{union_handed_on, rows_of_specification, rows_of_bracketed, first_meant, first_failed, next_left, next_meant, term_failed, join_failed, all_meant}
 use Rattle.sq_query.proofs.union.+query_rows.Goals as goal
 
@@ -14,10 +15,10 @@ pub query_rows-loop-union-preserved : goal.query_rows-loop-union-preserved
 query_rows-loop-union-preserved t c =
     let before = option_copied c.loop-union.before in
     record {
-      meant = next_meant c.args.query.now c.args.context.now c.as_slice-union-items.result.now c.loop-union.union-index c.union-item.result c.loop-union.so_far.items
-          c.as_slice-union-items.ensures c.loop-union-test.true c.union-item.is c.loop-union.invariant.meant before c.in-Ok.others c.in_ok-so_far-in-Ok.so_far c.loop-union.invariant.left c.in-Ok.ensures c.in_ok-so_far-in-Ok.ensures;
-      left = next_left c.args.query.now c.args.context.now c.as_slice-union-items.result.now c.loop-union.union-index c.union-item.result c.loop-union.so_far.items
-          c.as_slice-union-items.ensures c.loop-union-test.true c.union-item.is c.loop-union.invariant.meant before c.in-Ok.others c.in_ok-so_far-in-Ok.so_far c.loop-union.invariant.left c.in-Ok.ensures c.in_ok-so_far-in-Ok.ensures;
+      meant = next_meant c.args.query.now c.args.context.now c.as_slice-union-items.result.now c.loop-union.union-index c.union-item.result before c.loop-union.so_far.items
+          c.as_slice-union-items.ensures c.loop-union-test.true c.union-item.is c.loop-union.invariant.meant c.loop-union.invariant.left c.in-Ok.others c.in_ok-so_far-in-Ok.so_far c.in-Ok.ensures c.in_ok-so_far-in-Ok.ensures;
+      left = next_left c.args.query.now c.args.context.now c.as_slice-union-items.result.now c.loop-union.union-index c.union-item.result before c.loop-union.so_far.items
+          c.as_slice-union-items.ensures c.loop-union-test.true c.union-item.is c.loop-union.invariant.meant c.loop-union.invariant.left c.in-Ok.others c.in_ok-so_far-in-Ok.so_far c.in-Ok.ensures c.in_ok-so_far-in-Ok.ensures;
     }
 
 pub term_rows-returns-in-Specification : goal.term_rows-returns-in-Specification
@@ -29,7 +30,8 @@ term_rows-returns-in-Bracketed t c =
 
 pub query_rows-returns : goal.query_rows-returns
 query_rows-returns t c =
-    all_meant c.args.query.now c.args.context.now c.as_slice-union-items.result.now c.loop-union.union-index c.loop-union.so_far c.as_slice-union-items.ensures c.loop-union-test.false c.loop-union.invariant.meant
+    all_meant c.args.query.now c.args.context.now c.as_slice-union-items.result.now c.loop-union.union-index (rows_behind (option_copied c.loop-union.before) c.loop-union.so_far.items) c.without_repeats.result
+    c.as_slice-union-items.ensures c.loop-union-test.false c.loop-union.invariant.meant c.without_repeats.ensures
 
 pub query_rows-returns-in_err-so_far : goal.query_rows-returns-in_err-so_far
 query_rows-returns-in_err-so_far t c =
@@ -40,10 +42,10 @@ pub query_rows-returns-in_err-so_far-in-Ok : goal.query_rows-returns-in_err-so_f
 query_rows-returns-in_err-so_far-in-Ok t c =
     let e = c.in_err-so_far-in-Ok.field-0.0 in
     union_handed_on c.from_residual-in_err-so_far-in-Ok.result e c.args.query.now c.args.context.now c.from_residual-in_err-so_far-in-Ok.ensures.1
-    (join_failed c.args.query.now c.args.context.now c.as_slice-union-items.result.now c.loop-union.union-index c.union-item.result c.loop-union.so_far.items
-    c.as_slice-union-items.ensures c.loop-union-test.true c.union-item.is c.loop-union.invariant.meant (option_copied c.loop-union.before) e c.in-Ok.others c.loop-union.invariant.left c.in-Ok.ensures c.in_err-so_far-in-Ok.ensures)
+    (join_failed c.args.query.now c.args.context.now c.as_slice-union-items.result.now c.loop-union.union-index c.union-item.result (option_copied c.loop-union.before) c.loop-union.so_far.items
+    c.as_slice-union-items.ensures c.loop-union-test.true c.union-item.is c.loop-union.invariant.meant c.loop-union.invariant.left e c.in-Ok.others c.in-Ok.ensures c.in_err-so_far-in-Ok.ensures)
 
 pub query_rows-returns-in-Err : goal.query_rows-returns-in-Err
 query_rows-returns-in-Err t c =
-    term_failed c.args.query.now c.args.context.now c.as_slice-union-items.result.now c.loop-union.union-index c.union-item.result c.loop-union.so_far.items
+    term_failed c.args.query.now c.args.context.now c.as_slice-union-items.result.now c.loop-union.union-index c.union-item.result (rows_behind (option_copied c.loop-union.before) c.loop-union.so_far.items)
     c.as_slice-union-items.ensures c.loop-union-test.true c.union-item.is c.loop-union.invariant.meant c.in-Err.fault c.in-Err.ensures

@@ -1,4 +1,4 @@
-use Rattle.std.proofs.Common.{◌≡◌, arith, sym}
+use Rattle.std.proofs.Common.{arith, sym}
 use Rattle.sq_catalog.specs.Catalog.{column_kinds}
 use Rattle.sq_meaning.specs.WellFormed.{IsRowOf}
 use Rattle.sq_bound.specs.WellFormed.{base_kinds}

@@ -1,7 +1,7 @@
 use Rattle.std.proofs.Common.{List, arith, subst, sym}
 use Rattle.sq_value.specs.declared.value.Value.{Value}
-use Rattle.sq_query.specs.Key.{IsKeyOf}
-use Rattle.sq_query.specs.Keyed.{IsKeyed}
+use Rattle.sq_query.specs.Keyed.{IsKeyedUnder}
+use Rattle.sq_query.specs.Meant.{IsKeyUnder}
 use Rattle.sq_query.proofs.KeyNames.{own_keys}
 use Rattle.sq_query.proofs.KeyTests.{if_some}
 use Rattle.sq_query.proofs.KnownKeys.{not_none}
@@ -17,7 +17,7 @@ key-requires-clause-keys g c =
 pub chosen_by_key-found-requires-clause-key : goal.chosen_by_key-found-requires-clause-key
 chosen_by_key-found-requires-clause-key g c =
     let store = c.args.store.now in
-    if_some (IsKeyOf c.args.target.now (g.S.Store.content_now store) (g.S.Store.key_columns store) c.as_slice.result.now c.args.called.now.procedure.now.user) c.in_ok-known.field-0 c.in-Some.known c.in_ok-known.ensures.known c.in-Some.is
+    if_some (IsKeyUnder c.args.target.now (g.S.Store.content_now store) (g.S.Store.key_columns store) c.as_slice.result.now c.args.called.now.procedure.now.user) c.in_ok-known.field-0 c.in-Some.known c.in_ok-known.ensures.known c.in-Some.is
 
 pub chosen_by_key-found-requires-clause-rows : goal.chosen_by_key-found-requires-clause-rows
 chosen_by_key-found-requires-clause-rows g c = rw c.requires.over c.requires.rows
@@ -31,7 +31,7 @@ returns-in-Some-clause-there g c = rw c.requires.over at c.chosen_by_key-found.e
 pub returns-in-None-clause-once : goal.returns-in-None-clause-once
 returns-in-None-clause-once g c = λ keyed.
     let user = c.args.called.now.procedure.now.user in
-    let with_values = subst (λ (vs : List Value). IsKeyed c.args.target.now vs user) (sym c.as_slice.ensures) keyed in
+    let with_values = subst (λ (vs : List Value). IsKeyedUnder c.args.target.now vs user) (sym c.as_slice.ensures) keyed in
     absurd (not_none c.in_ok-known.field-0 c.in-None.is (c.in_ok-known.ensures.found with_values))
 
 pub returns-in_err-known-clause-once : goal.returns-in_err-known-clause-once

@@ -1,8 +1,6 @@
-use Rattle.std.proofs.Common.{◌≡◌, ◌+◌, ◌∷◌, length, arith, ap, sym, ◌∙◌}
+use Rattle.std.proofs.Common.{length, arith, ap, sym, ◌∙◌}
 use Rattle.sq_store.specs.Content.{table_at}
-use Rattle.sq_store.specs.declared.table.Numbered.{Numbered}
-use Rattle.sq_session.specs.Walk.{rows_from}
-use Rattle.sq_session.proofs.TableWalk.{rows_from_none, walked, walked_below}
+use Rattle.sq_store.proofs.Walk.{rows_from_none, walked, walked_below}
 use Rattle.sq_session.proofs.rows.TableRowsIterator.next.Goals as goal
 
 pub returns-in_err-number-clause-steps : goal.returns-in_err-number-clause-steps

@@ -6,3 +6,6 @@ unreachable-requires g c =
     let walk = c.args.self.now in
     let memory = rw c.in-Err-Status.field-0-is at (c.in-Err-Status.ensures.memory (column_kinds walk.catalog.now) c.requires.quiet.parameters c.requires.quiet.is_target c.requires.quiet.given) in
     absurd cc
+
+pub returns-in-Ok-clause-found : goal.returns-in-Ok-clause-found
+returns-in-Ok-clause-found g c = c.in-Ok.ensures.found c.requires.quiet.quiet
