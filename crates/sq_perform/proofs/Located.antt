@@ -1,5 +1,5 @@
 -- A refused module, or the cursor or procedure of it that is refused, stands at its first token.
-use Rattle.std.proofs.Common.{◌≡◌, ℕ, suc, ◌+◌, ◌<◌, min, Bool, true, false, if◌then◌else◌, List, [], ◌∷◌, length, get_or, map, slice_get, position, Option, Some, None, refl, ap, subst, sym, ◌∙◌, arith, Vec}
+use Rattle.std.proofs.Common.{◌≡◌, ℕ, suc, ◌+◌, ◌<◌, min, Bool, true, false, if◌then◌else◌, List, [], ◌∷◌, length, get_or, map, slice_get, position, Option, Some, None, refl, ap, subst, sym, ◌∙◌, arith}
 use Rattle.std.proofs.lemmas.List.{length-map}
 use Rattle.std.proofs.lemmas.List.Folds.{length-flat_map-take}
 use Rattle.std.proofs.lemmas.List.Quantifiers.{position-Some}
@@ -7,9 +7,8 @@ use Rattle.std.proofs.lemmas.Option.{slice_get-get_or}
 use Rattle.std.specs.List.{AllByRecursion, enumerate_from}
 use Rattle.std.specs.Option.{option_or}
 use Rattle.std.specs.Prelude.{IfSome}
-use Rattle.std.specs.declared.alloc.Global.{Global}
 use Rattle.sq_lex.specs.declared.name.Name.{Name}
-use Rattle.sq_tree.specs.Module.{module_item_tokens, module_tokens}
+use Rattle.sq_tree.specs.Module.{module_item_tokens, module_tokens, module_depth}
 use Rattle.sq_tree.specs.declared.module.ModuleItem.{ModuleItem}
 use Rattle.sq_tree.specs.declared.module.ModuleItem.TheVariants as item
 use Rattle.sq_tree.specs.declared.module.ModuleText.{ModuleText}
@@ -18,17 +17,16 @@ use Rattle.sq_rules.specs.ModuleRefusal.{ModuleRefusal as Found, at_item, cursor
 use Rattle.sq_rules.specs.Words.{first_of}
 use Rattle.sq_rules.specs.declared.refusal.ModuleFault.{ModuleFault}
 use Rattle.sq_rules.specs.declared.refusal.ModuleFault.TheVariants as fault
+use Rattle.sq_model.specs.Report.{Bytes}
 use Rattle.sq_module.specs.FirstRefusal.{refusal_of}
 use Rattle.sq_module.specs.declared.refusal.ModuleRefusal.{ModuleRefusal}
-use Rattle.sq_perform.specs.Fault.{IsModuleFault, IsPlaced, IsPlacedIfAny, IsRefusalIfAny}
-use Rattle.sq_perform.specs.Refusal.{IsOfModules, StandsAt, StandsInModule, matter, module_fault, refused_start}
-use Rattle.sq_perform.specs.Texts.{AllSpell, texts}
+use Rattle.sq_perform.specs.Fault.{IsModuleFault, IsPlaced, IsPlacedAmong, IsRefusalIfAny, TextFault}
+use Rattle.sq_perform.specs.Refusal.{IsOfModules, StandsInModule, matter, module_fault, refused_start}
+use Rattle.sq_perform.specs.Texts.{AllSpell, SpellsTree}
 use Rattle.sq_perform.specs.declared.refusal.Refusal.{Refusal}
 use Rattle.sq_perform.specs.declared.refusal.RefusalName.TheVariants as what
-use Rattle.sq_perform.specs.declared.texts.TextFault.{TextFault}
-use Rattle.sq_perform.specs.declared.texts.TextFault.TheVariants.{NoMemory, Refused}
-use Rattle.sq_perform.proofs.Refused.{text_at}
-use Rattle.sq_perform.proofs.Spelled.{as_many, is_there, spelled_at}
+use Rattle.sq_perform.specs.declared.fault.Fault.TheVariants.{NoMemory, Refused}
+use Rattle.sq_perform.proofs.Spelled.{is_there, spelled_there, token_there}
 
 -- ---- a refused item is one of its module
 
@@ -156,34 +154,23 @@ starts_inside m (Some i) h =
 
 -- ---- the refusal of modules
 
-stands_in : (all : List (Vec ℕ Global)) (trees : List ModuleText) (r : Found) (tree : ModuleText) (text : Vec ℕ Global) (start : ℕ) (refusal : Refusal) → AllSpell module_tokens (texts all) trees
-    → first_module_refusal trees ≡ Some r → r.text < length trees → r.text < length all → tree ≡ get_or trees r.text tree → text ≡ get_or all r.text text
-    → start ≡ min (refused_start tree r.item) 18446744073709551615 → IsPlaced text.items start refusal → StandsInModule (texts all) trees r refusal
-stands_in all trees r tree text start refusal spelled first lt lt_all is at e placed =
-    let there : slice_get trees r.text ≡ Some tree = slice_get-get_or trees r.text tree lt ∙ ap Some (sym is) in
-    let inside = starts_inside tree r.item (item_within trees r tree first there) in
-    let count = as_many text.items (module_tokens tree) placed.tokens (spelled_at module_tokens all trees r.text text tree spelled lt_all at is) placed.read in
-    let few = placed.few in
-    let start_is : start ≡ refused_start tree r.item = omega (arith, e, inside, count, few) in
-    let found = is_there placed.tokens start (omega (arith, start_is, inside, count)) in
-    record {
-      text = text.items;
-      there = text_at all r.text text lt_all at;
-      tree = tree;
-      tree_there = there;
-      token = found.0;
-      first = record { tokens = placed.tokens; read = placed.read; there = subst (λ n. slice_get placed.tokens n ≡ Some found.0) start_is found.1 };
-      stands = subst (λ o. IfSome o (λ t. StandsAt text.items t refusal)) found.1 placed.stands;
-    }
+stands_in : (modules : List Bytes) (trees : List ModuleText) (r : Found) (tree : ModuleText) (text : Bytes) (start : ℕ) (refusal : Refusal) → slice_get modules r.text ≡ Some text
+    → SpellsTree module_tokens module_depth text tree → first_module_refusal trees ≡ Some r → slice_get trees r.text ≡ Some tree
+    → start ≡ min (refused_start tree r.item) 18446744073709551615 → IsPlaced text start refusal → StandsInModule modules trees r refusal
+stands_in modules trees r tree text start refusal there spells first tree_there e placed =
+    let inside = starts_inside tree r.item (item_within trees r tree first tree_there) in
+    let found = token_there text (module_tokens tree) (refused_start tree r.item) start refusal spells.spelled inside e placed in
+    record { text = text; there = there; tree = tree; tree_there = tree_there; token = found.0; first = found.1; stands = found.2 }
 
 -- modules are refused for what the definitions find first, at its first token
-pub of_module : (all : List (Vec ℕ Global)) (trees : List ModuleText) (r : ModuleRefusal) (tree : ModuleText) (text : Vec ℕ Global) (start : ℕ) (answer : TextFault) → AllSpell module_tokens (texts all) trees
-    → first_module_refusal trees ≡ Some (refusal_of r) → r.text < length trees → r.text < length all → tree ≡ get_or trees r.text tree → text ≡ get_or all r.text text
-    → start ≡ min (refused_start tree r.item) 18446744073709551615 → IsRefusalIfAny r.text (what.Module r.name) answer → IsPlacedIfAny text.items start answer
-    → IsModuleFault (texts all) answer
-of_module all trees r tree text start NoMemory spelled first lt lt_all is at e named placed = tt
-of_module all trees r tree text start (Refused refusal) spelled first lt lt_all is at e named placed =
-    subst (IsOfModules (texts all) refusal) (sym (ap matter named.1))
+pub of_module : (modules : List Bytes) (trees : List ModuleText) (r : ModuleRefusal) (tree : ModuleText) (start : ℕ) (answer : TextFault) → AllSpell module_tokens module_depth modules trees
+    → first_module_refusal trees ≡ Some (refusal_of r) → r.text < length trees → tree ≡ get_or trees r.text tree → start ≡ min (refused_start tree r.item) 18446744073709551615
+    → IsRefusalIfAny r.text (what.Module r.name) answer → IsPlacedAmong modules r.text start answer → IsModuleFault modules answer
+of_module modules trees r tree start NoMemory spelled first lt is e named placed = tt
+of_module modules trees r tree start (Refused refusal) spelled first lt is e named placed =
+    let there : slice_get trees r.text ≡ Some tree = slice_get-get_or trees r.text tree lt ∙ ap Some (sym is) in
+    let at = spelled_there module_tokens module_depth modules trees r.text tree spelled there in
+    subst (IsOfModules modules refusal) (sym (ap matter named.1))
     (record {
       trees = trees;
       spelled = spelled;
@@ -191,5 +178,5 @@ of_module all trees r tree text start (Refused refusal) spelled first lt lt_all 
       first = first;
       text = named.0;
       what = ap module_fault named.1;
-      stands = stands_in all trees (refusal_of r) tree text start refusal spelled first lt lt_all is at e placed;
+      stands = stands_in modules trees (refusal_of r) tree at.0 start refusal at.1 at.2 first there e (placed at.0 at.1);
     })

@@ -1,8 +1,8 @@
 -- What schema and module texts open, step by step.
 use Rattle.std.proofs.Common.{◌≡◌, ◌∙◌, ℕ, List, None, Result, Ok, Err, subst, sym}
 use Rattle.std.specs.Prelude.{IfOk}
-use Rattle.sq_tree.specs.Schema.{schema_tokens}
-use Rattle.sq_tree.specs.Module.{module_tokens}
+use Rattle.sq_tree.specs.Schema.{schema_tokens, schema_depth}
+use Rattle.sq_tree.specs.Module.{module_tokens, module_depth}
 use Rattle.sq_tree.specs.declared.module.ModuleText.{ModuleText}
 use Rattle.sq_tree.specs.declared.schema.SchemaText.{SchemaText}
 use Rattle.sq_rules.specs.ModuleRefusal.{first_module_refusal}
@@ -15,27 +15,27 @@ use Rattle.sq_catalog.specs.UserTables.{NamesStand, names_in}
 use Rattle.sq_module.specs.Program.{declared_procedures}
 use Rattle.sq_session.specs.Schemas.{Schemas, schemas_of}
 use Rattle.sq_session.specs.Session.{IsOfModules, Session, names_of}
+use Rattle.sq_perform.specs.Fault.{TextFault}
 use Rattle.sq_perform.specs.Opened.{Defined, Holds, Opened}
 use Rattle.sq_perform.specs.Refused.{AreDeclared}
 use Rattle.sq_perform.specs.Run.{IsStart}
 use Rattle.sq_perform.specs.Texts.{AllSpell}
-use Rattle.sq_perform.specs.declared.texts.TextFault.{TextFault}
 
-pub defined_if : (schemas : List Bytes) (trees : List SchemaText) (answer : Result Catalog TextFault) → AllSpell schema_tokens schemas trees
+pub defined_if : (schemas : List Bytes) (trees : List SchemaText) (answer : Result Catalog TextFault) → AllSpell schema_tokens schema_depth schemas trees
     → IfOk answer (λ c. c.tables ≡ declared_tables trees) → IfOk answer (λ c. Declares trees (known c) c.bases c.views)
     → IfOk answer (λ c. catalog_of trees ≡ Ok (declared c)) → IfOk answer NamesStand → IfOk answer (Defined schemas)
 defined_if schemas trees (Ok c) spelled tables declares exact agree =
     record { trees = trees; spelled = spelled; tables = tables; declares = declares; is_catalog = exact; names_stand = agree }
 defined_if schemas trees (Err fault) spelled tables declares exact agree = tables
 
-pub declared_by : (schemas : List Bytes) (trees : List SchemaText) (c : Catalog) → AllSpell schema_tokens schemas trees → catalog_of trees ≡ Ok (declared c)
+pub declared_by : (schemas : List Bytes) (trees : List SchemaText) (c : Catalog) → AllSpell schema_tokens schema_depth schemas trees → catalog_of trees ≡ Ok (declared c)
     → AreDeclared schemas
 declared_by schemas trees c spelled exact = record { trees = trees; spelled = spelled; catalog = declared c; declared = exact }
 
 pub declared_by_defined : (schemas : List Bytes) (c : Catalog) → Defined schemas c → AreDeclared schemas
 declared_by_defined schemas c d = declared_by schemas d.trees c d.spelled d.is_catalog
 
-pub holds_if : (row_numbers : ℕ) (c : Catalog) (modules : List Bytes) (trees : List ModuleText) (answer : Result Session TextFault) → AllSpell module_tokens modules trees
+pub holds_if : (row_numbers : ℕ) (c : Catalog) (modules : List Bytes) (trees : List ModuleText) (answer : Result Session TextFault) → AllSpell module_tokens module_depth modules trees
     → IfOk answer (λ s. s.tables ≡ c.tables) → IfOk answer (λ s. s.schemas ≡ schemas_of c) → IfOk answer (λ s. names_of s.procedures ≡ declared_procedures trees)
     → IfOk answer (IsOfModules (known c) (names_in c) trees) → IfOk answer (λ s. first_module_refusal trees ≡ None) → IfOk answer (IsStart row_numbers)
     → IfOk answer (Holds row_numbers c modules)

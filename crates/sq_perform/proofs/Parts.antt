@@ -1,13 +1,12 @@
 -- The part of schema texts that is refused first is one of theirs, and stands at its first token.
-use Rattle.std.proofs.Common.{◌≡◌, ℕ, zero, suc, ◌+◌, ◌<◌, ◌≤◌, min, List, [], ◌∷◌, ◌++◌, length, get_or, map, slice_get, drop, Option, Some, None, Ok, Err, refl, ap, subst, sym, ◌∙◌, arith, length-append, Vec}
+use Rattle.std.proofs.Common.{◌≡◌, ℕ, zero, suc, ◌+◌, ◌<◌, ◌≤◌, min, List, [], ◌∷◌, ◌++◌, length, get_or, map, slice_get, drop, Option, Some, None, Ok, Err, refl, ap, subst, sym, ◌∙◌, arith, length-append}
 use Rattle.std.proofs.lemmas.List.Folds.{length-flat_map-take}
 use Rattle.std.proofs.lemmas.Option.{get_or_from_slice_get, slice_get-get_or, slice_get_within}
 use Rattle.std.specs.List.{AllByRecursion, enumerate_from, flat_map}
 use Rattle.std.specs.Prelude.{IfSome}
-use Rattle.std.specs.declared.alloc.Global.{Global}
 use Rattle.sq_lex.specs.declared.lexeme.Lexeme.TheVariants as lexeme
 use Rattle.sq_lex.specs.declared.symbol.Symbol.TheVariants as symbol
-use Rattle.sq_tree.specs.Schema.{schema_definition_tokens, schema_element_tokens, schema_tokens}
+use Rattle.sq_tree.specs.Schema.{schema_definition_tokens, schema_element_tokens, schema_tokens, schema_depth}
 use Rattle.sq_tree.specs.Starts.{before_element, before_element_of_first, schema_start, schemas}
 use Rattle.sq_tree.specs.Tree.{if_written}
 use Rattle.sq_tree.specs.declared.schema.SchemaDefinition.{SchemaDefinition}
@@ -16,21 +15,20 @@ use Rattle.sq_tree.specs.declared.schema.SchemaElement.TheVariants as element
 use Rattle.sq_tree.specs.declared.schema.SchemaText.{SchemaText}
 use Rattle.sq_rules.specs.SchemaRefusal.{Part, SchemaRefusal as Found, parts_of_schema, parts_of_text, refusal_at, schema_parts}
 use Rattle.sq_rules.specs.declared.refusal.SchemaFault.{SchemaFault}
+use Rattle.sq_model.specs.Report.{Bytes}
 use Rattle.sq_declaring.specs.Catalog.{Catalog, empty}
 use Rattle.sq_declaring.specs.Declaring.{catalog_of, then_parts, with_part, with_parts}
 use Rattle.sq_declaring.specs.Outcome.{Outcome}
 use Rattle.sq_catalog.specs.Fault.{refusal_seen}
 use Rattle.sq_catalog.specs.declared.fault.SchemaRefusal.{SchemaRefusal}
-use Rattle.sq_perform.specs.Fault.{IsPlaced, IsPlacedIfAny, IsRefusalIfAny, IsSchemaFault}
-use Rattle.sq_perform.specs.Refusal.{StandsAt, StandsInSchema, matter, refused_part, schema_fault}
+use Rattle.sq_perform.specs.Fault.{IsPlaced, IsPlacedAmong, IsRefusalIfAny, IsSchemaFault, TextFault}
+use Rattle.sq_perform.specs.Refusal.{StandsInSchema, matter, refused_part, schema_fault}
 use Rattle.sq_perform.specs.Refused.{IsOfSchemas}
-use Rattle.sq_perform.specs.Texts.{AllSpell, texts}
+use Rattle.sq_perform.specs.Texts.{AllSpell, SpellsTree}
 use Rattle.sq_perform.specs.declared.refusal.Refusal.{Refusal}
 use Rattle.sq_perform.specs.declared.refusal.RefusalName.TheVariants as what
-use Rattle.sq_perform.specs.declared.texts.TextFault.{TextFault}
-use Rattle.sq_perform.specs.declared.texts.TextFault.TheVariants.{NoMemory, Refused}
-use Rattle.sq_perform.proofs.Refused.{text_at}
-use Rattle.sq_perform.proofs.Spelled.{as_many, is_there, spelled_at}
+use Rattle.sq_perform.specs.declared.fault.Fault.TheVariants.{NoMemory, Refused}
+use Rattle.sq_perform.proofs.Spelled.{is_there, spelled_there, token_there}
 
 -- ---- the parts of schema texts
 
@@ -140,36 +138,25 @@ starts_inside tree schema number d at within =
 
 -- ---- the refusal of schemas
 
-stands_in : (all : List (Vec ℕ Global)) (trees : List SchemaText) (r : Found) (tree : SchemaText) (text : Vec ℕ Global) (start : ℕ) (refusal : Refusal) → AllSpell schema_tokens (texts all) trees
-    → catalog_of trees ≡ Err r → r.text < length trees → r.text < length all → tree ≡ get_or trees r.text tree → text ≡ get_or all r.text text
-    → start ≡ min (refused_part tree r.schema r.element) 18446744073709551615 → IsPlaced text.items start refusal → StandsInSchema (texts all) trees r refusal
-stands_in all trees r tree text start refusal spelled first lt lt_all is at e placed =
-    let there : slice_get trees r.text ≡ Some tree = slice_get-get_or trees r.text tree lt ∙ ap Some (sym is) in
+stands_in : (all : List Bytes) (trees : List SchemaText) (r : Found) (tree : SchemaText) (text : Bytes) (start : ℕ) (refusal : Refusal) → slice_get all r.text ≡ Some text
+    → SpellsTree schema_tokens schema_depth text tree → catalog_of trees ≡ Err r → slice_get trees r.text ≡ Some tree
+    → start ≡ min (refused_part tree r.schema r.element) 18446744073709551615 → IsPlaced text start refusal → StandsInSchema all trees r refusal
+stands_in all trees r tree text start refusal there spells first tree_there e placed =
     let part = part_refused trees r first in
-    let same : part.tree ≡ tree = cc (part.tree_there, there) in
-    let within = starts_inside tree r.schema r.element part.definition (subst (λ t. slice_get (schemas t) r.schema ≡ Some part.definition) same part.there) part.within in
-    let count = as_many text.items (schema_tokens tree) placed.tokens (spelled_at schema_tokens all trees r.text text tree spelled lt_all at is) placed.read in
-    let few = placed.few in
-    let start_is : start ≡ refused_part tree r.schema r.element = omega (arith, e, within, count, few) in
-    let found = is_there placed.tokens start (omega (arith, start_is, within, count)) in
-    record {
-      text = text.items;
-      there = text_at all r.text text lt_all at;
-      tree = tree;
-      tree_there = there;
-      token = found.0;
-      first = record { tokens = placed.tokens; read = placed.read; there = subst (λ n. slice_get placed.tokens n ≡ Some found.0) start_is found.1 };
-      stands = subst (λ o. IfSome o (λ t. StandsAt text.items t refusal)) found.1 placed.stands;
-    }
+    let same : part.tree ≡ tree = cc (part.tree_there, tree_there) in
+    let inside = starts_inside tree r.schema r.element part.definition (subst (λ t. slice_get (schemas t) r.schema ≡ Some part.definition) same part.there) part.within in
+    let found = token_there text (schema_tokens tree) (refused_part tree r.schema r.element) start refusal spells.spelled inside e placed in
+    record { text = text; there = there; tree = tree; tree_there = tree_there; token = found.0; first = found.1; stands = found.2 }
 
 -- schemas are refused for what is found first, at its first token
-pub of_schema : (all : List (Vec ℕ Global)) (trees : List SchemaText) (r : SchemaRefusal) (tree : SchemaText) (text : Vec ℕ Global) (start : ℕ) (answer : TextFault) → AllSpell schema_tokens (texts all) trees
-    → catalog_of trees ≡ Err (refusal_seen r) → r.text < length trees → r.text < length all → tree ≡ get_or trees r.text tree → text ≡ get_or all r.text text
-    → start ≡ min (refused_part tree r.schema r.element) 18446744073709551615 → IsRefusalIfAny r.text (what.Schema r.name) answer → IsPlacedIfAny text.items start answer
-    → IsSchemaFault (texts all) answer
-of_schema all trees r tree text start NoMemory spelled first lt lt_all is at e named placed = tt
-of_schema all trees r tree text start (Refused refusal) spelled first lt lt_all is at e named placed =
-    subst (IsOfSchemas (texts all) refusal) (sym (ap matter named.1))
+pub of_schema : (all : List Bytes) (trees : List SchemaText) (r : SchemaRefusal) (tree : SchemaText) (start : ℕ) (answer : TextFault) → AllSpell schema_tokens schema_depth all trees
+    → catalog_of trees ≡ Err (refusal_seen r) → r.text < length trees → tree ≡ get_or trees r.text tree → start ≡ min (refused_part tree r.schema r.element) 18446744073709551615
+    → IsRefusalIfAny r.text (what.Schema r.name) answer → IsPlacedAmong all r.text start answer → IsSchemaFault all answer
+of_schema all trees r tree start NoMemory spelled first lt is e named placed = tt
+of_schema all trees r tree start (Refused refusal) spelled first lt is e named placed =
+    let there : slice_get trees r.text ≡ Some tree = slice_get-get_or trees r.text tree lt ∙ ap Some (sym is) in
+    let at = spelled_there schema_tokens schema_depth all trees r.text tree spelled there in
+    subst (IsOfSchemas all refusal) (sym (ap matter named.1))
     (record {
       trees = trees;
       spelled = spelled;
@@ -178,6 +165,6 @@ of_schema all trees r tree text start (Refused refusal) spelled first lt lt_all 
       is = record {
         text = named.0;
         what = ap schema_fault named.1;
-        stands = stands_in all trees (refusal_seen r) tree text start refusal spelled first lt lt_all is at e placed;
+        stands = stands_in all trees (refusal_seen r) tree at.0 start refusal at.1 at.2 first there e (placed at.0 at.1);
       };
     })

@@ -14,15 +14,14 @@ use Rattle.sq_tree.specs.Module.{module_tokens, module_depth}
 use Rattle.sq_tree.specs.Script.{script_tokens, script_depth}
 use Rattle.sq_model.specs.Report.{Bytes}
 use Rattle.sq_session.specs.Session.{Session}
-use Rattle.sq_perform.specs.Fault.{IsMisspelled, IsModuleFault, IsOfMeaning, IsOfSpelling, IsOpeningFault, IsParseFault, IsRefusalIfAny, IsRefusedText, IsSchemaFault, IsScriptFault, IsScriptRefusal, IsUnread, SomeRefused, run_fault}
+use Rattle.sq_perform.specs.Fault.{IsMisspelled, IsModuleFault, IsOfMeaning, IsOfSpelling, IsOpeningFault, IsParseFault, IsPlacedAmong, IsPlacedIfAny, IsRefusalIfAny, IsRefusedText, IsSchemaFault, IsScriptFault, IsScriptRefusal, IsUnread, SomeRefused, run_fault, TextFault}
 use Rattle.sq_perform.specs.Refused.{AreDeclared, IsOfSchemas, IsRefusedScript}
 use Rattle.sq_perform.specs.Refusal.{Matter, Tokens, Grammar, Depth, Meaning, IsOfModules, IsRefused, OneRefused, matter}
 use Rattle.sq_perform.specs.Texts.{AllSpell, Spells, texts}
 use Rattle.sq_perform.specs.declared.refusal.Refusal.{Refusal}
 use Rattle.sq_perform.specs.declared.refusal.RefusalName.{RefusalName}
 use Rattle.sq_perform.specs.declared.refusal.RunFault.TheVariants as run
-use Rattle.sq_perform.specs.declared.texts.TextFault.{TextFault}
-use Rattle.sq_perform.specs.declared.texts.TextFault.TheVariants.{NoMemory, Refused}
+use Rattle.sq_perform.specs.declared.fault.Fault.TheVariants.{NoMemory, Refused}
 
 -- ---- one text
 
@@ -65,7 +64,7 @@ unread tokens_of depth_of number text (Refused refusal) is = (is.0, by_name toke
 
 -- a text without a tree, behind texts that have theirs
 refused_by : {T : Type 0} (tokens_of : T → List Lexeme) (depth_of : T → ℕ) (all : List Bytes) (text : Bytes) (refusal : Refusal) (m : Matter) (trees : List T)
-    → slice_get all refusal.text ≡ Some text → AllSpell tokens_of (take refusal.text all) trees → matter refusal.what ≡ m → IsMisspelled tokens_of depth_of text refusal m
+    → slice_get all refusal.text ≡ Some text → AllSpell tokens_of depth_of (take refusal.text all) trees → matter refusal.what ≡ m → IsMisspelled tokens_of depth_of text refusal m
     → OneRefused tokens_of depth_of all refusal
 refused_by tokens_of depth_of all text refusal Tokens trees there before e is = record {
   text = text;
@@ -87,13 +86,19 @@ refused_by tokens_of depth_of all text refusal Depth trees there before e is = r
 }
 refused_by tokens_of depth_of all text refusal Meaning trees there before e is = absurd is
 
-pub text_at : (all : List (Vec ℕ Global)) (number : ℕ) (text : Vec ℕ Global) → number < length all → text ≡ get_or all number text → slice_get (texts all) number ≡ Some text.items
+text_at : (all : List (Vec ℕ Global)) (number : ℕ) (text : Vec ℕ Global) → number < length all → text ≡ get_or all number text → slice_get (texts all) number ≡ Some text.items
 text_at [] number text lt e = absurd (omega arith)
 text_at (v ∷ vs) zero text lt e = ap (λ w. Some w.items) (sym e)
 text_at (v ∷ vs) (suc n) text lt e = text_at vs n text (omega arith) e
 
+pub placed_among : (all : List (Vec ℕ Global)) (number : ℕ) (text : Vec ℕ Global) (token : ℕ) (fault : TextFault) → number < length all → text ≡ get_or all number text
+    → IsPlacedIfAny text.items token fault → IsPlacedAmong (texts all) number token fault
+placed_among all number text token fault lt e placed = λ other at.
+    let same : text.items ≡ other = cc (text_at all number text lt e, at) in
+    subst (λ t. IsPlacedIfAny t token fault) same placed
+
 pub first_without : {T : Type 0} (tokens_of : T → List Lexeme) (depth_of : T → ℕ) (all : List (Vec ℕ Global)) (number : ℕ) (text : Vec ℕ Global) (fault : TextFault) (trees : List T)
-    → number < length all → text ≡ get_or all number text → AllSpell tokens_of (take number (texts all)) trees → IsRefusedText number tokens_of depth_of text.items fault
+    → number < length all → text ≡ get_or all number text → AllSpell tokens_of depth_of (take number (texts all)) trees → IsRefusedText number tokens_of depth_of text.items fault
     → SomeRefused tokens_of depth_of (texts all) fault
 first_without tokens_of depth_of all number text NoMemory trees lt e before is = tt
 first_without tokens_of depth_of all number text (Refused refusal) trees lt e before is =
@@ -102,7 +107,7 @@ first_without tokens_of depth_of all number text (Refused refusal) trees lt e be
 
 -- all texts have trees, and one is refused for what it means
 pub one_of_meaning : {T : Type 0} (tokens_of : T → List Lexeme) (depth_of : T → ℕ) (all : List (Vec ℕ Global)) (number : ℕ) (text : Vec ℕ Global) (fault : TextFault) (trees : List T)
-    → number < length all → text ≡ get_or all number text → AllSpell tokens_of (texts all) trees → IsOfMeaning number fault → SomeRefused tokens_of depth_of (texts all) fault
+    → number < length all → text ≡ get_or all number text → AllSpell tokens_of depth_of (texts all) trees → IsOfMeaning number fault → SomeRefused tokens_of depth_of (texts all) fault
 one_of_meaning tokens_of depth_of all number text NoMemory trees lt e spelled is = tt
 one_of_meaning tokens_of depth_of all number text (Refused refusal) trees lt e spelled is = record {
   text = text.items;

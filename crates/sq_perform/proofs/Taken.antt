@@ -1,16 +1,15 @@
 -- Which items of a script a session takes, and where the first that it doesn't take stands.
-use Rattle.std.proofs.Common.{◌≡◌, ℕ, ◌+◌, ◌<◌, ◌^◌, min, Bool, true, false, if◌then◌else◌, List, [], ◌∷◌, ◌++◌, length, get_or, map, slice_get, take, All, Option, Some, None, Ok, refl, ap, ap₂, subst, sym, ◌∙◌, arith, length-append}
+use Rattle.std.proofs.Common.{◌≡◌, ℕ, ◌+◌, ◌<◌, ◌^◌, min, Bool, true, false, if◌then◌else◌, List, [], ◌∷◌, ◌++◌, length, get_or, map, take, All, Option, Some, None, Ok, refl, ap, ap₂, subst, sym, ◌∙◌, arith, length-append}
 use Rattle.std.proofs.lemmas.List.{map-append, take_more}
 use Rattle.std.proofs.lemmas.List.Elements.{All-append, All-cons, All-nil}
 use Rattle.std.proofs.lemmas.List.Folds.{length-flat_map-take}
 use Rattle.std.proofs.lemmas.Option.{slice_get_read}
-use Rattle.std.specs.Prelude.{IfSome}
 use Rattle.sq_lex.specs.declared.lexeme.Lexeme.TheVariants as lexeme
 use Rattle.sq_lex.specs.declared.symbol.Symbol.TheVariants as symbol
 use Rattle.sq_lex.specs.declared.token.Token.{Token}
 use Rattle.sq_lex.specs.Reading.{reading}
 use Rattle.sq_value.specs.declared.value.Value.{Value}
-use Rattle.sq_tree.specs.Script.{ended_item_tokens, script_item_tokens, script_tokens}
+use Rattle.sq_tree.specs.Script.{ended_item_tokens, script_depth, script_item_tokens, script_tokens}
 use Rattle.sq_tree.specs.Starts.{script_item_start}
 use Rattle.sq_tree.specs.declared.script.ScriptItem.{ScriptItem}
 use Rattle.sq_tree.specs.declared.script.ScriptItem.TheVariants as script
@@ -21,23 +20,20 @@ use Rattle.sq_rules.specs.Script.{argument_values}
 use Rattle.sq_catalog.specs.Catalog.{table_number}
 use Rattle.sq_session.specs.Kind.{Procedure, fits_at}
 use Rattle.sq_session.specs.Session.{Session, procedure_number}
-use Rattle.sq_perform.specs.Fault.{IsItemFault, IsItemRefusal, IsOfItem, IsPlacedIfAny, IsPlacedIn, IsRefusalIfAny, IsScriptRefusal, IsUntaken}
+use Rattle.sq_perform.specs.Fault.{IsItemFault, IsOfItem, IsPlacedIfAny, IsPlacedIn, IsRefusalIfAny, IsScriptRefusal, IsUntaken, ItemFault, TextFault}
 use Rattle.sq_perform.specs.Action.{item_of}
 use Rattle.sq_perform.specs.Asked.{AreActions}
 use Rattle.sq_perform.specs.Steps.{IsPrepared}
 use Rattle.sq_perform.specs.declared.action.Action.{Action}
 use Rattle.sq_perform.specs.Items.{IsTaken, call_fault, item_fault, table_fault}
 use Rattle.sq_perform.specs.Refused.{IsFirstItem, IsRefusedScript}
-use Rattle.sq_perform.specs.Refusal.{Matter, Meaning, StandsAt, matter}
-use Rattle.sq_perform.specs.Texts.{Spells}
-use Rattle.sq_perform.specs.declared.items.ItemFault.{ItemFault}
-use Rattle.sq_perform.specs.declared.items.ItemFault.TheVariants as item
+use Rattle.sq_perform.specs.Refusal.{Matter, Meaning, matter}
+use Rattle.sq_perform.specs.Texts.{Spells, SpellsTree}
 use Rattle.sq_perform.specs.declared.refusal.Refusal.{Refusal}
 use Rattle.sq_perform.specs.declared.refusal.RefusalName.{RefusalName}
 use Rattle.sq_perform.specs.declared.refusal.RefusalName.TheVariants.{BadArguments, UnknownProcedure, UnknownTable}
-use Rattle.sq_perform.specs.declared.texts.TextFault.{TextFault}
-use Rattle.sq_perform.specs.declared.texts.TextFault.TheVariants.{NoMemory, Refused}
-use Rattle.sq_perform.proofs.Spelled.{as_many, is_there}
+use Rattle.sq_perform.specs.declared.fault.Fault.TheVariants.{NoMemory, Refused}
+use Rattle.sq_perform.proofs.Spelled.{is_there, token_there}
 
 -- ---- one call
 
@@ -89,38 +85,23 @@ starts_inside tree number lt =
     let size = some_tokens (get_or tree.items number found.0) in
     omega (arith, inside, size)
 
-item_refused : (script : Bytes) (tree : ScriptText) (number start : ℕ) (what : RefusalName) (refusal : Refusal) (tokens : List Token) (token : Token)
-    → IsRefusalIfAny 0 what (Refused refusal) → reading script ≡ Ok tokens → start ≡ script_item_start tree number → slice_get tokens start ≡ Some token
-    → IfSome (slice_get tokens start) (λ t. StandsAt script t refusal) → IsItemRefusal script tree number what refusal
-item_refused script tree number start what refusal tokens token is read at there stands = record {
-  text = is.0;
-  name = is.1;
-  token = token;
-  first = record { tokens = tokens; read = read; there = rw (← at) there };
-  stands = rw there at stands;
-}
-
 pub of_item : (script : Bytes) (tree : ScriptText) (number start : ℕ) (what : RefusalName) (fault : TextFault) → Spells script (script_tokens tree)
     → number < length tree.items → start ≡ min (script_item_start tree number) 18446744073709551615 → IsRefusalIfAny 0 what fault → IsPlacedIfAny script start fault
-    → IsOfItem script tree number (item.Refused what) fault
+    → IsOfItem script tree number (Refused what) fault
 of_item script tree number start what NoMemory spells lt e is placed = tt
 of_item script tree number start what (Refused refusal) spells lt e is placed =
-    let count = as_many script (script_tokens tree) placed.tokens spells placed.read in
-    let inside = starts_inside tree number lt in
-    let few = placed.few in
-    let at : start ≡ script_item_start tree number = omega (arith, e, inside, count, few) in
-    let found = is_there placed.tokens start (omega (arith, at, inside, count)) in
-    item_refused script tree number start what refusal placed.tokens found.0 is placed.read at found.1 placed.stands
+    let found = token_there script (script_tokens tree) (script_item_start tree number) start refusal spells (starts_inside tree number lt) e placed in
+    record { text = is.0; name = is.1; token = found.0; first = found.1; stands = found.2 }
 
 -- ---- the first that is not taken
 
-pub first_untaken : (s : Session) (script : Bytes) (tree : ScriptText) (number : ℕ) (x : ScriptItem) (fault : ItemFault) (answer : TextFault) → Spells script (script_tokens tree)
+pub first_untaken : (s : Session) (script : Bytes) (tree : ScriptText) (number : ℕ) (x : ScriptItem) (fault : ItemFault) (answer : TextFault) → SpellsTree script_tokens script_depth script tree
     → number < length tree.items → x ≡ get_or tree.items number x → All (IsTaken s) (take number tree.items) → IsItemFault (item_fault s x) fault
     → IsOfItem script tree number fault answer → IsUntaken s script answer
-first_untaken s script tree number x item.NoMemory NoMemory spells lt e before is of = tt
-first_untaken s script tree number x item.NoMemory (Refused refusal) spells lt e before is of = cc
-first_untaken s script tree number x (item.Refused what) NoMemory spells lt e before is of = tt
-first_untaken s script tree number x (item.Refused what) (Refused refusal) spells lt e before is of = (
+first_untaken s script tree number x NoMemory NoMemory spells lt e before is of = tt
+first_untaken s script tree number x NoMemory (Refused refusal) spells lt e before is of = cc
+first_untaken s script tree number x (Refused what) NoMemory spells lt e before is of = tt
+first_untaken s script tree number x (Refused what) (Refused refusal) spells lt e before is of = (
   of.text,
   record {
     tree = tree;

@@ -10,7 +10,7 @@ use Rattle.sq_perform.specs.Refused.{RefusedText}
 use Rattle.sq_perform.specs.Opened.{Opened}
 use Rattle.sq_perform.specs.Run.{Run}
 use Rattle.sq_perform.specs.Steps.{Reported}
-use Rattle.sq_perform.specs.Stop.{StoppedAt, Wrote, is_write}
+use Rattle.sq_perform.specs.Stop.{StoppedAt, Wrote, WroteAll, is_write}
 use Rattle.sq_perform.specs.declared.action.Action.{Action}
 use Rattle.sq_perform.specs.declared.refusal.RunFault.{RunFault}
 use Rattle.sq_perform.specs.declared.refusal.RunFault.TheVariants.{SchemaRefused, ModuleRefused, ScriptRefused, Write, NoMemory}
@@ -72,12 +72,14 @@ run_of start actions opened asked = record {
 
 pub wrote_all : (row_numbers : ℕ) (schemas modules : List Bytes) (script : Bytes) (start : Session) (old new : Option Bytes) (answer : Result (Unit {0}) RunFault)
     → Opened row_numbers schemas modules start → OnOk answer (Performed script start old new)
-    → OnOk answer ((r : Run row_numbers schemas modules script) × Reported r.actions r.start old new)
+    → OnOk answer (WroteAll row_numbers schemas modules script old new)
+unfolding WroteAll
 wrote_all row_numbers schemas modules script start old new (Ok u) opened done = (run_of start done.actions opened done.asked, done.reported)
 wrote_all row_numbers schemas modules script start old new (Err e) opened done = done
 
 wrote_by : (row_numbers : ℕ) (schemas modules : List Bytes) (script : Bytes) (start : Session) (old new : Option Bytes) (fault : RunFault)
     → Opened row_numbers schemas modules start → IsScriptStop script start old new fault → Wrote row_numbers schemas modules script old new fault
+unfolding Wrote
 wrote_by row_numbers schemas modules script start old new (SchemaRefused refusal) opened stop = absurd stop
 wrote_by row_numbers schemas modules script start old new (ModuleRefused refusal) opened stop = absurd stop
 wrote_by row_numbers schemas modules script start old new (ScriptRefused refusal) opened stop = stop.0
@@ -93,6 +95,7 @@ wrote_some row_numbers schemas modules script start old new (Err fault) opened s
 
 refused_by : (row_numbers : ℕ) (schemas modules : List Bytes) (script : Bytes) (start : Session) (old new : Option Bytes) (fault : RunFault)
     → Opened row_numbers schemas modules start → IsScriptStop script start old new fault → RefusedText row_numbers schemas modules script fault
+unfolding RefusedText
 refused_by row_numbers schemas modules script start old new (SchemaRefused refusal) opened stop = absurd stop
 refused_by row_numbers schemas modules script start old new (ModuleRefused refusal) opened stop = absurd stop
 refused_by row_numbers schemas modules script start old new (ScriptRefused refusal) opened stop = record { start = start; opened = opened; text = stop.1; refused = stop.2 }
@@ -108,6 +111,7 @@ refused_some row_numbers schemas modules script start old new (Err fault) opened
 
 pub opening_wrote : (row_numbers : ℕ) (schemas modules : List Bytes) (script : Bytes) (taken : Option Bytes) (fault : RunFault) → IsOpeningFault schemas modules fault
     → Wrote row_numbers schemas modules script taken taken fault
+unfolding Wrote
 opening_wrote row_numbers schemas modules script taken (SchemaRefused refusal) is = refl
 opening_wrote row_numbers schemas modules script taken (ModuleRefused refusal) is = refl
 opening_wrote row_numbers schemas modules script taken (ScriptRefused refusal) is = absurd is
@@ -116,6 +120,7 @@ opening_wrote row_numbers schemas modules script taken (NoMemory zero) is = refl
 opening_wrote row_numbers schemas modules script taken (NoMemory (suc items)) is = cc
 
 pub opening_refused : (row_numbers : ℕ) (schemas modules : List Bytes) (script : Bytes) (fault : RunFault) → IsOpeningFault schemas modules fault → RefusedText row_numbers schemas modules script fault
+unfolding RefusedText
 opening_refused row_numbers schemas modules script (SchemaRefused refusal) is = is
 opening_refused row_numbers schemas modules script (ModuleRefused refusal) is = is
 opening_refused row_numbers schemas modules script (ScriptRefused refusal) is = absurd is

@@ -6,8 +6,8 @@ use Rattle.sq_lex.specs.Position.{position}
 use Rattle.sq_lex.specs.Reading.{reading}
 use Rattle.sq_lex.specs.declared.position.Position.{Position}
 use Rattle.sq_lex.specs.declared.token.Token.{Token}
-use Rattle.sq_tree.specs.Schema.{schema_tokens}
-use Rattle.sq_tree.specs.Module.{module_tokens}
+use Rattle.sq_tree.specs.Schema.{schema_tokens, schema_depth}
+use Rattle.sq_tree.specs.Module.{module_tokens, module_depth}
 use Rattle.sq_tree.specs.declared.module.ModuleText.{ModuleText}
 use Rattle.sq_tree.specs.declared.schema.SchemaText.{SchemaText}
 use Rattle.sq_rules.specs.ModuleRefusal.{first_module_refusal}
@@ -52,7 +52,7 @@ AreAllNotes _ _ _ = ⊥
 -- the catalog is of trees that the schemas spell, and this is said of their views, where names mean what it says
 pub record SchemasAreChecked (schemas : List Bytes) (catalog : Catalog) (notes : List (List Note)) : Type 0 where
   pub trees : List SchemaText
-  pub spelled : AllSpell schema_tokens schemas trees
+  pub spelled : AllSpell schema_tokens schema_depth schemas trees
   pub tables : catalog.tables ≡ declared_tables trees
   pub declares : Declares trees (known catalog) catalog.bases catalog.views
   pub are : AreAllNotes schemas (map (text_marks (known catalog)) trees) notes
@@ -60,7 +60,7 @@ pub record SchemasAreChecked (schemas : List Bytes) (catalog : Catalog) (notes :
 -- the definitions refuse none of the trees that the modules spell, and this is said of their cursors and procedures
 pub record ModulesAreChecked (catalog : Catalog) (modules : List Bytes) (notes : List (List Note)) : Type 0 where
   pub trees : List ModuleText
-  pub spelled : AllSpell module_tokens modules trees
+  pub spelled : AllSpell module_tokens module_depth modules trees
   pub admitted : first_module_refusal trees ≡ None
   pub marks : List (List Mark)
   pub checked : AreChecked catalog trees marks

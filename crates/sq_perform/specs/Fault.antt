@@ -11,17 +11,23 @@ use Rattle.sq_tree.specs.declared.script.ScriptText.{ScriptText}
 use Rattle.sq_parse.specs.declared.error.ParseError.{ParseError}
 use Rattle.sq_parse.specs.declared.error.ParseError.TheVariants as parse
 use Rattle.sq_session.specs.Session.{Session}
-use Rattle.sq_perform.specs.declared.items.ItemFault.{ItemFault}
-use Rattle.sq_perform.specs.declared.items.ItemFault.TheVariants as item
 use Rattle.sq_perform.specs.declared.refusal.RefusalName.{RefusalName}
 use Rattle.sq_perform.specs.declared.refusal.RefusalName.TheVariants.{Unexpected, TooDeep, EndOfText}
 use Rattle.sq_perform.specs.declared.refusal.Refusal.{Refusal}
 use Rattle.sq_perform.specs.declared.refusal.RunFault.{RunFault}
 use Rattle.sq_perform.specs.declared.refusal.RunFault.TheVariants as run
-use Rattle.sq_perform.specs.declared.texts.TextFault.{TextFault}
-use Rattle.sq_perform.specs.declared.texts.TextFault.TheVariants.{NoMemory, Refused}
+use Rattle.sq_perform.specs.declared.fault.Fault.{Fault}
+use Rattle.sq_perform.specs.declared.fault.Fault.TheVariants.{NoMemory, Refused}
 use Rattle.sq_perform.specs.Refused.{AreDeclared, IsFirstItem, IsOfSchemas, IsRefusedScript}
 use Rattle.sq_perform.specs.Refusal.{Matter, Tokens, Grammar, Depth, Meaning, matter, IsFirstFault, IsOfModules, IsRefused, IsTokenOf, OneRefused, StandsAt}
+
+-- why a text is not taken
+abbrev pub TextFault : Type 0
+TextFault = Fault Refusal
+
+-- why an item of a script is not taken
+abbrev pub ItemFault : Type 0
+ItemFault = Fault RefusalName
 
 -- a refusal of the text of this number, by this name
 abbrev pub IsRefusal : ℕ → RefusalName → TextFault → Type 0
@@ -52,8 +58,8 @@ IsOfMeaning number (Refused refusal) = (refusal.text ≡ number) × (matter refu
 
 -- an item is refused for its fault, unless memory ran out
 abbrev pub IsItemFault : Option RefusalName → ItemFault → Type 0
-IsItemFault fault item.NoMemory = ⊤
-IsItemFault fault (item.Refused what) = fault ≡ Some what
+IsItemFault fault NoMemory = ⊤
+IsItemFault fault (Refused what) = fault ≡ Some what
 
 -- a refusal at the token of this number, if there is such a token
 abbrev pub IsPlacedIn : Bytes → List Token → ℕ → TextFault → Type 0
@@ -71,6 +77,10 @@ abbrev pub IsPlacedIfAny : Bytes → ℕ → TextFault → Type 0
 IsPlacedIfAny text number NoMemory = ⊤
 IsPlacedIfAny text number (Refused refusal) = IsPlaced text number refusal
 
+-- such a refusal of the text of a number among others
+abbrev pub IsPlacedAmong : List Bytes → ℕ → ℕ → TextFault → Type 0
+IsPlacedAmong all number token fault = (text : Bytes) → slice_get all number ≡ Some text → IsPlacedIfAny text token fault
+
 -- the refusal of a script at the first token of an item
 pub record IsItemRefusal (script : Bytes) (tree : ScriptText) (number : ℕ) (what : RefusalName) (refusal : Refusal) : Type 0 where
   pub text : refusal.text ≡ 0
@@ -81,9 +91,9 @@ pub record IsItemRefusal (script : Bytes) (tree : ScriptText) (number : ℕ) (wh
 
 -- what the fault of an item is for the script
 abbrev pub IsOfItem : Bytes → ScriptText → ℕ → ItemFault → TextFault → Type 0
-IsOfItem script tree number item.NoMemory fault = fault ≡ NoMemory
-IsOfItem script tree number (item.Refused what) NoMemory = ⊤
-IsOfItem script tree number (item.Refused what) (Refused refusal) = IsItemRefusal script tree number what refusal
+IsOfItem script tree number NoMemory fault = fault ≡ NoMemory
+IsOfItem script tree number (Refused what) NoMemory = ⊤
+IsOfItem script tree number (Refused what) (Refused refusal) = IsItemRefusal script tree number what refusal
 
 -- what a refusal says of a text that has no tree
 abbrev pub IsMisspelled : {T : Type 0} → (T → List Lexeme) → (T → ℕ) → Bytes → Refusal → Matter → Type 0

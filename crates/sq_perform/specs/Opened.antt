@@ -1,7 +1,7 @@
 -- What schema and module texts open.
 use Rattle.std.specs.Prelude.{◌≡◌, ℕ, List, None, Ok}
-use Rattle.sq_tree.specs.Schema.{schema_tokens}
-use Rattle.sq_tree.specs.Module.{module_tokens}
+use Rattle.sq_tree.specs.Schema.{schema_tokens, schema_depth}
+use Rattle.sq_tree.specs.Module.{module_tokens, module_depth}
 use Rattle.sq_tree.specs.declared.module.ModuleText.{ModuleText}
 use Rattle.sq_tree.specs.declared.schema.SchemaText.{SchemaText}
 use Rattle.sq_rules.specs.ModuleRefusal.{first_module_refusal}
@@ -20,7 +20,7 @@ use Rattle.sq_perform.specs.Texts.{AllSpell}
 -- a catalog of trees that the schemas spell
 pub record Defined (schemas : List Bytes) (c : Catalog) : Type 0 where
   pub trees : List SchemaText
-  pub spelled : AllSpell schema_tokens schemas trees
+  pub spelled : AllSpell schema_tokens schema_depth schemas trees
   pub tables : c.tables ≡ declared_tables trees
   pub declares : Declares trees (known c) c.bases c.views
   pub is_catalog : catalog_of trees ≡ Ok (declared c)
@@ -29,7 +29,7 @@ pub record Defined (schemas : List Bytes) (c : Catalog) : Type 0 where
 -- a session over the tables of this catalog, of trees that the modules spell
 pub record Holds (row_numbers : ℕ) (c : Catalog) (modules : List Bytes) (s : Session) : Type 0 where
   pub trees : List ModuleText
-  pub spelled : AllSpell module_tokens modules trees
+  pub spelled : AllSpell module_tokens module_depth modules trees
   pub tables_are : s.tables ≡ c.tables
   pub schemas_are : s.schemas ≡ schemas_of c
   pub procedures : names_of s.procedures ≡ declared_procedures trees
@@ -41,6 +41,6 @@ pub record Holds (row_numbers : ℕ) (c : Catalog) (modules : List Bytes) (s : S
 pub record Opened (row_numbers : ℕ) (schemas modules : List Bytes) (s : Session) : Type 0 where
   pub schema_trees : List SchemaText
   pub module_trees : List ModuleText
-  pub schemas_spell : AllSpell schema_tokens schemas schema_trees
-  pub modules_spell : AllSpell module_tokens modules module_trees
+  pub schemas_spell : AllSpell schema_tokens schema_depth schemas schema_trees
+  pub modules_spell : AllSpell module_tokens module_depth modules module_trees
   pub is_opened : IsOpened row_numbers schema_trees module_trees s

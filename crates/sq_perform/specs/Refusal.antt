@@ -6,7 +6,7 @@ use Rattle.sq_lex.specs.Position.{position}
 use Rattle.sq_lex.specs.Reading.{reading}
 use Rattle.sq_lex.specs.declared.lexeme.Lexeme.{Lexeme}
 use Rattle.sq_lex.specs.declared.token.Token.{Token}
-use Rattle.sq_tree.specs.Module.{module_tokens}
+use Rattle.sq_tree.specs.Module.{module_tokens, module_depth}
 use Rattle.sq_tree.specs.Starts.{module_item_start, schema_element_start, schema_start}
 use Rattle.sq_tree.specs.declared.module.ModuleText.{ModuleText}
 use Rattle.sq_tree.specs.declared.schema.SchemaText.{SchemaText}
@@ -65,7 +65,7 @@ pub record OneRefused {T : Type 0} (tokens_of : T → List Lexeme) (depth_of : T
   pub text : Bytes
   pub there : slice_get all refusal.text ≡ Some text
   pub refused : IsRefused tokens_of depth_of text refusal (matter refusal.what)
-  pub before : SomeTrees tokens_of (read_before (matter refusal.what) refusal.text all)
+  pub before : SomeTrees tokens_of depth_of (read_before (matter refusal.what) refusal.text all)
 
 -- ---- tokens
 
@@ -133,7 +133,7 @@ module_fault _ = None
 -- the first refusal of the modules that these texts spell, by the definitions: its text and its fault, at its first token
 pub record IsFirstModule (modules : List Bytes) (refusal : Refusal) : Type 0 where
   pub trees : List ModuleText
-  pub spelled : AllSpell module_tokens modules trees
+  pub spelled : AllSpell module_tokens module_depth modules trees
   pub found : FoundModule
   pub first : first_module_refusal trees ≡ Some found
   pub text : refusal.text ≡ found.text

@@ -17,7 +17,7 @@ use Rattle.sq_session.specs.Session.{Session}
 use Rattle.sq_perform.specs.Items.{IsTaken, item_fault}
 use Rattle.sq_perform.specs.Opened.{Opened}
 use Rattle.sq_perform.specs.Refusal.{IsOfModules, IsOfSchema, IsRefused, IsTokenOf, Matter, Meaning, OneRefused, StandsAt, matter}
-use Rattle.sq_perform.specs.Texts.{AllSpell, Spells}
+use Rattle.sq_perform.specs.Texts.{AllSpell, SpellsTree}
 use Rattle.sq_perform.specs.declared.refusal.Refusal.{Refusal}
 use Rattle.sq_perform.specs.declared.refusal.RunFault.{RunFault}
 use Rattle.sq_perform.specs.declared.refusal.RunFault.TheVariants.{SchemaRefused, ModuleRefused, ScriptRefused, Write, NoMemory}
@@ -27,14 +27,14 @@ use Rattle.sq_perform.specs.declared.refusal.RunFault.TheVariants.{SchemaRefused
 -- trees that the schemas spell, which declare a catalog
 pub record AreDeclared (schemas : List Bytes) : Type 0 where
   pub trees : List SchemaText
-  pub spelled : AllSpell schema_tokens schemas trees
+  pub spelled : AllSpell schema_tokens schema_depth schemas trees
   pub catalog : Catalog
   pub declared : catalog_of trees ≡ Ok catalog
 
 -- trees that they spell, which declare none, for this refusal
 pub record AreNotDeclared (schemas : List Bytes) (refusal : Refusal) : Type 0 where
   pub trees : List SchemaText
-  pub spelled : AllSpell schema_tokens schemas trees
+  pub spelled : AllSpell schema_tokens schema_depth schemas trees
   pub found : Found
   pub first : catalog_of trees ≡ Err found
   pub is : IsOfSchema schemas trees found refusal
@@ -49,7 +49,7 @@ IsOfSchemas schemas refusal _ = ⊤
 -- the script's first item that the session does not take, with its fault, at its first token
 pub record IsFirstItem (start : Session) (script : Bytes) (refusal : Refusal) : Type 0 where
   pub tree : ScriptText
-  pub spells : Spells script (script_tokens tree)
+  pub spells : SpellsTree script_tokens script_depth script tree
   pub number : ℕ
   pub item : ScriptItem
   pub there : slice_get tree.items number ≡ Some item
@@ -77,7 +77,7 @@ pub record ScriptIsRefused (row_numbers : ℕ) (schemas modules : List Bytes) (s
 -- each tree that spells it is deeper than MAX_DEPTH brackets. Those of its kind before it spell trees. For what it means a schema or a module is refused
 -- only where the definitions refuse it first, for the fault that they find, at its first token, and the script only at its first item that has a fault,
 -- and for that. A module is refused only where the schemas declare a catalog, and the script only where all open a session.
-abbrev pub RefusedText : ℕ → List Bytes → List Bytes → Bytes → RunFault → Type 0
+unfoldable pub RefusedText : ℕ → List Bytes → List Bytes → Bytes → RunFault → Type 0
 RefusedText row_numbers schemas modules script (SchemaRefused refusal) =
     OneRefused schema_tokens schema_depth schemas refusal × IsOfSchemas schemas refusal (matter refusal.what)
 RefusedText row_numbers schemas modules script (ModuleRefused refusal) =

@@ -2,9 +2,9 @@
 use Rattle.std.specs.Prelude.{◌≡◌, ℕ, List, length, map, None, Ok}
 use Rattle.std.specs.List.{All}
 use Rattle.sq_lex.specs.declared.name.Name.{Name}
-use Rattle.sq_tree.specs.Schema.{schema_tokens}
-use Rattle.sq_tree.specs.Module.{module_tokens}
-use Rattle.sq_tree.specs.Script.{script_tokens}
+use Rattle.sq_tree.specs.Schema.{schema_tokens, schema_depth}
+use Rattle.sq_tree.specs.Module.{module_tokens, module_depth}
+use Rattle.sq_tree.specs.Script.{script_tokens, script_depth}
 use Rattle.sq_tree.specs.declared.module.ModuleText.{ModuleText}
 use Rattle.sq_tree.specs.declared.schema.SchemaText.{SchemaText}
 use Rattle.sq_tree.specs.declared.script.ScriptText.{ScriptText}
@@ -25,7 +25,7 @@ use Rattle.sq_session.specs.Session.{IsOfModules, Session, names_of}
 use Rattle.sq_session.specs.State.{AreClosed}
 use Rattle.sq_perform.specs.Action.{item_of}
 use Rattle.sq_perform.specs.Items.{IsTaken}
-use Rattle.sq_perform.specs.Texts.{AllSpell, Spells}
+use Rattle.sq_perform.specs.Texts.{AllSpell, SpellsTree}
 use Rattle.sq_perform.specs.declared.action.Action.{Action}
 
 -- a session with an empty table for each base table, where rows may have numbers up to this one, and with closed cursors
@@ -58,9 +58,9 @@ pub record Run (row_numbers : ℕ) (schemas modules : List Bytes) (script : Byte
   pub schema_trees : List SchemaText
   pub module_trees : List ModuleText
   pub script_tree : ScriptText
-  pub schemas_spell : AllSpell schema_tokens schemas schema_trees
-  pub modules_spell : AllSpell module_tokens modules module_trees
-  pub script_spells : Spells script (script_tokens script_tree)
+  pub schemas_spell : AllSpell schema_tokens schema_depth schemas schema_trees
+  pub modules_spell : AllSpell module_tokens module_depth modules module_trees
+  pub script_spells : SpellsTree script_tokens script_depth script script_tree
   pub start : Session
   pub is_opened : IsOpened row_numbers schema_trees module_trees start
   pub taken : All (IsTaken start) script_tree.items

@@ -27,8 +27,12 @@ StoppedAt actions start old new (Write bytes) = StoppedInside bytes actions star
 StoppedAt actions start old new (NoMemory zero) = new ≡ old
 StoppedAt actions start old new (NoMemory (suc items)) = (suc items < length actions) × Reported (take (suc items) actions) start old new
 
--- What was written, from what an output had taken to what it has taken, where a run stopped so.
-abbrev pub Wrote : ℕ → List Bytes → List Bytes → Bytes → Option Bytes → Option Bytes → RunFault → Type 0
+-- The report of a run of these texts was written, from what an output had taken to what it has taken;
+unfoldable pub WroteAll : ℕ → List Bytes → List Bytes → Bytes → Option Bytes → Option Bytes → Type 0
+WroteAll row_numbers schemas modules script old new = (r : Run row_numbers schemas modules script) × Reported r.actions r.start old new
+
+-- and what was written where a run stopped so.
+unfoldable pub Wrote : ℕ → List Bytes → List Bytes → Bytes → Option Bytes → Option Bytes → RunFault → Type 0
 Wrote row_numbers schemas modules script old new (SchemaRefused refusal) = new ≡ old
 Wrote row_numbers schemas modules script old new (ModuleRefused refusal) = new ≡ old
 Wrote row_numbers schemas modules script old new (ScriptRefused refusal) = new ≡ old

@@ -1,10 +1,11 @@
 -- What texts spell.
-use Rattle.std.specs.Prelude.{◌≡◌, ℕ, List, [], ◌∷◌, map, Ok, Vec, ⊤}
+use Rattle.std.specs.Prelude.{◌≡◌, ◌≤◌, ℕ, List, [], ◌∷◌, map, Ok, Vec, ⊤}
 use Rattle.std.specs.declared.alloc.Global.{Global}
 use Rattle.sq_lex.specs.declared.lexeme.Lexeme.{Lexeme}
 use Rattle.sq_lex.specs.declared.token.Token.{Token}
 use Rattle.sq_lex.specs.Token.{lexemes}
 use Rattle.sq_lex.specs.Reading.{reading}
+use Rattle.sq_grammar.specs.declared.brackets.TheConstants.{MAX_DEPTH}
 use Rattle.sq_model.specs.Report.{Bytes}
 
 -- the bytes of each text
@@ -17,12 +18,17 @@ pub record Spells (text : Bytes) (lexed : List Lexeme) : Type 0 where
   pub read : reading text ≡ Ok tokens
   pub same : lexemes tokens ≡ lexed
 
+-- a text that spells a tree with at most MAX_DEPTH round brackets open at once
+pub record SpellsTree {T : Type 0} (tokens_of : T → List Lexeme) (depth_of : T → ℕ) (text : Bytes) (tree : T) : Type 0 where
+  pub spelled : Spells text (tokens_of tree)
+  pub shallow : depth_of tree ≤ MAX_DEPTH
+
 -- each text spells the tree at its place
-abbrev pub AllSpell : {T : Type 0} → (T → List Lexeme) → List Bytes → List T → Type 0
-AllSpell tokens_of [] [] = ⊤
-AllSpell tokens_of (text ∷ others) (tree ∷ trees) = Spells text (tokens_of tree) × AllSpell tokens_of others trees
-AllSpell tokens_of _ _ = ⊥
+abbrev pub AllSpell : {T : Type 0} → (T → List Lexeme) → (T → ℕ) → List Bytes → List T → Type 0
+AllSpell tokens_of depth_of [] [] = ⊤
+AllSpell tokens_of depth_of (text ∷ others) (tree ∷ trees) = SpellsTree tokens_of depth_of text tree × AllSpell tokens_of depth_of others trees
+AllSpell tokens_of depth_of _ _ = ⊥
 
 -- trees that the texts spell
-abbrev pub SomeTrees : {T : Type 0} → (T → List Lexeme) → List Bytes → Type 0
-SomeTrees {T = T} tokens_of all = (trees : List T) × AllSpell tokens_of all trees
+abbrev pub SomeTrees : {T : Type 0} → (T → List Lexeme) → (T → ℕ) → List Bytes → Type 0
+SomeTrees {T = T} tokens_of depth_of all = (trees : List T) × AllSpell tokens_of depth_of all trees

@@ -13,6 +13,7 @@ ghost use Rattle.sq_perform.specs.Checked.{IsRead};
 ghost use Rattle.sq_perform.specs.Fault.{IsModuleFault, IsOpeningFault, IsSchemaFault, SomeRefused};
 ghost use Rattle.sq_perform.specs.Refused.{AreDeclared};
 ghost use Rattle.sq_perform.specs.Texts.{AllSpell, texts};
+ghost use Rattle.sq_perform.specs.declared.fault.Fault.TheVariants.{NoMemory};
 
 use crate::prepare::{built, module_fault, refused_module, schema_fault};
 use crate::refusal::RunFault;
@@ -145,7 +146,7 @@ fn described_by(
     schemas: &[Vec<u8>],
     trees: &[SchemaText],
 ) -> Result<Definitions, TextFault>
-    requires spelled { AllSpell schema_tokens (texts schemas.now) trees.now }
+    requires spelled { AllSpell schema_tokens schema_depth (texts schemas.now) trees.now }
     ensures declared { IfOk result (λ _. AreDeclared (texts schemas.now)) }
     ensures checked { IfOk result (λ d. spec.SchemasAreChecked (texts schemas.now) d.catalog d.notes.items) }
     ensures refused { IfErr result (SomeRefused schema_tokens schema_depth (texts schemas.now)) }
@@ -168,7 +169,7 @@ fn schema_notes(
     schemas: &[Vec<u8>],
     trees: &[SchemaText],
 ) -> Result<Notes, AllocError>
-    requires spelled { AllSpell schema_tokens (texts schemas.now) trees.now }
+    requires spelled { AllSpell schema_tokens schema_depth (texts schemas.now) trees.now }
     ensures { IfOk result
         (λ notes. spec.AreAllNotes (texts schemas.now)
         (map (text_marks (known catalog.now)) trees.now) notes.items) }
@@ -202,7 +203,7 @@ fn module_notes(
     modules: &[Vec<u8>],
     trees: &[ModuleText],
 ) -> Result<Notes, TextFault>
-    requires spelled { AllSpell module_tokens (texts modules.now) trees.now }
+    requires spelled { AllSpell module_tokens module_depth (texts modules.now) trees.now }
     ensures checked { IfOk result
         (λ notes. spec.ModulesAreChecked catalog.now (texts modules.now) notes.items) }
     ensures refused { IfErr result (SomeRefused module_tokens module_depth (texts modules.now)) }
@@ -219,7 +220,7 @@ fn marked_notes(alloc: Global, all: &[Vec<u8>], marks: Vec<Items<Mark>>) -> Resu
     requires read { AllByRecursion IsRead (texts all.now) }
     requires count { length marks.items ≡ length all.now }
     ensures notes { IfOk result (λ notes. spec.AreAllNotes (texts all.now) marks.items notes.items) }
-    ensures memory { IfErr result (λ fault. fault ≡ TextFault.NoMemory) }
+    ensures memory { IfErr result (λ fault. fault ≡ NoMemory) }
 {
     let notes = all_notes(alloc, all, marks.as_slice());
     drop(marks);

@@ -10,6 +10,7 @@ ghost use Rattle.sq_perform.specs.Items.{IsTaken, item_fault};
 ghost use Rattle.sq_perform.specs.Steps.{IsPrepared};
 
 use crate::action::{Action, CallAction, ShowAction};
+use crate::fault::Fault;
 use crate::refusal::RefusalName;
 use sq_items::Items;
 use sq_lex::Name;
@@ -21,22 +22,7 @@ use sq_value::Value;
 use std::alloc::{AllocError, Global};
 
 /// Why an item is not taken.
-#[derive(Clone, Copy, Debug)]
-pub(crate) enum ItemFault {
-    NoMemory,
-    Refused(RefusalName),
-}
-
-impl From<AllocError> for ItemFault {
-    ghost use Rattle.std.specs.Prelude.{◌≡◌};
-    ghost use Rattle.sq_perform.specs.declared.items.ItemFault.TheVariants.{NoMemory};
-
-    ghost from_gives = { λ _ fault. fault ≡ NoMemory };
-
-    fn from(_error: AllocError) -> ItemFault {
-        ItemFault::NoMemory
-    }
-}
+pub(crate) type ItemFault = Fault<RefusalName>;
 
 /// An item with its names looked up.
 pub(crate) fn action_of<S: Store>(

@@ -3,6 +3,7 @@
 
 mod action;
 mod checked;
+mod fault;
 mod items;
 mod limits;
 mod perform;

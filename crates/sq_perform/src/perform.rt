@@ -1,10 +1,9 @@
 ghost use Rattle.std.specs.Prelude.{◌≡◌, ◌≤◌, false, All, IfErr, IfOk, OnOk};
 ghost use Rattle.sq_perform.specs.Refused.{RefusedText};
-ghost use Rattle.sq_perform.specs.Run.{Run};
 ghost use Rattle.sq_perform.specs.Texts.{texts};
 ghost use Rattle.sq_perform.specs.Steps.{IsPrepared, Reported, Step};
 ghost use Rattle.sq_perform.specs.Performed.{IsScriptStop, Performed};
-ghost use Rattle.sq_perform.specs.Stop.{StoppedAt, Wrote, is_write};
+ghost use Rattle.sq_perform.specs.Stop.{StoppedAt, Wrote, WroteAll, is_write};
 
 use crate::action::Action;
 use crate::limits::Limits;
@@ -34,8 +33,7 @@ pub fn run<S: Store, W: Out>(
 
     // All is written: the report of a run of the trees that the texts spell.
     ensures report { OnOk result
-        ((r : Run limits.row_numbers (texts schemas.now) (texts modules.now) script.now)
-        × Reported r.actions r.start
+        (WroteAll limits.row_numbers (texts schemas.now) (texts modules.now) script.now
         (W.taken out.old) (W.taken out.new)) }
 
     // After a refusal nothing was written; after running out of memory, only complete items; after an output fault, a

@@ -2,7 +2,7 @@
 ghost use Rattle.std.specs.Prelude.{◌≡◌, ◌≤◌, ◌<◌, length, min, All, Err, IfErr, IfOk, MatchResult, None, Ok, Some};
 ghost use Rattle.sq_tree.specs.Schema.{schema_tokens, schema_depth};
 ghost use Rattle.sq_tree.specs.Module.{module_tokens, module_depth};
-ghost use Rattle.sq_tree.specs.Script.{script_tokens};
+ghost use Rattle.sq_tree.specs.Script.{script_tokens, script_depth};
 ghost use Rattle.sq_bound.specs.Fits.{keys_of_bases};
 ghost use Rattle.sq_rules.specs.ModuleRefusal.{first_module_refusal};
 ghost use Rattle.sq_module.specs.FirstRefusal.{IsFaultFor, refusal_of};
@@ -22,7 +22,7 @@ ghost use Rattle.sq_perform.specs.Opened.{Defined, Holds, Opened};
 ghost use Rattle.sq_perform.specs.Refusal.{refused_part, refused_start};
 ghost use Rattle.sq_perform.specs.Items.{IsTaken};
 ghost use Rattle.sq_perform.specs.Run.{IsStart};
-ghost use Rattle.sq_perform.specs.Texts.{AllSpell, Spells, texts};
+ghost use Rattle.sq_perform.specs.Texts.{AllSpell, SpellsTree, texts};
 ghost use Rattle.sq_perform.specs.Asked.{AreActions, AreAsked};
 ghost use Rattle.sq_perform.specs.Steps.{IsPrepared};
 
@@ -30,7 +30,7 @@ use crate::action::Action;
 use crate::items::{ItemFault, action_of};
 use crate::limits::Limits;
 use crate::refusal::{RefusalName, RunFault};
-use crate::texts::{TextFault, read_all, read_text, refused_again};
+use crate::texts::{TextFault, read_all, read_text, refused_again, refused_text};
 use sq_catalog::{Catalog, CatalogFault, SchemaRefusal};
 use sq_session::{ModuleRefusal, Session, SessionFault};
 use sq_spell::{module_item_start, schema_element_start, schema_start, script_item_start};
@@ -95,7 +95,7 @@ pub(crate) fn built(
     schemas: &[Vec<u8>],
     trees: &[SchemaText],
 ) -> Result<Catalog, TextFault>
-    requires spelled { AllSpell schema_tokens (texts schemas.now) trees.now }
+    requires spelled { AllSpell schema_tokens schema_depth (texts schemas.now) trees.now }
     ensures tables { IfOk result (λ c. c.tables ≡ declared_tables trees.now) }
     ensures declares { IfOk result (λ c. Declares trees.now (known c) c.bases c.views) }
     ensures exact { IfOk result (λ c. catalog_of trees.now ≡ Ok (declared c)) }
@@ -120,7 +120,7 @@ fn refused_schema(
     trees: &[SchemaText],
     refusal: SchemaRefusal,
 ) -> TextFault
-    requires spelled { AllSpell schema_tokens (texts schemas.now) trees.now }
+    requires spelled { AllSpell schema_tokens schema_depth (texts schemas.now) trees.now }
     requires there { refusal.text < length trees.now }
     requires first { catalog_of trees.now ≡ Err (refusal_seen refusal) }
     ensures refused { SomeRefused schema_tokens schema_depth (texts schemas.now) result }
@@ -133,8 +133,7 @@ fn refused_schema(
         element,
     } = refusal;
     let token = refused_part(&trees[text], schema, element);
-    let what = RefusalName::Schema(name);
-    refused_again(alloc, schemas[text].as_slice(), text, token, what)
+    refused_text::<SchemaText>(alloc, schemas, text, token, RefusalName::Schema(name))
 }
 
 /// The first token of what is refused in a schema text.
@@ -181,7 +180,7 @@ fn session_from<S: Store>(
     limits: Limits,
 ) -> Result<Session<S>, TextFault>
     requires numbers { limits.row_numbers ≤ MOST_ROW_NUMBERS }
-    requires spelled { AllSpell module_tokens (texts modules.now) trees.now }
+    requires spelled { AllSpell module_tokens module_depth (texts modules.now) trees.now }
     ensures tables { IfOk result (λ s. s.tables ≡ catalog.tables) }
     ensures procedures { IfOk result (λ s. names_of s.procedures ≡ declared_procedures trees.now) }
     ensures schemas { IfOk result (λ s. s.schemas ≡ schemas_of catalog) }
@@ -250,7 +249,7 @@ pub(crate) fn refused_module(
     trees: &[ModuleText],
     refusal: ModuleRefusal,
 ) -> TextFault
-    requires spelled { AllSpell module_tokens (texts modules.now) trees.now }
+    requires spelled { AllSpell module_tokens module_depth (texts modules.now) trees.now }
     requires there { refusal.text < length trees.now }
     requires first { first_module_refusal trees.now ≡ Some (refusal_of refusal) }
     ensures refused { SomeRefused module_tokens module_depth (texts modules.now) result }
@@ -258,8 +257,7 @@ pub(crate) fn refused_module(
 {
     let ModuleRefusal { name, text, item } = refusal;
     let token = refused_start(&trees[text], item);
-    let what = RefusalName::Module(name);
-    refused_again(alloc, modules[text].as_slice(), text, token, what)
+    refused_text::<ModuleText>(alloc, modules, text, token, RefusalName::Module(name))
 }
 
 /// The first token of what is refused in a module.
@@ -297,7 +295,7 @@ fn actions_in<S: Store>(
     script: &[u8],
     tree: &ScriptText,
 ) -> Result<Vec<Action>, TextFault>
-    requires { Spells script.now (script_tokens tree.now) }
+    requires { SpellsTree script_tokens script_depth script.now tree.now }
     ensures actions { IfOk result (λ actions. AreActions tree.now.items actions.items) }
     ensures prepared { IfOk result (λ actions. All (IsPrepared session.now) actions.items) }
     ensures taken { IfOk result (λ _. All (IsTaken session.now) tree.now.items) }
@@ -325,7 +323,7 @@ fn refused_item(
     place: usize,
     fault: ItemFault,
 ) -> TextFault
-    requires spelled { Spells script.now (script_tokens tree.now) }
+    requires spelled { SpellsTree script_tokens script_depth script.now tree.now }
     requires there { place < length tree.now.items }
     ensures { IsOfItem script.now tree.now place fault result }
 {

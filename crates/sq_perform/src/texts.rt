@@ -1,48 +1,25 @@
 //! Reading texts: from bytes to trees, and from a token's number to its position.
-ghost use Rattle.std.specs.Prelude.{◌≡◌, Ok, IfErr, IfOk, IsOk};
+ghost use Rattle.std.specs.Prelude.{◌≡◌, ◌<◌, ◌≤◌, length, Ok, IfErr, IfOk, IsOk};
 ghost use Rattle.sq_lex.specs.Reading.{reading};
 ghost use Rattle.sq_lex.specs.Token.{lexemes};
+ghost use Rattle.sq_grammar.specs.declared.brackets.TheConstants.{MAX_DEPTH};
 ghost use Rattle.sq_parse.specs.Refusal.{HasNoTree};
 ghost use Rattle.sq_tree.specs.Schema.{schema_tokens, schema_depth};
 ghost use Rattle.sq_tree.specs.Module.{module_tokens, module_depth};
 ghost use Rattle.sq_tree.specs.Script.{script_tokens, script_depth};
-ghost use Rattle.sq_perform.specs.Fault.{IsOfSpelling, IsParseFault, IsPlacedIfAny, IsPlacedIn, IsRefusal, IsRefusalIfAny, IsRefusedText, IsUnread, SomeRefused};
-ghost use Rattle.sq_perform.specs.Texts.{AllSpell, Spells, texts};
+ghost use Rattle.sq_perform.specs.Fault.{IsOfSpelling, IsParseFault, IsPlacedAmong, IsPlacedIfAny, IsPlacedIn, IsRefusal, IsRefusalIfAny, IsRefusedText, IsUnread, SomeRefused};
+ghost use Rattle.sq_perform.specs.Refusal.{Meaning, matter};
+ghost use Rattle.sq_perform.specs.Texts.{AllSpell, SomeTrees, SpellsTree, texts};
 
+use crate::fault::Fault;
 use crate::refusal::{Refusal, RefusalName};
 use sq_lex::{LexError, Position, Token, lex};
 use sq_parse::{ParseError, parse_module, parse_schema, parse_script};
 use sq_tree::{ModuleText, SchemaText, ScriptText};
-use std::alloc::{AllocError, AllocFailed, Global};
+use std::alloc::Global;
 
 /// Why a text is not taken.
-#[derive(Clone, Copy, Debug)]
-pub(crate) enum TextFault {
-    NoMemory,
-    Refused(Refusal),
-}
-
-impl From<AllocError> for TextFault {
-    ghost use Rattle.std.specs.Prelude.{◌≡◌};
-    ghost use Rattle.sq_perform.specs.declared.texts.TextFault.TheVariants.{NoMemory};
-
-    ghost from_gives = { λ _ fault. fault ≡ NoMemory };
-
-    fn from(_error: AllocError) -> TextFault {
-        TextFault::NoMemory
-    }
-}
-
-impl<T: Drop> From<AllocFailed<T>> for TextFault {
-    ghost use Rattle.std.specs.Prelude.{◌≡◌};
-    ghost use Rattle.sq_perform.specs.declared.texts.TextFault.TheVariants.{NoMemory};
-
-    ghost from_gives = { λ _ fault. fault ≡ NoMemory };
-
-    fn from(_error: AllocFailed<T>) -> TextFault {
-        TextFault::NoMemory
-    }
-}
+pub(crate) type TextFault = Fault<Refusal>;
 
 /// A kind of texts, named by the type of its trees.
 pub(crate) trait TextTree: Drop {
@@ -58,6 +35,7 @@ pub(crate) trait TextTree: Drop {
     /// The tree of a text's tokens.
     fn parse(alloc: Global, source: &[Token]) -> Result<Self, ParseError>
         ensures spelled { IfOk result (λ tree. lexemes source.now ≡ tokens tree) }
+        ensures shallow { IfOk result (λ tree. depth tree ≤ MAX_DEPTH) }
         ensures no_tree { IfErr result (HasNoTree tokens depth (lexemes source.now)) };
 }
 
@@ -93,7 +71,7 @@ impl TextTree for ScriptText {
 
 /// The trees of all texts of a kind, or why the first that has none is not taken.
 pub(crate) fn read_all<T: TextTree>(alloc: Global, all: &[Vec<u8>]) -> Result<Vec<T>, TextFault>
-    ensures spelled { IfOk result (λ trees. AllSpell T.tokens (texts all.now) trees.items) }
+    ensures spelled { IfOk result (λ trees. AllSpell T.tokens T.depth (texts all.now) trees.items) }
     ensures refused { IfErr result (SomeRefused T.tokens T.depth (texts all.now)) }
     ensures spelling { IfErr result IsOfSpelling }
 {
@@ -116,7 +94,7 @@ pub(crate) fn read_text<T: TextTree>(
     number: usize,
     text: &[u8],
 ) -> Result<T, TextFault>
-    ensures spelled { IfOk result (λ tree. Spells text.now (T.tokens tree)) }
+    ensures spelled { IfOk result (SpellsTree T.tokens T.depth text.now) }
     ensures refused { IfErr result (IsRefusedText number T.tokens T.depth text.now) }
 {
     let tokens = tokens_of(alloc, number, text)?;
@@ -181,6 +159,24 @@ fn refused_at(
         column,
         what,
     })
+}
+
+/// A refusal of the text of this number among those of a kind, for what it says, at a token.
+pub(crate) fn refused_text<T: TextTree>(
+    alloc: Global,
+    all: &[Vec<u8>],
+    number: usize,
+    token: usize,
+    what: RefusalName,
+) -> TextFault
+    requires spelled { SomeTrees T.tokens T.depth (texts all.now) }
+    requires there { number < length all.now }
+    requires meaning { matter what ≡ Meaning }
+    ensures refused { SomeRefused T.tokens T.depth (texts all.now) result }
+    ensures what { IsRefusalIfAny number what result }
+    ensures placed { IsPlacedAmong (texts all.now) number token result }
+{
+    refused_again(alloc, all[number].as_slice(), number, token, what)
 }
 
 /// A refusal for what a text says, at a token. No tokens are kept once a text has its tree, so they are read once more.

@@ -9,7 +9,6 @@ use Rattle.sq_headline.proofs.ExactlyBound.{accepted}
 use Rattle.sq_headline.proofs.Headline.{run_reports, run_stops_after, run_stops_inside}
 use Rattle.sq_perform.specs.Action.{item_of}
 use Rattle.sq_perform.specs.Run.{Run}
-use Rattle.sq_perform.specs.Steps.{Reported}
 use Rattle.sq_perform.specs.Stop as session
 use Rattle.sq_perform.specs.declared.refusal.RunFault.{RunFault}
 use Rattle.sq_perform.specs.declared.refusal.RunFault.TheVariants.{SchemaRefused, ModuleRefused, ScriptRefused, Write, NoMemory}
@@ -37,12 +36,14 @@ module _ (row_numbers : ℕ) (schemas modules : List Bytes) (script : Bytes) whe
   as_many r = sym (length-map r.actions item_of) ∙ ap (λ l. length l) r.are_items
 
   module _ (old new : Option Bytes) where
-    pub reports : (answer : Result (Unit {0}) RunFault) → OnOk answer ((r : Run row_numbers schemas modules script) × Reported r.actions r.start old new)
+    pub reports : (answer : Result (Unit {0}) RunFault) → OnOk answer (session.WroteAll row_numbers schemas modules script old new)
         → OnOk answer (IsReported row_numbers schemas modules script old new)
+    unfolding IsReported session.WroteAll
     reports (Ok u) h = (texts_of h.0, run_reports row_numbers schemas modules script h.0 old new h.1)
     reports (Err fault) h = h
 
     wrote : (fault : RunFault) → session.Wrote row_numbers schemas modules script old new fault → Wrote row_numbers schemas modules script old new fault
+    unfolding Wrote session.Wrote
     wrote (SchemaRefused refusal) h = h
     wrote (ModuleRefused refusal) h = h
     wrote (ScriptRefused refusal) h = h
@@ -59,8 +60,10 @@ module _ (row_numbers : ℕ) (schemas modules : List Bytes) (script : Bytes) whe
 
   -- laws of the machine
   pub constraints_kept : ConstraintsAreKept row_numbers schemas modules script
+  unfolding ConstraintsAreKept
   constraints_kept a count =
       constraints_hold_in_runs a.schemas_are.trees a.modules_are.trees row_numbers (take count (items a)) a.schemas_are.accepted
 
   pub failures_change_nothing : FailuresChangeNothing row_numbers schemas modules script
+  unfolding FailuresChangeNothing
   failures_change_nothing a count c failed = failed_changes_nothing (machine row_numbers a) _ c failed

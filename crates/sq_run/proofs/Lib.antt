@@ -1,3 +1,4 @@
 pub mod Accepts
+pub mod NeverBoth
 pub mod Refuses
 pub mod Scripts

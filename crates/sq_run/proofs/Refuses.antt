@@ -62,6 +62,7 @@ module _ (row_numbers : ℕ) (schemas modules : List Bytes) (script : Bytes) whe
   -- ---- all texts
 
   refused : (fault : RunFault) → session.RefusedText row_numbers schemas modules script fault → RefusedText schemas modules script fault
+  unfolding RefusedText session.RefusedText
   refused (SchemaRefused refusal) h = (h.0, of_schemas schemas refusal (matter refusal.what) h.1)
   refused (ModuleRefused refusal) h = (accepted_by schemas h.0, h.1, h.2)
   refused (ScriptRefused refusal) h = record {

@@ -1,11 +1,13 @@
 -- A session of texts takes an item of a script exactly where the definitions find no fault in it, and else refuses it for that fault (own form: a
 -- script stands for the calls of a host program).
-use Rattle.std.proofs.Common.{◌≡◌, ℕ, zero, suc, ◌+◌, Bool, true, false, ◌&&◌, List, [], ◌∷◌, ◌++◌, map, take, slice_get, All, Option, Some, None, refl, sym, ap, subst, ◌∙◌, arith}
+use Rattle.std.proofs.Common.{◌≡◌, ℕ, zero, suc, ◌+◌, Bool, true, false, ◌&&◌, List, [], ◌∷◌, map, take, slice_get, All, Option, Some, None, refl, sym, ap, subst, ◌∙◌, arith}
 use Rattle.std.proofs.lemmas.List.Elements.{recursion_from_All}
 use Rattle.std.specs.Cmp.Lexicographic.{pointwise, same_text}
 use Rattle.std.specs.List.{AllByRecursion, enumerate_from, flat_map}
 use Rattle.std.specs.Option.{option_and_then, option_map, option_map_or, option_or}
-use Rattle.std.specs.Prelude.{filter_map, find, if◌then◌else◌, is_some, nat_eq, position}
+use Rattle.std.specs.Prelude.{filter_map, find, if◌then◌else◌, is_some, nat_eq}
+use Rattle.std.proofs.lemmas.Cmp.{nat_list_eq_equiv}
+use Rattle.std.proofs.lemmas.Bool.{and_parts}
 use Rattle.sq_lex.specs.declared.name.Name.{Name}
 use Rattle.sq_value.specs.declared.value.Value.{Value}
 use Rattle.sq_tree.specs.declared.«module».ModuleItem.{ModuleItem}
@@ -17,16 +19,16 @@ use Rattle.sq_tree.specs.declared.script.ScriptItem.{ScriptItem}
 use Rattle.sq_tree.specs.declared.script.ScriptItem.TheVariants as script
 use Rattle.sq_tree.specs.declared.script.ScriptText.{ScriptText}
 use Rattle.sq_tree.specs.declared.schema.TableDefinition.{TableDefinition}
-use Rattle.sq_meaning.specs.Environment.{TableName, same_name, same_table}
-use Rattle.sq_meaning.specs.Tables.{Declared}
+use Rattle.sq_meaning.specs.Environment.{same_name, same_table}
 use Rattle.sq_rules.specs.Module.{declared_parameters, module_named, procedure_in, procedure_named}
 use Rattle.sq_rules.specs.Schema.{BaseTable, Elements, base_place, base_tables}
-use Rattle.sq_rules.specs.SchemaRefusal.{elements_of, first_schema_refusal}
-use Rattle.sq_rules.specs.Script.{ScriptRefusal, argument_values, arguments_fault, first_script_refusal, fit, item_refusal, procedure_called, script_fault_of}
+use Rattle.sq_rules.specs.SchemaRefusal.{elements_of}
+use Rattle.sq_rules.specs.Script.{argument_values, arguments_fault, first_script_refusal, fit, item_refusal, procedure_called, script_fault_of}
 use Rattle.sq_rules.specs.Script as rules
 use Rattle.sq_rules.specs.Words.{first_of}
 use Rattle.sq_rules.specs.declared.refusal.ScriptFault.{ScriptFault}
 use Rattle.sq_rules.specs.declared.refusal.ScriptFault.TheVariants as fault
+use Rattle.sq_declaring.proofs.Names.{position_at}
 use Rattle.sq_catalog.specs.Catalog.{declared_definitions, declared_tables, is_table, table_number}
 use Rattle.sq_catalog.specs.declared.catalog.FullName.{FullName}
 use Rattle.sq_module.specs.Program.{declared_procedures, module_procedures}
@@ -34,20 +36,21 @@ use Rattle.sq_module.specs.Program as program
 use Rattle.sq_module.specs.Written.{IsFromTexts}
 use Rattle.sq_module.specs.declared.program.BoundProcedure.{BoundProcedure}
 use Rattle.sq_module.specs.declared.program.ProcedureName.{ProcedureName}
+use Rattle.sq_module.proofs.Named.{bound_declared}
 use Rattle.sq_session.specs.Kind.{Procedure as SessionProcedure, fits_at}
-use Rattle.sq_session.specs.Session.{Session, is_procedure, name_of, names_of, procedure_number, procedure_of, procedures_of}
+use Rattle.sq_session.specs.Session.{Session, is_procedure, name_of, procedure_number, procedure_of, procedures_of}
 use Rattle.sq_agreement.proofs.DeclaredTables.{base_tables_named, named_tables}
 use Rattle.sq_headline.proofs.Agrees.{unmapped_at}
-use Rattle.sq_headline.proofs.CallIsStep.{placed_at}
 use Rattle.sq_headline.proofs.ExactlyBound.{accepted}
-use Rattle.sq_headline.proofs.Found.{both_true, each_of_all, module_found, none_placed, procedure_found, turned}
+use Rattle.sq_headline.proofs.Found.{each_of_all, module_found, none_placed, procedure_found}
 use Rattle.sq_headline.proofs.Reports.{base_found}
-use Rattle.sq_headline.proofs.Started.{bound_declared}
 use Rattle.sq_perform.specs.Items.{IsTaken, call_fault, item_fault, table_fault}
 use Rattle.sq_perform.specs.Refusal.{script_fault}
 use Rattle.sq_perform.specs.Run.{IsOpened}
 use Rattle.sq_perform.specs.declared.refusal.RefusalName.{RefusalName}
 use Rattle.sq_perform.specs.declared.refusal.RefusalName.TheVariants as refusal
+use Rattle.sq_laws.proofs.SiteLaws.{all_parts}
+use Rattle.sq_agreement.proofs.Numbers.{none_there}
 
 -- none on both sides, or a name and the fault that it is for
 abbrev pub AreAlike : Option RefusalName → Option ScriptFault → Type 0
@@ -56,25 +59,9 @@ AreAlike (Some what) o = (f : ScriptFault) × (o ≡ Some f) × (script_fault wh
 
 -- ---- where no one has a place
 
-placed_none : {A : Type 0} (test : A → Bool) (xs : List A) → AllByRecursion (λ x. test x ≡ false) xs → position test xs ≡ None
-placed_none {A} test xs all = by (position test xs) refl
-  where
-    never : (ys : List A) → AllByRecursion (λ x. test x ≡ false) ys → (n : ℕ) (x : A) → slice_get ys n ≡ Some x → test x ≡ true → ⊥
-    never [] h n x at is = cc
-    never (y ∷ ys) h zero x at is = let same : y ≡ x = cc in let e : test x ≡ false = ap test (sym same) ∙ h.0 in cc
-    never (y ∷ ys) h (suc n) x at is = never ys h.1 n x at is
-
-    by : (o : Option ℕ) → position test xs ≡ o → o ≡ None
-    by None e = refl
-    by (Some n) e = let found = placed_at test xs n e in absurd (never xs all n found.0 found.1 found.2)
-
 mapped_all : {A B : Type 0} (P : B → Type 0) (f : A → B) (xs : List A) → AllByRecursion (λ x. P (f x)) xs → AllByRecursion P (map f xs)
 mapped_all P f [] h = tt
 mapped_all P f (x ∷ xs) h = (h.0, mapped_all P f xs h.1)
-
-split_all : {A : Type 0} (P : A → Type 0) (xs ys : List A) → AllByRecursion P (xs ++ ys) → AllByRecursion P xs × AllByRecursion P ys
-split_all P [] ys h = (tt, h)
-split_all P (x ∷ xs) ys h = let rest = split_all P xs ys h.1 in ((h.0, rest.0), rest.1)
 
 -- ---- a procedure that no module has
 
@@ -95,13 +82,13 @@ module _ («module» name : Name) where
           → (if b then Some p else find (λ q. same_name q.name name) (filter_map procedure_in items)) ≡ None
       by true e rest =
           let both : is_called «module» name (record { «module» = m; name = p.name }) ≡ true
-          = (λ i. (turned «module» m ∙ is) i && (turned name p.name ∙ e) i) in cc
+          = (λ i. (nat_list_eq_equiv.symm «module» m ∙ is) i && (nat_list_eq_equiv.symm name p.name ∙ e) i) in cc
       by false e rest = rest
 
   none_called : (modules : List ModuleText) → AllByRecursion (IsNone «module» name) (declared_procedures modules) → procedure_called modules «module» name ≡ None
   none_called [] h = refl
   none_called (m ∷ modules) h =
-      let parts = split_all (IsNone «module» name) (module_procedures m) (declared_procedures modules) h in
+      let parts = all_parts (IsNone «module» name) (module_procedures m) (declared_procedures modules) h in
       by (same_name m.name «module») refl parts.0 (none_called modules parts.1)
     where
       by : (b : Bool) → same_name m.name «module» ≡ b → AllByRecursion (IsNone «module» name) (module_procedures m) → procedure_called modules «module» name ≡ None
@@ -115,12 +102,12 @@ none_named : (user name : Name) (ns : List FullName) (ds : List TableDefinition)
     → AllByRecursion (λ (t : BaseTable). same_table t.name (record { user = user; name = name }) ≡ false) (named_tables ns ds)
 none_named user name [] ds h = tt
 none_named user name (n ∷ ns) [] h = tt
-none_named user name (n ∷ ns) (d ∷ ds) h = ((λ i. turned n.user user i && turned n.name name i) ∙ h.0, none_named user name ns ds h.1)
+none_named user name (n ∷ ns) (d ∷ ds) h = ((λ i. nat_list_eq_equiv.symm n.user user i && nat_list_eq_equiv.symm n.name name i) ∙ h.0, none_named user name ns ds h.1)
 
 base_missing : (texts : List SchemaText) (user name : Name) → table_number (declared_tables texts) user name ≡ None
     → base_place (elements_of texts) (record { user = user; name = name }) ≡ None
 base_missing texts user name none =
-    placed_none (λ (t : BaseTable). same_table t.name (record { user = user; name = name })) (base_tables (elements_of texts))
+    none_there (λ (t : BaseTable). same_table t.name (record { user = user; name = name })) (base_tables (elements_of texts))
     (subst (AllByRecursion (λ (t : BaseTable). same_table t.name (record { user = user; name = name }) ≡ false)) (sym (base_tables_named texts))
     (none_named user name (declared_tables texts) (declared_definitions texts) (none_placed (is_table user name) (declared_tables texts) none)))
 
@@ -140,12 +127,12 @@ module _ (row_numbers : ℕ) (texts : List SchemaText) (modules : List ModuleTex
   is_called_as «module» name number found =
       let program = opened.written.program in
       let all = procedures_of program.cursors.items program.procedures.entries in
-      let there = placed_at (is_procedure «module» name) all number (subst (λ ps. procedure_number ps «module» name ≡ Some number) opened.written.are found) in
+      let there = position_at (is_procedure «module» name) all number (subst (λ ps. procedure_number ps «module» name ≡ Some number) opened.written.are found) in
       let of = unmapped_at (procedure_of program.cursors.items) program.procedures.entries number there.0 there.1 in
       let e : ProcedureName × BoundProcedure = of.0 in
       let is : procedure_of program.cursors.items e ≡ there.0 = of.2 in
       let here : slice_get s.procedures number ≡ Some (procedure_of program.cursors.items e) = ap (λ ps. slice_get ps number) opened.written.are ∙ there.1 ∙ ap (λ q. Some q) (sym is) in
-      let names = both_true _ _ (subst (λ q. is_procedure «module» name q ≡ true) (sym is) there.2) in
+      let names = and_parts _ _ (subst (λ q. is_procedure «module» name q ≡ true) (sym is) there.2) in
       let f : IsFromTexts opened.known modules program.cursors.items e
       = each_of_all (IsFromTexts opened.known modules program.cursors.items) program.procedures.entries opened.written.is_of.procedures number e of.1 in
       record {

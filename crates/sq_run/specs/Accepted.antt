@@ -1,8 +1,9 @@
--- Texts that the definitions accept: trees that they spell, none of which is refused; and what the table machine of the trees reports.
+-- Texts that the definitions accept: trees that they spell, with at most MAX_DEPTH round brackets open at once, none of which is refused; and what the
+-- table machine of the trees reports.
 use Rattle.std.specs.Prelude.{◌≡◌, ℕ, List, map, None}
-use Rattle.sq_tree.specs.Schema.{schema_tokens}
-use Rattle.sq_tree.specs.Module.{module_tokens}
-use Rattle.sq_tree.specs.Script.{script_tokens}
+use Rattle.sq_tree.specs.Schema.{schema_tokens, schema_depth}
+use Rattle.sq_tree.specs.Module.{module_tokens, module_depth}
+use Rattle.sq_tree.specs.Script.{script_tokens, script_depth}
 use Rattle.sq_tree.specs.declared.module.ModuleText.{ModuleText}
 use Rattle.sq_tree.specs.declared.schema.SchemaText.{SchemaText}
 use Rattle.sq_tree.specs.declared.script.ScriptText.{ScriptText}
@@ -12,16 +13,16 @@ use Rattle.sq_rules.specs.Script.{first_script_refusal}
 use Rattle.sq_model.specs.Machine.{Program, State, first_state}
 use Rattle.sq_model.specs.Report.{Bytes, report}
 use Rattle.sq_model.specs.Run.{Item, after, item_of_script, program_of}
-use Rattle.sq_perform.specs.Texts.{AllSpell, Spells}
+use Rattle.sq_perform.specs.Texts.{AllSpell, SpellsTree}
 
 pub record AcceptedSchemas (texts : List Bytes) : Type 0 where
   pub trees : List SchemaText
-  pub spelled : AllSpell schema_tokens texts trees
+  pub spelled : AllSpell schema_tokens schema_depth texts trees
   pub accepted : first_schema_refusal trees ≡ None
 
 pub record AcceptedModules (texts : List Bytes) : Type 0 where
   pub trees : List ModuleText
-  pub spelled : AllSpell module_tokens texts trees
+  pub spelled : AllSpell module_tokens module_depth texts trees
   pub accepted : first_module_refusal trees ≡ None
 
 -- the texts of a run
@@ -29,7 +30,7 @@ pub record Accepted (schemas modules : List Bytes) (script : Bytes) : Type 0 whe
   pub schemas_are : AcceptedSchemas schemas
   pub modules_are : AcceptedModules modules
   pub tree : ScriptText
-  pub spelled : Spells script (script_tokens tree)
+  pub spelled : SpellsTree script_tokens script_depth script tree
   pub accepted : first_script_refusal (elements_of schemas_are.trees) modules_are.trees tree ≡ None
 
 -- what the script asks for

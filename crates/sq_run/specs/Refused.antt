@@ -1,5 +1,5 @@
 -- Which texts of a run are refused, and for what.
-use Rattle.std.specs.Prelude.{◌≡◌, ℕ, List, Some, ⊤}
+use Rattle.std.specs.Prelude.{◌≡◌, List, Some, ⊤}
 use Rattle.sq_lex.specs.declared.token.Token.{Token}
 use Rattle.sq_tree.specs.Schema.{schema_tokens, schema_depth}
 use Rattle.sq_tree.specs.Module.{module_tokens, module_depth}
@@ -13,7 +13,7 @@ use Rattle.sq_rules.specs.SchemaRefusal.{SchemaRefusal, elements_of, first_schem
 use Rattle.sq_rules.specs.Script.{ScriptRefusal, first_script_refusal}
 use Rattle.sq_model.specs.Report.{Bytes}
 use Rattle.sq_perform.specs.Refusal.{IsOfModules, IsOfSchema, IsRefused, IsTokenOf, Matter, Meaning, OneRefused, StandsAt, matter, script_fault}
-use Rattle.sq_perform.specs.Texts.{AllSpell, Spells}
+use Rattle.sq_perform.specs.Texts.{AllSpell, SpellsTree}
 use Rattle.sq_perform.specs.declared.refusal.Refusal.{Refusal}
 use Rattle.sq_perform.specs.declared.refusal.RunFault.{RunFault}
 use Rattle.sq_perform.specs.declared.refusal.RunFault.TheVariants.{SchemaRefused, ModuleRefused, ScriptRefused, Write, NoMemory}
@@ -24,7 +24,7 @@ use Rattle.sq_run.specs.Accepted.{AcceptedModules, AcceptedSchemas}
 -- the first refusal of the schemas that these texts spell, for its fault, at its first token
 pub record IsFirstSchema (schemas : List Bytes) (refusal : Refusal) : Type 0 where
   pub trees : List SchemaText
-  pub spelled : AllSpell schema_tokens schemas trees
+  pub spelled : AllSpell schema_tokens schema_depth schemas trees
   pub found : SchemaRefusal
   pub first : first_schema_refusal trees ≡ Some found
   pub is : IsOfSchema schemas trees found refusal
@@ -39,7 +39,7 @@ IsOfSchemas schemas refusal _ = ⊤
 -- the first refusal of the script that this text spells, for its fault, at the first token of the item
 pub record IsFirstItem (elements : Elements) (modules : List ModuleText) (script : Bytes) (refusal : Refusal) : Type 0 where
   pub tree : ScriptText
-  pub spelled : Spells script (script_tokens tree)
+  pub spelled : SpellsTree script_tokens script_depth script tree
   pub found : ScriptRefusal
   pub first : first_script_refusal elements modules tree ≡ Some found
   pub what : script_fault refusal.what ≡ Some found.fault
@@ -65,7 +65,7 @@ pub record ScriptIsRefused (schemas modules : List Bytes) (script : Bytes) (refu
 -- each tree that spells it is deeper than MAX_DEPTH brackets. Those of its kind before it spell trees. For what it means a text is refused only where the
 -- definitions refuse it first among all of its kind, which spell trees, for the fault that they find, at its first token. A module is refused only
 -- where the schemas are accepted, and the script only where the schemas and the modules are.
-abbrev pub RefusedText : List Bytes → List Bytes → Bytes → RunFault → Type 0
+unfoldable pub RefusedText : List Bytes → List Bytes → Bytes → RunFault → Type 0
 RefusedText schemas modules script (SchemaRefused refusal) =
     OneRefused schema_tokens schema_depth schemas refusal × IsOfSchemas schemas refusal (matter refusal.what)
 RefusedText schemas modules script (ModuleRefused refusal) =

@@ -10,7 +10,7 @@ returns-in-Err-clause-refused g c =
 pub loop-number-preserved : goal.loop-number-preserved
 loop-number-preserved g c =
     rw c.in_ok-push-in-Ok.ensures.items
-    (spelled_more g.T.TextTree.tokens c.args.all.now c.loop-number.number c.index-all-number.result c.loop-number.trees.items c.in-Ok.tree
+    (spelled_more g.T.TextTree.tokens g.T.TextTree.depth c.args.all.now c.loop-number.number c.index-all-number.result c.loop-number.trees.items c.in-Ok.tree
     c.loop-number-test.true c.index-all-number.is c.loop-number.invariant (rw c.as_slice.ensures.value at c.in-Ok.ensures.spelled))
 
 pub returns-in-Err-clause-spelling : goal.returns-in-Err-clause-spelling

@@ -4,4 +4,4 @@ use Rattle.sq_perform.proofs.texts.read_all.Given as goal
 
 -- the texts before this one have their trees
 abbrev pub invariant-loop-number : goal.invariant-loop-number
-invariant-loop-number g l = AllSpell g.T.TextTree.tokens (take l.number (texts l.all)) l.trees.items
+invariant-loop-number g l = AllSpell g.T.TextTree.tokens g.T.TextTree.depth (take l.number (texts l.all)) l.trees.items
