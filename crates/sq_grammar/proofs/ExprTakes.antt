@@ -131,7 +131,7 @@ foreign w user count sum avg min max = record {
     signs Plus ts = refl
     signs Minus ts = refl
 
--- nor does a star
+-- no expression begins with a star
 pub no_star : Starts (λ ts. sees (lexeme.Symbol symbol.Star) ts ≡ false)
 no_star = record {
   primary = record { number = λ n ts. refl; text = λ t ts. refl; colon = λ ts. refl; user = λ ts. refl; name = λ n ts. refl; function = by; bracket = λ e ts. refl };

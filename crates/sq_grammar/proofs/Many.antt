@@ -57,7 +57,7 @@ all_ends token item xs now after found r read e gone =
     let h : eat token now ≡ Ok (false, after) = e ∙ ap (λ b. Ok (b, after)) gone in
     front-none (behind token item) xs now after r read (rw h refl)
 
--- The same for a list with commas, whose first item is read before the loop.
+-- A list with commas that ends since no comma comes; its first item is read before the loop.
 pub listed_ends : {A : Type 0} (item : Parser A) (ts start now after : Tokens) (first : A) (xs : List A) (found : Bool) → item ts ≡ Ok (first, start) → with_front xs (all (behind comma item) now) ≡ all (behind comma item) start → eat comma now ≡ Ok (found, after) → found ≡ false → listed item ts ≡ Ok (record { first = first; rest = xs }, after)
 listed_ends item ts start now after first xs found one read e gone =
     let h = all_ends comma item xs now after found _ read e gone in

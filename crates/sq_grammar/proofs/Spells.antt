@@ -30,7 +30,7 @@ pub record Spells (ts text : Tokens) (d left : ℕ) (rest : Tokens) : Type 0 whe
 pub record Sound {A : Type 0} (p : Parser A) (text : A → Tokens) (depth : A → ℕ) (left : ℕ) : Type 0 where
   pub spells : (ts : Tokens) (x : A) (rest : Tokens) → p ts ≡ Ok (x, rest) → Spells ts (text x) (depth x) left rest
 
--- the same of a parser that goes on behind `done`, which is read already, with d for its depth
+-- what a parser reads behind `done`, which is read already and d deep, is spelled together with it by `text`
 pub record After {A : Type 0} (done : Tokens) (d left : ℕ) (p : Parser A) (text : A → Tokens) (depth : A → ℕ) : Type 0 where
   pub spells : (ts : Tokens) (x : A) (rest : Tokens) → d ≤ left → p ts ≡ Ok (x, rest) → Spells (done ++ ts) (text x) (depth x) left rest
 
@@ -45,7 +45,7 @@ ok_is x y e = cc
 pub ok_pair : {X : Type 0} (x y : X) (r s : Tokens) → let a : Outcome X = Ok (x, r) in let b : Outcome X = Ok (y, s) in a ≡ b → (x ≡ y) × (r ≡ s)
 ok_pair x y r s e = let p = ok_is (x, r) (y, s) e in (ap (λ q. q.0) p, ap (λ q. q.1) p)
 
--- the same depth, if_written in another way
+-- a depth may be written in another way
 pub as_deep : {A : Type 0} {p : Parser A} {text : A → Tokens} {depth deep : A → ℕ} {left : ℕ} → ((x : A) → deep x ≡ depth x) → Sound p text depth left → Sound p text deep left
 as_deep {left = left} same s = record {
   spells = λ ts x rest e.
@@ -310,7 +310,7 @@ either {A = A} {text = text} {depth = depth} {left = left} test p q {done = done
     by true ts x rest h e = a.spells ts x rest h e
     by false ts x rest h e = b.spells ts x rest h e
 
--- of a part of a condition, or of an expression alone
+-- the tokens of a part of a condition, or of an expression alone
 abbrev pub of_either : {A B : Type 0} → (A → B) → (Expr → B) → CondOrExpr A → B
 of_either whole bare (came.Cond x) = whole x
 of_either whole bare (came.Expr e) = bare e
@@ -352,7 +352,7 @@ eased a fits = record { spells = λ ts x rest h r. a.spells ts x rest (fits h) r
 pub behinds_with : {A : Type 0} {text : A → Tokens} {depth : A → ℕ} (token : Lexeme) (p : Parser A) (left : ℕ) → After (token ∷ []) 0 left p text depth → Sound (behind token p) (optional text) (optional_depth depth) left
 behinds_with token p left a = sound (eaten token _ (following p _ a (λ x. built (Some x) _ _ refl (λ h. h))) (built None _ _ refl (λ h. omega arith)))
 
--- the same of tokens that are a text by themselves
+-- one token that is a text by itself
 module _ {A : Type 0} (of : Lexeme → Option A) (text : A → Tokens) (is : (t : Lexeme) (x : A) → of t ≡ Some x → t ∷ [] ≡ text x) where
   first_spelled : (ts : Tokens) (x : A) → first_of of ts ≡ Some x → ts ≡ text x ++ rest ts
   first_spelled [] x e = cc

@@ -67,7 +67,7 @@ module _ {A : Type 0} where
   pub done : {a left : ℕ} {x : A} {rest : Tokens} → Takes (pure x) [] a a 0 left x rest
   done {a = a} = record { moves = λ h. moves-nil a; taken = λ h. refl; deep = λ h. absurd (omega arith) }
 
-  -- the same with another number for the depth, where it says the same of `left`
+  -- another number may stand for the depth, if it compares with `left` as the first does
   pub fits : {p : Parser A} {text : Tokens} {a b d e left : ℕ} {x : A} {rest : Tokens} → (e ≤ left → d ≤ left) → (left < e → left < d) → Takes p text a b d left x rest → Takes p text a b e left x rest
   fits f g t = record { moves = λ h. t.moves (f h); taken = λ h. t.taken (f h); deep = λ h. t.deep (g h) }
 
@@ -110,11 +110,11 @@ module _ {A B : Type 0} where
           let read : f x (more ++ rest) ≡ and_then (p (tx ++ (more ++ rest))) f = ap (λ r. and_then r f) (sym (s.taken room)) in
           subst (λ r. Deep r (tx ++ (more ++ rest)) a left) read (deep-behind (s.moves room) (t.deep (omega arith)))
 
-  -- the same where the first part has no depth
+  -- one part after another, where the first has no depth
   pub plainly : (p : Parser A) (f : A → Parser B) (x : A) {tx more : Tokens} {a b c e left : ℕ} {y : B} {rest : Tokens} → Takes p tx a b 0 left x (more ++ rest) → Takes (f x) more b c e left y rest → Takes (p >>= f) (tx ++ more) a c e left y rest
   plainly p f x s t = fits (λ h. omega arith) (λ h. omega arith) (andthen p f x s t)
 
-  -- where nothing more is read behind the first part
+  -- a first part behind which nothing more is read
   pub mapped : (p : Parser A) (f : A → Parser B) (x : A) {tx : Tokens} {a b d left : ℕ} {y : B} {rest : Tokens} → Takes p tx a b d left x rest → f x ≡ pure y → Takes (p >>= f) tx a b d left y rest
   mapped p f x {tx = tx} {a = a} {left = left} {y = y} {rest = rest} s e = record {
     moves = s.moves;
@@ -122,11 +122,11 @@ module _ {A B : Type 0} where
     deep = λ h. deep-then _ f (s.deep h);
   }
 
--- the same of another way to write the tokens
+-- the tokens may be written in another way
 pub respelled : {A : Type 0} {p : Parser A} {t u : Tokens} {a b d left : ℕ} {x : A} {rest : Tokens} → t ≡ u → Takes p t a b d left x rest → Takes p u a b d left x rest
 respelled {p = p} {a = a} {b = b} {d = d} {left = left} {x = x} {rest = rest} e s = subst (λ ts. Takes p ts a b d left x rest) e s
 
--- the same tokens, read otherwise
+-- two parsers that answer alike take the same tokens
 pub alike : {A : Type 0} {p q : Parser A} {text : Tokens} {a b d left : ℕ} {y : A} {rest : Tokens} → p (text ++ rest) ≡ q (text ++ rest) → Takes q text a b d left y rest → Takes p text a b d left y rest
 alike {text = text} {a = a} {left = left} {rest = rest} e s = record {
   moves = s.moves;
@@ -333,7 +333,7 @@ module _ {A : Type 0} (item : Parser A) (tx : A → Tokens) (a left : ℕ) (Foll
   pub flat_commas : (list : CommaList A) (rest : Tokens) → Follows rest → sees comma rest ≡ false → Takes (listed item) (comma_tokens tx list) a a 0 left list rest
   flat_commas list rest f none = let z = no_depth list in fits (λ h. omega arith) (λ h. omega arith) (commas item tx (λ _. 0) a left Follows each starts list rest f none)
 
--- the same items, each one deeper
+-- items that are each one deeper are together one deeper
 deeper_all : {A : Type 0} (depth : A → ℕ) (n : ℕ) (xs : List A) → max (suc n) (greatest (map (λ x. suc (depth x)) xs)) ≡ suc (max n (greatest (map depth xs)))
 deeper_all depth n [] = omega arith
 deeper_all depth n (x ∷ xs) = let h = deeper_all depth n xs in omega arith

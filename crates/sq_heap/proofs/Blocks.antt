@@ -95,7 +95,7 @@ counted_least cs ss later at q old counts turns e =
     let one : row_in q at old ≡ rows_of old = in_block q at old here in
     omega (arith, counts q, one, turns q)
 
--- nor are they more than the slots
+-- a block has no more rows than there are slots
 pub counted_most : (cs : List ℕ) (ss later : List Slot) (at q v : ℕ) (s old : Slot) → Counted cs ss → Turns at old s ss later → q ≡ at / BLOCK → v + rows_of old ≡ slice_index_or cs q 0 + rows_of s → v ≤ length later
 counted_most cs ss later at q v s old counts turns e sum =
     let here : nat_eq (at / BLOCK) q ≡ true = grind (arith, common_steps) in

@@ -145,7 +145,7 @@ length_of_set (x ∷ ls) (suc i) l = ap suc (length_of_set ls i l)
 
 -- ---- an index with an entry more
 
--- so many entries and such heads are those of an index with one entry more, which is in front of its chain
+-- these entries and heads are those of an index with one entry more, which is in front of its chain
 pub record OneMore (x : Index) (entries : List Entry) (heads : List ℕ) (hash : ℕ) (e : Entry) : Type 0 where
   pub entries_are : entries ≡ x.entries.items ++ e ∷ []
   pub next_is : e.next ≡ slice_index_or x.heads.items (hash % length x.heads.items) 0
@@ -191,14 +191,14 @@ bucket_other x entries heads hash e m other f =
     ∙ ap (λ (xs : List Entry). chain_of xs (slice_index_or hs (other % length hs) 0)) m.entries_are
     ∙ chain_other es e (slice_index_or hs (other % length hs) 0) (within_at (length es) hs (other % length hs) x.within)
 
--- it keeps what it had
+-- an index with one entry more keeps the entries that it had
 pub keeps_more : (x : Index) (entries : List Entry) (heads : List ℕ) (hash : ℕ) (e : Entry) → OneMore x entries heads hash e → (other place : ℕ) → has_entry x other place ≡ true
     → list_any (is_entry other place) (found entries heads other) ≡ true
 keeps_more x entries heads hash e m other place h = by_test (nat_eq (hash % length x.heads.items) (other % length x.heads.items))
     (λ t. ap (list_any (is_entry other place)) (bucket_same x entries heads hash e m other t) ∙ or_right (is_entry other place e) (list_any (is_entry other place) (bucket_of x other)) h)
     (λ f. ap (list_any (is_entry other place)) (bucket_other x entries heads hash e m other f) ∙ h)
 
--- and has the new one
+-- an index with one entry more has the new one
 pub has_more : (x : Index) (entries : List Entry) (heads : List ℕ) (hash at : ℕ) (e : Entry) → OneMore x entries heads hash e → e.hash ≡ hash → e.at ≡ at
     → list_any (is_entry hash at) (found entries heads hash) ≡ true
 has_more x entries heads hash at e m under place =

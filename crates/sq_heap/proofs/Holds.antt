@@ -19,7 +19,7 @@ right_of false b h = cc
 
 -- ---- slots
 
--- of the row in one slot
+-- what holds of all slots holds of the row in one
 pub holds_at : (P : Test) (n : ℕ) (ss : List Slot) (j : ℕ) (q : List Value) → slots_hold P n ss ≡ true → slot_at ss j ≡ Some q → P q (n + j) ≡ true
 holds_at P n [] j q h e = cc
 holds_at P n (None ∷ ss) zero q h e = cc
@@ -34,7 +34,7 @@ holds_at P n (Some r ∷ ss) (suc j) q h e =
     let k : n + suc j ≡ n + 1 + j = omega arith in
     ap (P q) k ∙ holds_at P (n + 1) ss j q (right_of (P r n) (slots_hold P (n + 1) ss) h) e
 
--- of the slot that was there
+-- what holds of all slots holds of the slot at a place
 pub holds_of : (P : Test) (n : ℕ) (ss : List Slot) (i : ℕ) (old : Slot) (k : ℕ) → k ≡ n + i → i < length ss → old ≡ get_or ss i old → slots_hold P n ss ≡ true → slot_holds P k old ≡ true
 holds_of P n [] i old k e lt o h = absurd (omega arith)
 holds_of P n (s ∷ ss) zero old k e lt o h =
@@ -53,7 +53,7 @@ holds_set P n (r ∷ ss) zero s k e h t = let same : n ≡ k = omega arith in bo
 holds_set P n (r ∷ ss) (suc i) s k e h t =
     both (left_of (slot_holds P n r) (slots_hold P (n + 1) ss) h) (holds_set P (n + 1) ss i s k (omega arith) (right_of (slot_holds P n r) (slots_hold P (n + 1) ss) h) t)
 
--- of a slot more
+-- what holds of the first slots and of the next one holds of one slot more
 pub holds_more : (P : Test) (n : ℕ) (ss : List Slot) (i : ℕ) (s : Slot) (k : ℕ) → k ≡ n + i → i < length ss → s ≡ get_or ss i s → slots_hold P n (take i ss) ≡ true → slot_holds P k s ≡ true → slots_hold P n (take (i + 1) ss) ≡ true
 holds_more P n ss i s k e lt o h t = let one : i + 1 ≡ suc i = omega arith in ap (λ (m : ℕ). slots_hold P n (take m ss)) one ∙ one_more n ss i e lt o h
   where

@@ -6,7 +6,7 @@ use Rattle.sq_heap.specs.declared.index.Entry.{Entry}
 abbrev pub entry_at : List Entry → ℕ → Entry
 entry_at entries place = slice_index_or entries place (record { hash = 0; at = 0; next = 0 })
 
--- the chain from an entry on, where it is among so many entries
+-- the chain that a link leads to, among the first `count` entries
 abbrev pub chain : List Entry → ℕ → ℕ → List Entry
 chain entries zero link = []
 chain entries (suc count) link = if nat_eq link (suc count) then entry_at entries count ∷ chain entries count (entry_at entries count).next else chain entries count link

@@ -4,7 +4,7 @@ use Rattle.sq_store.specs.declared.change.Change.{Change}
 use Rattle.sq_store.specs.declared.change.Change.TheVariants.{Insert, Replace, Remove}
 use Rattle.sq_heap.specs.Index.{Test}
 
--- of the row that a change puts in, where a new row gets a slot
+-- the test holds of the row that a change puts in, in its slot; a new row gets the slot `next`
 abbrev pub change_holds : Test → ℕ → Change → Bool
 change_holds test next (Insert row) = test row next
 change_holds test next (Replace number row) = test row (number - 1)

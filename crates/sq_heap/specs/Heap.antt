@@ -33,7 +33,7 @@ table_keys t = keys_of t.indexes.items
 abbrev pub all_keys : List HeapTable → List Keys
 all_keys tables = map table_keys tables
 
--- of each table the columns of its first indexes, as many as it has keys
+-- the columns of each table's first indexes, as many as the table has keys
 abbrev pub first_keys : List Keys → List Keys → List Keys
 first_keys [] all = []
 first_keys (ks ∷ keys) [] = []

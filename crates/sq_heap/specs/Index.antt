@@ -44,12 +44,12 @@ abbrev pub slot_holds : Test → ℕ → Slot → Bool
 slot_holds test at None = true
 slot_holds test at (Some row) = test row at
 
--- of the rows in slots, where the first slot is at a place
+-- the test holds of the row in each slot; the first slot is at the place `at`
 abbrev pub slots_hold : Test → ℕ → List Slot → Bool
 slots_hold test at [] = true
 slots_hold test at (s ∷ slots) = slot_holds test at s && slots_hold test (at + 1) slots
 
--- of the rows that undoing brings back
+-- the test holds of each row that undoing brings back
 abbrev pub undo_holds : Test → List Undo → Bool
 undo_holds test undo = list_all (λ u. slot_holds test u.at u.old) undo
 

@@ -9,7 +9,7 @@ pub record KeepsRoom {X : Type 0} (list later : Vec X Global) : Type 0 where
   pub len : vec_len later ≤ vec_len list + 1
   pub room : vec_capacity list ≤ vec_capacity later
 
--- there is room for so many more slots, and a count for the block of each
+-- there is room for `count` more slots, and a count for the block of each
 pub record HasSlots (slots : Slots) (count : ℕ) : Type 0 where
   pub list : vec_len slots.list + count ≤ vec_capacity slots.list
   pub blocks : length slots.list.items + count ≤ BLOCK * length slots.counts.items

@@ -14,7 +14,7 @@ use std::alloc::{AllocError, Global};
 pub(crate) struct Entry {
     pub(crate) hash: u64,
     pub(crate) at: usize,
-    /// The entry before it in its chain: one more than its place, or 0 where there is none.
+    /// One more than the place of the entry before it in its chain, or 0 if it is the first.
     pub(crate) next: usize,
 }
 
@@ -25,7 +25,7 @@ pub(crate) struct Entry {
 #[derive(Drop)]
 pub(crate) struct Index {
     columns: Items<usize>,
-    /// Of each chain the last entry: one more than its place, or 0 where there is none.
+    /// One more than the place of each chain's last entry, or 0 where the chain has no entries.
     heads: Vec<usize>,
     entries: Vec<Entry>,
     ghost some: { 0 < length heads.items },
@@ -37,7 +37,7 @@ impl Index {
     ghost use Rattle.std.specs.Prelude.{ℕ};
     ghost use Rattle.sq_heap.specs.Index.{bucket_of, has_entry, is_in};
 
-    /// An index without entries, and with room for so many.
+    /// An index without entries, and with room for `count`.
     pub(crate) fn new(
         alloc: Global,
         columns: Items<usize>,
@@ -61,7 +61,7 @@ impl Index {
         self.columns.as_slice()
     }
 
-    /// Whether so many entries more would make it slow.
+    /// Whether `more` entries would make it slow.
     pub(crate) fn is_full(&self, more: usize) -> bool
         requires { more < 2 ^ 63 }
     {

@@ -1,3 +1,5 @@
+//! How the last change of the store is found again.
+
 /// Where the last `apply` began.
 #[derive(Clone, Copy)]
 pub(crate) struct Mark {

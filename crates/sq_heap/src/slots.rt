@@ -22,7 +22,7 @@ pub(crate) const BLOCK: usize = 1_024;
 #[derive(Drop)]
 pub(crate) struct Slots {
     list: Vec<Option<Row>>,
-    /// Of each block, how many rows it has. There may be counts of blocks to come.
+    /// How many rows each block has. There may be counts of blocks that have no slots yet.
     counts: Vec<usize>,
     ghost covered: { length list.items ≤ BLOCK * length counts.items },
     ghost counted: { (block : ℕ) → slice_index_or counts.items block 0 ≡ rows_in block 0 list.items },
@@ -120,7 +120,7 @@ impl Slots {
         at % BLOCK == 0 && self.counts[at / BLOCK] == 0
     }
 
-    /// Makes room for so many more slots.
+    /// Makes room for `count` more slots.
     pub(crate) fn reserve(&mut self, count: usize) -> Result<(), AllocError>
         ensures list { self.new.list.items ≡ self.old.list.items }
         ensures room { OnOk result (HasSlots self.new count) }

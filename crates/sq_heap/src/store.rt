@@ -1,3 +1,5 @@
+//! The store that keeps its tables as slots with indexes.
+
 ghost use Rattle.std.specs.Prelude.{◌≡◌, ◌≤◌, ◌<◌, ◌+◌, ◌++◌, ◌∷◌, [], ℕ, List, Option, false, true, Some, None, length, slice_set, take, IfOk, OnErr, OnOk};
 ghost use Rattle.std.specs.List.{list_all};
 ghost use Rattle.sq_store.specs.Change.{rows_put};
@@ -20,10 +22,11 @@ use std::alloc::{AllocError, Global};
 ///
 /// `apply`, `take_back`, `commit` and `rollback` cost what changes, and `find_key` and `has_row` look at the rows with the hash
 /// of the values (`has_row` where `new` was given its columns; else at all rows). An index that is full is made anew over the
-/// whole table, which falls to each change as a part that doesn't grow with the table. `next_from` passes at most the slots of two blocks, and the blocks between that have no rows.
+/// whole table, which falls to each change as a part that doesn't grow with the table. `next_from` passes at most the slots
+/// of two blocks, and the blocks between that have no rows.
 #[derive(Drop)]
 pub struct HeapStore {
-    /// Of each table the columns of each key.
+    /// The columns of each key of each table.
     keys: Items<Items<Items<usize>>>,
     row_numbers: u64,
     tables: Vec<HeapTable>,
@@ -191,7 +194,8 @@ fn lookups_at(lookups: &[Items<Items<usize>>], table: usize) -> &[Items<usize>] 
     }
 }
 
-/// Makes all changes of a table, so many of whose indexes are of keys, or none. Says how many changes of it there were before.
+/// Makes all changes of a table, whose first indexes are those of keys, or none. Answers how many changes of it there were
+/// before.
 fn apply_to(
     alloc: Global,
     tables: &mut Vec<HeapTable>,

@@ -1,3 +1,5 @@
+//! A table as slots with indexes, and what undoes its changes.
+
 ghost use Rattle.std.specs.Prelude.{◌≡◌, ◌<◌, ◌≤◌, ◌+◌, ◌-◌, ◌++◌, ◌^◌, [], ℕ, false, true, drop, is_some, length, slice_index_or, slice_set, take, vec_capacity, vec_len, IfOk, MatchOption, None, Some, OnErr, OnOk};
 ghost use Rattle.std.specs.List.{list_all};
 ghost use Rattle.sq_store.specs.Change.{rows_put};
@@ -158,8 +160,8 @@ impl HeapTable {
         }
     }
 
-    /// Makes all changes, or none. No two rows may then have the same key, where so many of the indexes are of keys. Says how
-    /// many changes there were before.
+    /// Makes all changes, or none if two rows would then have the same key; the first `keys` indexes are those of keys. Answers
+    /// how many changes there were before.
     ///
     /// All memory is taken before the first change. An entry for a row that isn't put in does no harm.
     #[tactic(auto, using(crate::proofs::Back::goes_back_before, crate::proofs::Back::goes_back_committed, crate::proofs::Back::goes_back_take, sq_store::proofs::Sound::have_keys_changed_by))]
@@ -224,7 +226,7 @@ impl HeapTable {
         enter_changes(&mut self.indexes, changes, self.slots.len())
     }
 
-    /// Makes each index anew that so many entries more would make slow.
+    /// Rebuilds each index that `count` more entries would make slow.
     #[tactic(auto, using(crate::proofs::Entries::same_length))]
     fn renew_all(&mut self, alloc: Global, count: usize) -> Result<(), AllocError>
         requires { count < 2 ^ 63 }
@@ -255,8 +257,8 @@ impl HeapTable {
         Ok(())
     }
 
-    /// Whether no two rows have the same key, where so many of the indexes are of keys, and no two had before the changes
-    /// from a place on.
+    /// Whether no two rows have the same key. The first `keys` indexes are those of keys, and no two rows had the same key
+    /// before the changes from the place `from` on.
     fn has_distinct_keys(&self, keys: usize, from: usize) -> bool
         requires keys { keys ≤ length self.now.indexes.items }
         requires place { from ≤ length self.now.undo.items }

@@ -1,3 +1,5 @@
+//! What undoes one change.
+
 use sq_value::Row;
 
 /// What undoes a change of a slot.

@@ -1,3 +1,5 @@
+//! Values on the heap that contracts see as the values.
+
 ghost use Rattle.std.specs.Prelude.{◌≡◌, IfOk};
 
 use std::alloc::{AllocError, Global};

@@ -1,3 +1,5 @@
+//! Lists that contracts see as their elements.
+
 ghost use Rattle.std.specs.Prelude.{◌≡◌, ◌++◌, ◌∷◌, ◌↔◌, [], length, IfOk, IsTrue, OnErr, OnOk};
 
 use std::alloc::{AllocError, Global};

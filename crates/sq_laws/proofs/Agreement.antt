@@ -31,7 +31,7 @@ use Rattle.sq_meaning.specs.Query.{compared, comparison, and_also, or_else, any_
 abbrev shown_of : {N : Naming} → Reading N → Bool → SelectList N → Clause N → Env N.Item → List (Scope N.Item) → Outcome (List Row)
 shown_of m d l h env scopes = and_then (kept (λ s. is_true (clause_truth m h (within s env))) scopes) (λ left. and_then (each (λ s. listed_values m l (within s env)) left) (λ found. Ok (if d then firsts same_row found else found)))
 
--- the same over a list, by a condition and a row of each
+-- The rows shown of a list, by a condition and a row of each element.
 abbrev shown_by : {X : Type 0} → Bool → (X → Outcome Truth) → (X → Outcome Row) → List X → Outcome (List Row)
 shown_by d t f xs = and_then (kept (λ x. is_true (t x)) xs) (λ left. and_then (each f left) (λ found. Ok (if d then firsts same_row found else found)))
 

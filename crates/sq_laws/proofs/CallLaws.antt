@@ -335,7 +335,7 @@ constraints_after : (elements : Elements) (before behind : Content) → NamesDif
 constraints_after elements before behind differ hold c =
     (λ place t there. domains_for elements before behind differ hold.0 c place t there (cases_eq place c.place), checks_after elements before behind differ hold.1 c)
 
--- of the database now, and of the database at the last COMMIT
+-- All constraints hold of the database now, and of the database at the last COMMIT.
 abbrev pub StateHolds : Elements → State → Type 0
 StateHolds elements s = ConstraintsHold elements s.tables × ConstraintsHold elements s.committed
 

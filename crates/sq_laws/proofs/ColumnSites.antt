@@ -209,7 +209,7 @@ first_found k c queries (p ∷ ps) e some all = record { place = p; others = ps;
 pub meant : (k : Known) (c : ColumnReference) (queries : List EnclosingQuery) → AreKnown k queries → (length (fits k c queries) == 0) ≡ false → Means k c queries
 meant k c queries known some = first_found k c queries (fits k c queries) refl some (places_there k c queries known)
 
--- it has a kind
+-- A column that a reference means has a kind.
 pub column_valued : (k : Known) (c : ColumnReference) (queries : List EnclosingQuery) → AreKnown k queries → Means k c queries → HasValue ((kinds_by_name k.tables k.parameters).column c (froms_of queries))
 column_valued k c queries known at =
     subst (λ (r : Outcome Kind). HasValue r)
@@ -217,7 +217,7 @@ column_valued k c queries known at =
     ∙ ap (λ (r : Outcome Place). and_then r (kind_at k.tables (froms_of queries))) (place_is k c queries at.place at.others at.found)))
     at.there.0
 
--- and may be read where its query has a line
+-- A column that a reference means may be read where its query has a line.
 pub may_read : (k : Known) (rows_of : TableName → Outcome (List Row)) (c : ColumnReference) (queries : List EnclosingQuery) (lines : List (Lines Named)) → AreKnown k queries → (at : Means k c queries)
     → from_clauses lines ≡ froms_of queries → HasLine lines at.place.depth
     → MayRead (reading_by_name k.tables rows_of) (kinds_by_name k.tables k.parameters) (IsDeclaredIn k.parameters) lines c

@@ -88,7 +88,7 @@ a_text (Ok (Chars n)) h e = refl
 a_text (Ok (Vary n)) h e = refl
 a_text (Err status) h e = absurd h
 
--- as many kinds as columns are counted
+-- There are as many kinds as columns.
 abbrev pub HasCount : ℕ → Outcome (List Kind) → Type 0
 HasCount count o = Has (λ kinds. length kinds ≡ count) o
 
@@ -192,7 +192,7 @@ select_count_there k queries allowed known (select distinct list from filter by 
     let parts = parts_of k queries allowed distinct list from filter by having s in
     list_kinds_count k queries (shown_query from list by having) (parts.known, known) list (is_grouped list by having) n.0 parts.shown
 
--- as evaluation sees the query of a select list
+-- A query specification has a line as evaluation sees it exactly where the rules say so.
 line_same : (grouped : Bool) (by : List ColumnReference) → has_line_of (if grouped then Some by else None) ≡ (not grouped || is_some_of by)
 line_same true [] = refl
 line_same true (c ∷ cs) = refl

@@ -59,7 +59,7 @@ pub next_goes_on : (now : ℕ → Option (List Value)) (rows : List (List Value)
     → fetched now Move.next (CursorState.over_rows rows place) ≡ record { cursor = CursorState.over_rows rows (suc place); row = slice_get rows place }
 next_goes_on now rows place h = ap (at_place rows) (next_within (length rows) place h)
 
--- and behind the last row it stays, without a row, again and again.
+-- Behind the last row a cursor stays there, without a row, again and again.
 pub next_stays_behind : (now : ℕ → Option (List Value)) (rows : List (List Value))
     → fetched now Move.next (CursorState.over_rows rows (suc (length rows))) ≡ record { cursor = CursorState.over_rows rows (suc (length rows)); row = slice_get rows (length rows) }
 next_stays_behind now rows = ap (at_place rows) (stays_behind (length rows))

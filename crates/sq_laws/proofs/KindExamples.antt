@@ -69,7 +69,7 @@ by_c = of_table (codes "T") (C ∷ count_rows ∷ []) (present (compare Equal K 
 by_c_is_well_formed : IsWellFormed by_c
 by_c_is_well_formed = (((tt, tt), tt), ((tt, refl), ((tt, tt), tt)), ((tt, refl), (tt, tt), refl), ((tt, refl), tt), tt)
 
--- and so it is not answered with 42000
+-- Since it is well formed, it is not answered with 42000.
 by_c_answers : Answers (λ rs. AreRowsOf (kind.Chars 1 ∷ kind.Num 0 ∷ []) rs) (found by_c)
 by_c_answers = cursor_of_kinds tables content (codes "U") [] [] (specification by_c) [] declared_so tt by_c_is_well_formed
 

@@ -173,7 +173,7 @@ apart_all : (elements : Elements) → NewNames elements → Apart (base_tables e
 apart_all [] new = λ i j t u there_i there_j same. cc
 apart_all (e ∷ before) new = apart_to e.user e.element before new.0 (apart_all before new.1)
 
--- so a base table is found by its name
+-- A base table is found at its place.
 chosen_place : (n place count : ℕ) → n ≡ place → place < count → cond (nat_lt n count) (Some n) None ≡ Some place
 chosen_place n place count e h = ap (λ (k : ℕ). cond (nat_lt k count) (Some k) None) e ∙ picked (nat_lt place count) (lt-ltb place count h)
   where
@@ -201,7 +201,7 @@ names_differ elements apart place t there = place_found (base_tables elements) p
 pub accepted_names_differ : (texts : List SchemaText) → first_schema_refusal texts ≡ None → NamesDiffer (elements_of texts)
 accepted_names_differ texts e = names_differ (elements_of texts) (apart_all (elements_of texts) (new_names [] [] (schema_parts texts) tt e))
 
--- and so, where all constraints hold of both databases, they hold after each call.
+-- In schemas that are not refused, where all constraints hold of both databases, they hold after each call.
 pub accepted_hold_after : (texts : List SchemaText) (modules : List ModuleText) (row_numbers : ℕ) (s : State) (c : Call) → first_schema_refusal texts ≡ None
     → StateHolds (elements_of texts) s → StateHolds (elements_of texts) (stepped (program_of texts modules row_numbers) s c)
 accepted_hold_after texts modules row_numbers s c e hold = constraints_hold_after (program_of texts modules row_numbers) s c (accepted_names_differ texts e) hold

@@ -26,7 +26,7 @@ sort_columns_there k names (sort ∷ sorts) s =
     both_valued (key_column names sort.key) (sort_column sort) (sort_columns names sorts)
     (not_err (key_column names sort.key) s.0.sort_keys) (sort_columns_there k names sorts s.1)
 
--- and so where the names of the result columns are known
+-- The sort keys mean columns where the names of the result columns are known.
 pub sort_order_there : (k : Known) (names : Outcome (List (Option Name))) (sorts : List SortSpecification) → HasValue names → AreSound k (sort_sites names sorts)
     → HasValue (and_then names (λ known. sort_columns known sorts))
 sort_order_there k (Ok names) sorts h s = sort_columns_there k names sorts s

@@ -55,14 +55,14 @@ sound_select_into_answers r s d e =
     (all_parts (IsSound (known_in (surroundings r))) (select_sites (known_in (surroundings r)) outside (select_of_statement r.in_module.authorization s)) _
     (sound_sites (judged_by (surroundings r) (known_in (surroundings r))) (select_into_sites (surroundings r) s) e)).0)
 
--- so is one that is well formed by the rules
+-- A SELECT INTO that is well formed by the rules is not answered with 42000.
 pub well_formed_select_into_answers : (r : Running) (s : SelectStatement) → IsDeclaredState r
     → is_well_formed (judged_by (surroundings r) (known_in (surroundings r))) (select_into_sites (surroundings r) s) ≡ true → IsNoSyntaxError ((select_into r s).1).status
 well_formed_select_into_answers r s d e =
     sound_select_into_answers r s d
     (no_syntax_fault (has_syntax_fault (judged_by (surroundings r) (known_in (surroundings r))) (select_into_sites (surroundings r) s)) (lacks_privilege (judged_by (surroundings r) (known_in (surroundings r))) (select_into_sites (surroundings r) s)) e)
 
--- and so a call of a procedure whose statement is a SELECT INTO that is well formed
+-- A call of a procedure whose statement is a well-formed SELECT INTO is not answered with 42000.
 pub called_select_into_answers : (p : Program) (s : State) (values : List Value) (m : ModuleText) (procedure : Procedure) (q : SelectStatement) → procedure.statement ≡ statement.Select q
     → IsDatabaseOf (tables_of p.elements) s.tables m.authorization → length (declared_parameters procedure) ≡ length values
     → is_well_formed_procedure p.elements m procedure ≡ true → IsNoSyntaxError ((call_of p s values m procedure).1).status
@@ -86,7 +86,7 @@ sound_cursor_answers r c d same e =
     (subst (λ (parameters : List Declared). WellFormedQuery (reading (setting r)) (kinds_by_name (tables_of r.program.elements) parameters) (IsDeclaredIn parameters) (cursor_query (surroundings r) c)) same
     (query_well_formed (known_in_query (opener_surroundings (surroundings r) c)) (table_rows (tables_of r.program.elements) r.state.tables r.in_module.authorization) (cursor_query (surroundings r) c) (query_spells r.in_module.authorization c.query) parts.0))
 
--- and so where exactly one procedure opens the cursor, and this one does
+-- The rows of a cursor are not answered with 42000 where exactly one procedure opens it, and this one does.
 pub opened_cursor_answers : (r : Running) (name : Name) (c : Cursor) → IsDeclaredState r → procedure_named r.in_module name ≡ Some r.procedure → opens c.name r.procedure.statement ≡ true → opener_count r.in_module c.name ≡ 1
     → is_sound (surroundings r) c ≡ true → Ends (cursor_rows r c)
 opened_cursor_answers r name c d there does once e = sound_cursor_answers r c d (opener_is r.in_module name c.name r.procedure there does once) e

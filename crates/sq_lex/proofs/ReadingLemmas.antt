@@ -36,7 +36,7 @@ tokens_from-drop position zero bytes = refl
 tokens_from-drop position (suc n) [] = refl
 tokens_from-drop position (suc n) (b ∷ bytes) = tokens_from-drop (next position b) n bytes
 
--- the same, where the piece has this first byte
+-- after the bytes of a piece whose first byte is b the reading goes on at the next position
 rest_of_piece : (position : Position) (size b : ℕ) (bytes : List ℕ) → 0 < size → tokens_from (next position b) (size - 1) bytes ≡ tokens_from (past position (take size (b ∷ bytes))) 0 (drop size (b ∷ bytes))
 rest_of_piece position zero b bytes some = absurd (omega arith)
 rest_of_piece position (suc n) b bytes some =

@@ -30,7 +30,7 @@ symbol-at symbol.GreaterOrEqual = refl
 pub same_symbol-true : (a b : Symbol) → same_symbol a b ≡ true → a ≡ b
 same_symbol-true a b e = sym (symbol-at a) ∙ ap (λ n. get_or symbols n symbol.Open) (eqb-true (symbol_rank a) (symbol_rank b) e) ∙ symbol-at b
 
--- so comparing ranks compares symbols
+-- comparing ranks compares symbols
 pub same_symbol_ranks : (p q : ℕ) (a b : Symbol) → p ≡ symbol_rank a → q ≡ symbol_rank b → IsTrue (eqb p q) ↔ (a ≡ b)
 same_symbol_ranks p q a b at_a at_b = (
   λ same. same_symbol-true a b (ap (λ n. eqb n (symbol_rank b)) (sym at_a) ∙ ap (eqb p) (sym at_b) ∙ same),

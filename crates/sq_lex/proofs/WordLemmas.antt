@@ -106,7 +106,7 @@ rank-tag word.Work = refl
 pub same_word-true : (a b : Word) → same_word a b ≡ true → a ≡ b
 same_word-true a b same = tag_one the_type (search rules) a b (sym (rank-tag a) ∙ eqb-true (rank a) (rank b) same ∙ rank-tag b)
 
--- so comparing ranks compares words
+-- comparing ranks compares words
 pub same_ranks : (p q : ℕ) (a b : Word) → p ≡ rank a → q ≡ rank b → IsTrue (eqb p q) ↔ (a ≡ b)
 same_ranks p q a b at_a at_b = (
   λ same. same_word-true a b (ap (λ n. eqb n (rank b)) (sym at_a) ∙ ap (eqb p) (sym at_b) ∙ same),

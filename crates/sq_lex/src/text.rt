@@ -42,7 +42,7 @@ impl Characters {
         self.codes.as_slice()
     }
 
-    /// The same characters once more.
+    /// A copy of the characters.
     pub fn copy(&self, alloc: Global) -> Result<Characters, AllocError>
         ensures { IfOk result (λ copy. copy ≡ self.now) }
     {

@@ -20,7 +20,7 @@ use Rattle.sq_value.specs.Spelling.{is_point, are_digits, read_parts, read}
 no_point : (c : ℕ) → is_ascii_digit c ≡ true → not (is_point c) ≡ true
 no_point c h = grind (arith, nat_tests)
 
--- as many bytes as digits stand before the first point, or before the end
+-- the first point, or the end, comes after the digits of the whole part
 whole_size : (whole rest : List ℕ) → list_all is_ascii_digit whole ≡ true → position_or_len is_point rest ≡ 0 → position_or_len is_point (whole ++ rest) ≡ length whole
 whole_size [] rest h e = e
 whole_size (c ∷ cs) rest h e =

@@ -35,7 +35,8 @@ pub fn domain_of(data_type: &DataType) -> Option<Domain>
 }
 
 fn exact(written: &Precision) -> Option<Domain>
-    ensures { result ≡ meaning.exact_domain (meaning.whole written.now.precision) (meaning.scale_of written.now.scale) }
+    ensures { result ≡ meaning.exact_domain (meaning.whole written.now.precision)
+        (meaning.scale_of written.now.scale) }
 {
     let precision = whole(written.precision)?;
     let scale = match written.scale {
@@ -50,7 +51,8 @@ fn exact(written: &Precision) -> Option<Domain>
 
 /// The length of a text, from 1 to 240.
 fn length_of(number: Number) -> Option<u16>
-    ensures meaning { (texts : ℕ → AnyDomain) → option_map texts result ≡ meaning.text_domain texts (meaning.whole number) }
+    ensures meaning { (texts : ℕ → AnyDomain)
+        → option_map texts result ≡ meaning.text_domain texts (meaning.whole number) }
     ensures within { IfSome result (λ length. (1 ≤ length) × (length ≤ 240)) }
 {
     let length = whole(number)?;

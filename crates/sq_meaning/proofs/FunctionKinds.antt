@@ -79,7 +79,7 @@ module _ {N : Naming} (m : Reading N) (k : Kinds N) (IsDeclared : N.Parameter �
   of_list g all_columns w = tt
   of_list g (expressions es) w = all_flat_mapped (WellFormedExpr m k IsDeclared levels) (WellFormedExpr m k IsDeclared levels) set_functions of_whole es w
 
-  -- those of a select list and of HAVING
+  -- the set functions of a select list and of HAVING are well formed
   pub functions_well_formed : (g : Bool) (list : SelectList N) (having : Clause N) → WellFormedList m k IsDeclared levels g list → WellFormedClause m k IsDeclared levels having
       → WellFormedExprs m k IsDeclared levels (list_functions list ++ clause_functions having)
   functions_well_formed g list having w h = joined (list_functions list) (clause_functions having) (of_list g list w) (of_clause having h)

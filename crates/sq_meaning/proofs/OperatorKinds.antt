@@ -103,7 +103,7 @@ times_no_text Over (kind.Num s) (kind.Vary n) t h = tt
 times_no_text Over (kind.Chars n) y t h = tt
 times_no_text Over (kind.Vary n) y t h = tt
 
--- at most 18 places, or no kind
+-- a product has at most 18 places, or no kind
 product_places : (a b : Number) → Fits IsOfKind (of_scale (a.scale + b.scale)) (with_places (a.scale + b.scale) (number_outcome (number.multiplied a b)))
 product_places a b = split (nat_le (a.scale + b.scale) 18)
   where

@@ -83,7 +83,7 @@ padded_equal (x ∷ t) n = (λ i. ordering_then (code_equal x i) (padded_equal t
 pub blanks_are_same : (t : List ℕ) (n : ℕ) → is_same (Chars t) (Chars (t ++ replicate n 32)) ≡ true
 blanks_are_same t n = ap is_eq (front_is t (t ++ replicate n 32) ∙ padded_equal t n)
 
--- and so it makes no group of its own
+-- a value that is the same as the one before it makes no group of its own
 pub one_for_both : {A : Type 0} (same : A → A → Bool) (x y : A) → same x y ≡ true → firsts same (x ∷ y ∷ []) ≡ x ∷ []
 one_for_both same x y h = ap (λ b. x ∷ cond (not b) (y ∷ []) []) h
 
@@ -94,7 +94,7 @@ one_class same x y h k =
 
 -- ---- order
 
--- those that tie with z
+-- whether y ties with z
 abbrev pub ties : {A : Type 0} → (A → A → Ordering) → A → A → Bool
 ties cmp z y = is_eq (cmp z y)
 

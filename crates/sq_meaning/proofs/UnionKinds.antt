@@ -145,7 +145,7 @@ module _ {N : Naming} (m : Reading N) (k : Kinds N) (IsDeclared : N.Parameter �
       (λ ls h. then_answers (AreRowsOfKnown (query_kinds k right)) (AreRowsOfKnown (query_kinds k (union all left right))) (query_rows m k right env) (λ rs. and_then (query_kinds k (union all left right)) (after_kinds all (ls ++ rs)))
       (query_of_kinds right env w.1 e) (λ rs g. both_fit all ls rs (query_kinds k left) (query_kinds k right) h g w.2))
 
-  -- and in the order of ORDER BY
+  -- the rows of a query expression in the order of ORDER BY are of its kinds
   pub ordered_of_kinds : (q : Query N) (order : List SortColumn) (env : Env N.Item) → WellFormedQuery m k IsDeclared q → IsEnvOf m k IsDeclared [] env
       → Answers (λ found. Has (λ kinds. AreRowsOf kinds found) (query_kinds k q)) (ordered_rows m k q order env)
   ordered_of_kinds q order env w e =

@@ -23,7 +23,9 @@ assigned d (Chars t) = or_status TextTooLong (option_map Chars (storing.kept d t
 -- the value as a parameter of the domain receives it and, where a text was cut, its length before (9.1)
 abbrev pub retrieved_into : Domain → Value → Outcome Retrieved
 retrieved_into d Null = Ok (record { value = Null; uncut = None })
-retrieved_into d (Num n) = or_status NumericValueOutOfRange (option_map (λ k. record { value = Num k; uncut = None }) (storing.fitted d n))
+retrieved_into d (Num n) =
+    or_status NumericValueOutOfRange
+    (option_map (λ k. record { value = Num k; uncut = None }) (storing.fitted d n))
 retrieved_into d (Chars t) = Ok (record { value = Chars (text_retrieved d t); uncut = uncut_length d t })
 
 -- the statuses of the faults of `store` and `retrieve`; want of memory is no outcome of a definition

@@ -24,12 +24,14 @@ IsBodyOf earlier content caller kinds (viewed_table q check_option) =
 
 abbrev pub IsDatabaseOf : Tables → Content → Name → Type 0
 IsDatabaseOf [] content caller = ⊤
-IsDatabaseOf (d ∷ earlier) content caller = IsBodyOf earlier content caller (column_kinds d) d.body × IsDatabaseOf earlier content caller
+IsDatabaseOf (d ∷ earlier) content caller =
+    IsBodyOf earlier content caller (column_kinds d) d.body × IsDatabaseOf earlier content caller
 
 -- ---- parameters
 
 abbrev pub kind_named : List Declared → Name → Outcome Kind
-kind_named parameters name = well_formed (option_map (λ d. kind_of d.domain) (find (λ d. same_name d.name name) parameters))
+kind_named parameters name =
+    well_formed (option_map (λ d. kind_of d.domain) (find (λ d. same_name d.name name) parameters))
 
 abbrev pub IndicatorIsDeclared : List Declared → Option Indicator → Type 0
 IndicatorIsDeclared parameters None = ⊤
@@ -37,7 +39,8 @@ IndicatorIsDeclared parameters (Some i) = HasValue (kind_named parameters i.name
 
 -- a parameter is declared, and its indicator parameter, too (6.2)
 abbrev pub IsDeclaredIn : List Declared → Parameter → Type 0
-IsDeclaredIn parameters p = HasValue (kind_named parameters p.name) × IndicatorIsDeclared parameters p.indicator
+IsDeclaredIn parameters p =
+    HasValue (kind_named parameters p.name) × IndicatorIsDeclared parameters p.indicator
 
 -- each input has the name of its parameter, and a value of its kind
 abbrev pub AreInputsAs : List Declared → List Input → Type 0

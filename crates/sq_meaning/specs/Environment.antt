@@ -90,7 +90,8 @@ input_named inputs name = well_formed (option_map (λ i. i.value) (find (λ i. s
 
 -- a parameter by its name
 abbrev pub input_value : Parameter → List Input → Outcome Value
-input_value p inputs = input_named inputs p.name >>= with_indicator (λ i. input_named inputs i.name) p.indicator
+input_value p inputs =
+    input_named inputs p.name >>= with_indicator (λ i. input_named inputs i.name) p.indicator
 
 -- ---- what a column reference means
 
@@ -126,7 +127,8 @@ column_in r item = if names_item r.qualifier item then column_named r.column ite
 
 -- the items of a scope that fit, each with the column
 abbrev pub fitting : ColumnReference → List Item → List (ℕ × ℕ)
-fitting r items = filter_map (λ i. option_map (λ column. (i.0, column)) (column_in r i.1)) (enumerate_from 0 items)
+fitting r items =
+    filter_map (λ i. option_map (λ column. (i.0, column)) (column_in r i.1)) (enumerate_from 0 items)
 
 abbrev pub nearest : List (ℕ × ℕ) → Outcome Place → Outcome Place
 nearest [] further = further >>= λ p. Ok (record p { depth = suc p.depth })

@@ -55,8 +55,11 @@ with_places places outcome = if nat_le places 18 then outcome else not_well_form
 
 -- the scale of a product is the sum of both; a dividend is brought to as many places as its quotient needs
 abbrev pub product_of : TimesSign → Value → Value → Outcome Value
-product_of Times = calculated (λ a b. with_places (a.scale + b.scale) (number_outcome (number.multiplied a b)))
-product_of Over = calculated (λ a b. with_places (max a.scale b.scale + b.scale - a.scale) (number_outcome (number.divided a b)))
+product_of Times =
+    calculated (λ a b. with_places (a.scale + b.scale) (number_outcome (number.multiplied a b)))
+product_of Over =
+    calculated
+    (λ a b. with_places (max a.scale b.scale + b.scale - a.scale) (number_outcome (number.divided a b)))
 
 abbrev pub with_sign : Sign → Value → Outcome Value
 with_sign sign Null = Ok Null
@@ -104,11 +107,13 @@ distinct_values distinct values = if distinct then firsts is_same values else va
 
 -- what a function gives of the nearest scope, within the scopes around it
 abbrev pub of_nearest : {H A : Type 0} → Env H → (Scope H → Env H → Outcome A) → Outcome A
-of_nearest env f = elim env.scopes [ [] ↦ not_well_formed | scope ∷ outer ↦ f scope (record env { scopes = outer }) ]
+of_nearest env f =
+    elim env.scopes [ [] ↦ not_well_formed | scope ∷ outer ↦ f scope (record env { scopes = outer }) ]
 
 -- the operand's value for each line of the group in the nearest scope
 abbrev pub over_group : {H : Type 0} → Env H → (Env H → Outcome Value) → Outcome (List Value)
-over_group env operand = of_nearest env (λ scope outer. each (λ line. operand (within (alone scope.items line) outer)) scope.group)
+over_group env operand =
+    of_nearest env (λ scope outer. each (λ line. operand (within (alone scope.items line) outer)) scope.group)
 
 -- ---- the value
 
@@ -122,7 +127,8 @@ value m (parameter p) env = m.input p env.inputs
 value m user env = Ok (user_value env.user)
 value m (column c) env = m.place c (items_in env) >>= value_at env
 value m count_rows env = of_nearest env (λ scope outer. count_of scope.group)
-value m (set_function function distinct operand) env = over_group env (value m operand) >>= λ values. function_value function (distinct_values distinct values)
+value m (set_function function distinct operand) env =
+    over_group env (value m operand) >>= λ values. function_value function (distinct_values distinct values)
 value m (signed sign e) env = value m e env >>= with_sign sign
 value m (added sign a b) env = value m a env >>= λ x. value m b env >>= λ y. sum_of sign x y
 value m (scaled sign a b) env = value m a env >>= λ x. value m b env >>= λ y. product_of sign x y

@@ -39,8 +39,8 @@ abbrev pub sum_kind : Kind → Kind → Outcome Kind
 sum_kind (Num s) (Num t) = Ok (Num (max s t))
 sum_kind _ _ = not_well_formed
 
--- that of a product is the sum of both; a quotient has the greater one, and no more than 18 digits are to be made for
--- it
+-- The scale of a product is the sum of both. A quotient has the greater one, and to compute it no more than 18 digits are
+-- added to the dividend.
 abbrev pub product_kind : TimesSign → Kind → Kind → Outcome Kind
 product_kind Times (Num s) (Num t) = of_scale (s + t)
 product_kind Over (Num s) (Num t) = of_scale (max s t + t - s) >>= λ _. Ok (Num (max s t))
@@ -67,7 +67,8 @@ kind k scopes (scaled sign a b) = kind k scopes a >>= λ x. kind k scopes b >>= 
 kind k scopes (bracketed e) = kind k scopes e
 
 -- the kinds of a select list's columns
-abbrev pub list_kinds : {N : Naming} → Kinds N → List (List N.Table) → List N.Table → SelectList N → Outcome (List Kind)
+abbrev pub list_kinds : {N : Naming} → Kinds N → List (List N.Table) → List N.Table → SelectList N
+    → Outcome (List Kind)
 list_kinds k outer from all_columns = each k.columns from >>= λ tables. Ok (flat_map (λ kinds. kinds) tables)
 list_kinds k outer from (expressions es) = each (kind k (from ∷ outer)) es
 

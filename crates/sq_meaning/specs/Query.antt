@@ -90,9 +90,15 @@ has_rows (r ∷ rows) = true
 
 -- ---- LIKE (8.5)
 
-abbrev pub like_truth : {N : Naming} → Reading N → Expr N → Expr N → Option (Expr N) → Env N.Item → Outcome Truth
-like_truth m text pattern None env = value m text env >>= λ t. value m pattern env >>= λ p. with_status like_status (liked t p None)
-like_truth m text pattern (Some escape) env = value m text env >>= λ t. value m pattern env >>= λ p. value m escape env >>= λ e. with_status like_status (liked t p (Some e))
+abbrev pub like_truth : {N : Naming} → Reading N → Expr N → Expr N → Option (Expr N) → Env N.Item
+    → Outcome Truth
+like_truth m text pattern None env =
+    value m text env >>= λ t. value m pattern env >>= λ p. with_status like_status (liked t p None)
+like_truth m text pattern (Some escape) env =
+    value m text env
+    >>= λ t. value m pattern env
+    >>= λ p. value m escape env
+    >>= λ e. with_status like_status (liked t p (Some e))
 
 -- ---- the set functions of a condition, in the order of the text; those of a subquery are its own
 
@@ -108,7 +114,8 @@ abbrev mutual
   cond_functions (between a low high) = set_functions a ++ set_functions low ++ set_functions high
   cond_functions (in_subquery a q) = set_functions a
   cond_functions (in_list a es) = set_functions a ++ flat_map set_functions es
-  cond_functions (like text pattern escape) = set_functions text ++ set_functions pattern ++ escape_functions escape
+  cond_functions (like text pattern escape) =
+      set_functions text ++ set_functions pattern ++ escape_functions escape
   cond_functions (is_null a) = set_functions a
   cond_functions (exists q) = []
   cond_functions (negated c) = cond_functions c
@@ -156,21 +163,24 @@ grouping_values m by env = each (λ c. m.place c (items_in env) >>= value_at env
 abbrev pub grouped : List (Row × Line) → List (List Line)
 grouped keyed = map (map (λ k. k.1)) (classes (λ a b. same_row a.0 b.0) keyed)
 
-abbrev pub groups_by : {N : Naming} → Reading N → List N.Column → List N.Item → List Line → Env N.Item → Outcome (List (List Line))
+abbrev pub groups_by : {N : Naming} → Reading N → List N.Column → List N.Item → List Line → Env N.Item
+    → Outcome (List (List Line))
 groups_by m [] heads lines env = Ok (lines ∷ [])
 groups_by m (c ∷ by) heads lines env = do
   keyed ← each (λ line. grouping_values m (c ∷ by) (within (alone heads line) env) >>= λ key. Ok (key, line)) lines
   Ok (grouped keyed)
 
 -- the groups, with all set functions computed once, group by group, for their statuses
-abbrev pub group_scopes : {N : Naming} → Reading N → List (Expr N) → List N.Column → List N.Item → List Line → Env N.Item → Outcome (List (Scope N.Item))
+abbrev pub group_scopes : {N : Naming} → Reading N → List (Expr N) → List N.Column → List N.Item → List Line
+    → Env N.Item → Outcome (List (Scope N.Item))
 group_scopes m functions by heads lines env = do
   groups ← groups_by m by heads lines env
   _ ← each (λ group. each (λ f. value m f (within (group_scope heads group) env)) functions) groups
   Ok (map (group_scope heads) groups)
 
 -- what the select list is computed for: each line or, in a grouped query specification, each group
-abbrev pub scopes_of : {N : Naming} → Reading N → SelectList N → List N.Column → Clause N → List N.Item → List Line → Env N.Item → Outcome (List (Scope N.Item))
+abbrev pub scopes_of : {N : Naming} → Reading N → SelectList N → List N.Column → Clause N → List N.Item
+    → List Line → Env N.Item → Outcome (List (Scope N.Item))
 scopes_of m list by having heads lines env =
     if is_grouped list by having then group_scopes m (list_functions list ++ clause_functions having) by heads lines env
     else Ok (map (alone heads) lines)
@@ -193,10 +203,14 @@ is_true (Err status) = Err status
 abbrev mutual
   pub truth : {N : Naming} → Reading N → Cond N → Env N.Item → Outcome Truth
   truth m (compare op a b) env = compared m op a b env
-  truth m (compare_subquery op a q) env = value m a env >>= λ x. rows m q env >>= λ rs. only_value rs >>= λ y. Ok (comparison op x y)
-  truth m (compare_quantified op k a q) env = value m a env >>= λ x. rows m q env >>= λ rs. Ok (compared_with_rows op k x rs)
-  truth m (between a low high) env = and_also (compared m GreaterOrEqual a low env) (compared m LessOrEqual a high env)
-  truth m (in_subquery a q) env = value m a env >>= λ x. rows m q env >>= λ rs. Ok (compared_with_rows Equal quantifier.Any x rs)
+  truth m (compare_subquery op a q) env =
+      value m a env >>= λ x. rows m q env >>= λ rs. only_value rs >>= λ y. Ok (comparison op x y)
+  truth m (compare_quantified op k a q) env =
+      value m a env >>= λ x. rows m q env >>= λ rs. Ok (compared_with_rows op k x rs)
+  truth m (between a low high) env =
+      and_also (compared m GreaterOrEqual a low env) (compared m LessOrEqual a high env)
+  truth m (in_subquery a q) env =
+      value m a env >>= λ x. rows m q env >>= λ rs. Ok (compared_with_rows Equal quantifier.Any x rs)
   truth m (in_list a es) env = any_in_turn (λ e. compared m Equal a e env) es
   truth m (like text pattern escape) env = like_truth m text pattern escape env
   truth m (is_null a) env = value m a env >>= λ x. Ok (known (is_null_value x))

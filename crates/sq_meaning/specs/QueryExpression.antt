@@ -39,5 +39,6 @@ query_rows m k (union all left right) env = do
   Ok (if all then joined else firsts same_row joined)
 
 -- ORDER BY: the rows in order, null lowest (own rule), and ties as they were
-abbrev pub ordered_rows : {N : Naming} → Reading N → Kinds N → Query N → List SortColumn → Env N.Item → Outcome (List Row)
+abbrev pub ordered_rows : {N : Naming} → Reading N → Kinds N → Query N → List SortColumn → Env N.Item
+    → Outcome (List Row)
 ordered_rows m k q order env = query_rows m k q env >>= λ found. Ok (sorted (by_columns order) found)

@@ -51,7 +51,8 @@ in_column c row = slice_index_or row c Null
 
 -- null is lowest (own rule); down is the other way round
 abbrev pub by_column : SortColumn → List Value → List Value → Ordering
-by_column s = if s.descending then flip_args (on (in_column s.column) ordered) else on (in_column s.column) ordered
+by_column s =
+    if s.descending then flip_args (on (in_column s.column) ordered) else on (in_column s.column) ordered
 
 -- by the first column, and among ties by the others
 abbrev pub by_columns : List SortColumn → List Value → List Value → Ordering

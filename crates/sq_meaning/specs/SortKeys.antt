@@ -21,7 +21,8 @@ item_name _ = None
 
 -- `*` has the names of all columns
 abbrev pub select_names : Tables → Select Named → Outcome (List (Option Name))
-select_names tables (select distinct all_columns from filter by having) = each (item_of tables) from >>= λ heads. Ok (flat_map (λ head. map Some head.columns) heads)
+select_names tables (select distinct all_columns from filter by having) =
+    each (item_of tables) from >>= λ heads. Ok (flat_map (λ head. map Some head.columns) heads)
 select_names tables (select distinct (expressions es) from filter by having) = Ok (map item_name es)
 
 -- a column of UNION has a name where both sides have the same
@@ -32,7 +33,10 @@ common_name (Some m) (Some n) = if same_name m n then Some m else None
 
 abbrev pub query_names : Tables → Query Named → Outcome (List (Option Name))
 query_names tables (specification q) = select_names tables q
-query_names tables (union all left right) = query_names tables left >>= λ ls. query_names tables right >>= λ rs. Ok (map (λ p. common_name p.0 p.1) (zip ls rs))
+query_names tables (union all left right) =
+    query_names tables left
+    >>= λ ls. query_names tables right
+    >>= λ rs. Ok (map (λ p. common_name p.0 p.1) (zip ls rs))
 
 abbrev pub is_named : Name → Option Name → Bool
 is_named name None = false
@@ -44,7 +48,8 @@ only_of (k ∷ []) = Ok k
 only_of _ = not_well_formed
 
 abbrev pub columns_named : Name → List (Option Name) → List ℕ
-columns_named name names = filter_map (λ p. if is_named name p.1 then Some p.0 else None) (enumerate_from 0 names)
+columns_named name names =
+    filter_map (λ p. if is_named name p.1 then Some p.0 else None) (enumerate_from 0 names)
 
 abbrev pub column_numbered : List (Option Name) → Option ℕ → Outcome ℕ
 column_numbered names None = not_well_formed
@@ -61,4 +66,5 @@ goes_down (Some Asc) = false
 goes_down (Some Desc) = true
 
 abbrev pub sort_columns : List (Option Name) → List SortSpecification → Outcome (List SortColumn)
-sort_columns names = each (λ s. key_column names s.key >>= λ k. Ok (record { column = k; descending = goes_down s.direction }))
+sort_columns names =
+    each (λ s. key_column names s.key >>= λ k. Ok (record { column = k; descending = goes_down s.direction }))

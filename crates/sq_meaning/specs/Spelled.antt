@@ -98,7 +98,8 @@ whole spelling = if has_point spelling then None else Some (unsigned_abs (number
 
 -- a precision is from 1 to 18 and 18 if it is omitted, a scale at most that and 0 if it is omitted (own rule)
 abbrev pub exact_domain : Option ℕ → Option ℕ → Option Domain
-exact_domain (Some p) (Some s) = if nat_le 1 p && nat_le p 18 && nat_le s p then Some (domain.Numeric p s) else None
+exact_domain (Some p) (Some s) =
+    if nat_le 1 p && nat_le p 18 && nat_le s p then Some (domain.Numeric p s) else None
 exact_domain _ _ = None
 
 abbrev pub scale_of : Option (List ℕ) → Option ℕ
@@ -147,7 +148,8 @@ primary_level (layer.Parameter p) = parameter p
 primary_level layer.User = user
 primary_level (layer.Column c) = column c
 primary_level layer.CountRows = count_rows
-primary_level (layer.SetFunction function quantifier operand) = set_function function (is_distinct_word quantifier) operand
+primary_level (layer.SetFunction function quantifier operand) =
+    set_function function (is_distinct_word quantifier) operand
 primary_level (layer.Bracketed e) = bracketed e
 
 abbrev pub with_sign_if : Option Sign → Expr Named → Expr Named
@@ -175,7 +177,9 @@ abbrev pub ExprSeen : ExprPart → Type 0
 ExprSeen = expr_family E (Sign × E) E E (TimesSign × E) E
 
 abbrev pub expr_levels : (part : ExprPart) → (expr_bodies part).Of ExprSeen → ExprSeen part
-expr_levels = expr_steps E (Sign × E) E E (TimesSign × E) E primary_level added_level expr_level factor_level scaled_level term_level
+expr_levels =
+    expr_steps E (Sign × E) E E (TimesSign × E) E primary_level added_level expr_level factor_level
+    scaled_level term_level
 
 -- the value expression that a text spells, and its parts
 unfoldable pub expr_of : SpelledExpr → Expr Named
@@ -200,7 +204,10 @@ scaled_of = expr_fold ExprSeen expr_levels member-Scaled
 
 -- a table as FROM refers to it
 abbrev pub reference_of : Name → SpelledReference → TableReference
-reference_of own t = record { table = table_of own t.table; correlation = option_map (λ c. c.name) t.correlation }
+reference_of own t = record {
+  table = table_of own t.table;
+  correlation = option_map (λ c. c.name) t.correlation;
+}
 
 abbrev pub list_of : SpelledList → SelectList Named
 list_of Star = all_columns
@@ -239,7 +246,8 @@ tail_level (level.CompareQuery op k q) left = compared_with k op left q
 tail_level (level.Between written low high) left = not_if written (between left (expr_of low) (expr_of high))
 tail_level (level.InQuery written q) left = not_if written (in_subquery left q)
 tail_level (level.InList written values) left = not_if written (in_list left (map expr_of (listed values)))
-tail_level (level.Like written pattern escape) left = not_if written (like left (expr_of pattern) (option_map expr_of escape))
+tail_level (level.Like written pattern escape) left =
+    not_if written (like left (expr_of pattern) (option_map expr_of escape))
 tail_level (level.Null written) left = not_if written (is_null left)
 
 abbrev test_level : Test-F C (E → C) C C S T C → C
@@ -252,7 +260,9 @@ abbrev cond_level : Cond-F C (E → C) C C S T C → C
 cond_level c = disjunction (conds (c.first ∷ c.rest))
 
 abbrev table_expression_level : Name → TableExpression-F C (E → C) C C S T C → T
-table_expression_level own t distinct list = select distinct list (map (reference_of own) (listed t.from)) (clause t.where_clause) (listed_if_any t.group_by) (clause t.having)
+table_expression_level own t distinct list =
+    select distinct list (map (reference_of own) (listed t.from)) (clause t.where_clause)
+    (listed_if_any t.group_by) (clause t.having)
 
 abbrev query_specification_level : QuerySpecification-F C (E → C) C C S T C → S
 query_specification_level q = q.table (is_distinct_word q.quantifier) (list_of q.list)
@@ -261,7 +271,9 @@ abbrev pub CondSeen : CondPart → Type 0
 CondSeen = cond_family C (E → C) C C S T C
 
 abbrev pub cond_levels : Name → (part : CondPart) → (cond_bodies part).Of CondSeen → CondSeen part
-cond_levels own = cond_steps C (E → C) C C S T C body_level tail_level cond_level conj_level query_specification_level (table_expression_level own) test_level
+cond_levels own =
+    cond_steps C (E → C) C C S T C body_level tail_level cond_level conj_level query_specification_level
+    (table_expression_level own) test_level
 
 -- the search condition that a text of this user spells, and its parts
 unfoldable pub cond_of : Name → SpelledCond → Cond Named
@@ -288,7 +300,8 @@ table_expression_of own = cond_fold CondSeen (cond_levels own) member-TableExpre
 
 -- a query specification by its parts, as SELECT INTO has them
 abbrev pub select_of_parts : Name → Option SetQuantifier → SpelledList → TableExpression → Select Named
-select_of_parts own quantifier list table = table_expression_of own table (is_distinct_word quantifier) (list_of list)
+select_of_parts own quantifier list table =
+    table_expression_of own table (is_distinct_word quantifier) (list_of list)
 
 -- ---- query expressions
 

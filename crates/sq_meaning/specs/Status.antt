@@ -77,10 +77,11 @@ abbrev pub each : {A B : Type 0} → (A → Outcome B) → List A → Outcome (L
 each f [] = Ok []
 each f (x ∷ xs) = and_then (f x) (λ y. and_then (each f xs) (λ ys. Ok (y ∷ ys)))
 
--- those for which the test is true; all are tested in turn
+-- the elements of a list for which the test is true; all are tested in turn
 abbrev pub kept : {A : Type 0} → (A → Outcome Bool) → List A → Outcome (List A)
 kept test [] = Ok []
-kept test (x ∷ xs) = and_then (test x) (λ passes. and_then (kept test xs) (λ ys. Ok (if passes then x ∷ ys else ys)))
+kept test (x ∷ xs) =
+    and_then (test x) (λ passes. and_then (kept test xs) (λ ys. Ok (if passes then x ∷ ys else ys)))
 
 -- a value, or the status of what is missing
 abbrev pub or_status : {A : Type 0} → Status → Option A → Outcome A

@@ -10,9 +10,9 @@ use Rattle.sq_meaning.specs.Syntax.{Naming, Expr, literal, parameter, user, colu
 use Rattle.sq_meaning.specs.Quiet.{has_no_escape}
 use Rattle.sq_meaning.specs.WellFormed.{HasValue}
 
--- a value, or 42000, with which nothing ends that is well formed
-abbrev pub IsNoFault : {A : Type 0} → Outcome A → Type 0
-IsNoFault outcome = HasValue outcome ⊎ (outcome ≡ not_well_formed)
+-- a value, or 42000, which a well-formed tree never gives
+abbrev pub IsSureOutcome : {A : Type 0} → Outcome A → Type 0
+IsSureOutcome outcome = HasValue outcome ⊎ (outcome ≡ not_well_formed)
 
 -- a sum or an average may be out of range, and so may a count of more than 10^18 rows
 abbrev pub is_extreme : SetFunction → Bool

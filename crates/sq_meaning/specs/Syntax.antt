@@ -62,7 +62,8 @@ mutual
 
   -- a query specification; without GROUP BY its grouping columns are none
   pub data Select (N : Naming) : Type 0 where
-    select : (distinct : Bool) → SelectList N → (from : List N.Table) → (where_clause : Clause N) → (group_by : List N.Column) → (having : Clause N) → Select N
+    select : (distinct : Bool) → SelectList N → (from : List N.Table) → (where_clause : Clause N)
+        → (group_by : List N.Column) → (having : Clause N) → Select N
 
 -- a query expression; UNION groups to the left
 pub data Query (N : Naming) : Type 0 where

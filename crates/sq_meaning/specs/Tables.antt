@@ -48,7 +48,8 @@ column_kinds d = map (λ c. c.kind) d.columns
 
 -- an item of FROM
 abbrev pub item_of : Tables → TableReference → Outcome Item
-item_of tables r = descriptor_of tables r.table >>= λ d. Ok (record { reference = r; columns = column_names d })
+item_of tables r =
+    descriptor_of tables r.table >>= λ d. Ok (record { reference = r; columns = column_names d })
 
 -- a parameter as its procedure declares it (12.3)
 pub record Declared : Type 0 where

@@ -110,6 +110,12 @@ seen_through source under = record {
 abbrev pub with_check_option : Bool → Target → Target
 with_check_option check_option t = if check_option then record t { demanded = length t.levels } else t
 
+-- the target of a view, where this is the target that each name means beneath it
+abbrev pub view_target : (TableName → Outcome Target) → Bool → Source → Outcome Target
+view_target beneath check_option source = do
+  under ← beneath source.item.reference.table
+  Ok (with_check_option check_option (seen_through source under))
+
 -- the target that a table name means; none where a view is not updatable
 abbrev pub target_of : Tables → TableName → Outcome Target
 target_of [] name = not_well_formed
@@ -118,13 +124,16 @@ target_of (d ∷ earlier) name =
       | false ↦ target_of earlier name
       | true ↦ elim d.body as (λ _. Outcome Target) [
         | base_table place ↦ Ok (base_target place (places_of d.columns))
-        | viewed_table q check_option ↦ updatable_source earlier q >>= λ source. target_of earlier source.item.reference.table >>= λ under. Ok (with_check_option check_option (seen_through source under))
+        | viewed_table q check_option ↦ updatable_source earlier q >>= view_target (target_of earlier) check_option
       ]
     ]
 
 -- the target of a cursor, whose own WHERE is the last level
 abbrev pub cursor_target : Tables → Select Named → Outcome Target
-cursor_target tables q = updatable_source tables q >>= λ source. target_of tables source.item.reference.table >>= λ under. Ok (seen_through source under)
+cursor_target tables q = do
+  source ← updatable_source tables q
+  under ← target_of tables source.item.reference.table
+  Ok (seen_through source under)
 
 -- the target of a searched statement on a table, whose WHERE is the last level
 abbrev pub searched_target : Tables → TableName → Clause Named → Outcome Target
@@ -145,7 +154,8 @@ level_truth m env level row = clause_truth m level.condition (seen_at level row 
 -- the rows for which each condition in turn is true, over all rows
 abbrev pub chosen : Reading Named → Env Item → List Level → List Numbered → Outcome (List Numbered)
 chosen m env [] rows = Ok rows
-chosen m env (level ∷ levels) rows = kept (λ r. is_true (level_truth m env level r.row)) rows >>= chosen m env levels
+chosen m env (level ∷ levels) rows =
+    kept (λ r. is_true (level_truth m env level r.row)) rows >>= chosen m env levels
 
 -- the numbers of the rows that a target means
 abbrev pub chosen_numbers : Reading Named → Env Item → Target → List Numbered → Outcome (List ℕ)
@@ -158,7 +168,8 @@ is_or_violates false = Err CheckOptionViolation
 
 abbrev pub meets_levels : Reading Named → Env Item → Row → List Level → Outcome (Unit {0})
 meets_levels m env row [] = Ok tt
-meets_levels m env row (level ∷ levels) = is_true (level_truth m env level row) >>= is_or_violates >>= λ _. meets_levels m env row levels
+meets_levels m env row (level ∷ levels) =
+    is_true (level_truth m env level row) >>= is_or_violates >>= λ _. meets_levels m env row levels
 
 abbrev pub meets_check_option : Reading Named → Env Item → Target → Row → Outcome (Unit {0})
 meets_check_option m env target row = meets_levels m env row (take target.demanded target.levels)

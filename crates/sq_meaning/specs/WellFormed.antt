@@ -90,18 +90,21 @@ abbrev pub IsInQuery : {N : Naming} → List (Level N) → Type 0
 IsInQuery [] = ⊥
 IsInQuery (level ∷ outer) = ⊤
 
--- of lines, as WHERE, GROUP BY and the operand of a set function see them
+-- a level of lines, as WHERE, GROUP BY and the operand of a set function see it
 abbrev pub of_lines : {N : Naming} → List N.Table → Level N
 of_lines from = record { from = from; has_line = true }
 
--- in the operand of a set function
+-- the levels that the operand of a set function sees
 abbrev pub inside_function : {N : Naming} → List (Level N) → List (Level N)
 inside_function [] = []
 inside_function (level ∷ outer) = of_lines level.from ∷ outer
 
--- as the select list and HAVING see it
+-- a level as the select list and HAVING see it
 abbrev pub shown_level : {N : Naming} → SelectList N → List N.Table → List N.Column → Clause N → Level N
-shown_level list from by having = record { from = from; has_line = not (is_grouped list by having) || is_some_of by }
+shown_level list from by having = record {
+  from = from;
+  has_line = not (is_grouped list by having) || is_some_of by;
+}
 
 -- the kind of the column at a place, by the kinds of the tables' columns
 abbrev pub kind_there : {T : Type 0} → (T → Outcome (List Kind)) → List (List T) → Place → Outcome Kind
@@ -114,8 +117,10 @@ kind_there columns scopes p = do
 -- What is known of columns and tables beforehand is what a reading finds. What a column reference means depends on the
 -- scopes further out only by what it means there.
 pub record Agrees {N : Naming} (m : Reading N) (k : Kinds N) : Type 0 where
-  pub outer : (c : N.Column) (items : List N.Item) (xs ys : List (List N.Item)) → m.place c xs ≡ m.place c ys → m.place c (items ∷ xs) ≡ m.place c (items ∷ ys)
-  pub columns : (c : N.Column) (scopes : List (List N.Table)) → k.column c scopes ≡ (each (each m.item) scopes >>= λ items. m.place c items >>= kind_there k.columns scopes)
+  pub outer : (c : N.Column) (items : List N.Item) (xs ys : List (List N.Item)) → m.place c xs ≡ m.place c ys
+      → m.place c (items ∷ xs) ≡ m.place c (items ∷ ys)
+  pub columns : (c : N.Column) (scopes : List (List N.Table)) → k.column c scopes
+      ≡ (each (each m.item) scopes >>= λ items. m.place c items >>= kind_there k.columns scopes)
   pub rows : (t : N.Table) → Fits AreRowsOf (k.columns t) (m.rows t)
 
 abbrev pub OnlyIf : Bool → Type 0 → Type 0
@@ -142,7 +147,7 @@ module _ {N : Naming} (m : Reading N) (k : Kinds N) (IsDeclared : N.Parameter �
   MayStand levels (scaled sign a b) = MayStand levels a × MayStand levels b
   MayStand levels (bracketed e) = MayStand levels e
 
-  -- and the expression has a kind (6.11 to 6.13)
+  -- an expression that may stand there, and that has a kind (6.11 to 6.13)
   abbrev pub WellFormedExpr : List (Level N) → Expr N → Type 0
   WellFormedExpr levels e = HasValue (kind k (froms levels) e) × MayStand levels e
 
@@ -169,7 +174,8 @@ module _ {N : Naming} (m : Reading N) (k : Kinds N) (IsDeclared : N.Parameter �
 
   -- a subquery of one column, whose values can be compared with that of the expression (7.11)
   abbrev pub IsBeside : List (Level N) → Expr N → Select N → Type 0
-  IsBeside levels a q = Has (λ x. Has (IsOnlyKind x) (select_kinds k (froms levels) q)) (kind k (froms levels) a)
+  IsBeside levels a q =
+      Has (λ x. Has (IsOnlyKind x) (select_kinds k (froms levels) q)) (kind k (froms levels) a)
 
   -- a table that is there (6.3)
   abbrev pub WellFormedTable : N.Table → Type 0
@@ -183,12 +189,17 @@ module _ {N : Naming} (m : Reading N) (k : Kinds N) (IsDeclared : N.Parameter �
   abbrev mutual
     pub WellFormedCond : List (Level N) → Cond N → Type 0
     WellFormedCond levels (compare op a b) = WellFormedPair levels a b
-    WellFormedCond levels (compare_subquery op a q) = WellFormedExpr levels a × IsBeside levels a q × WellFormedSelect levels q
-    WellFormedCond levels (compare_quantified op quantifier a q) = WellFormedExpr levels a × IsBeside levels a q × WellFormedSelect levels q
+    WellFormedCond levels (compare_subquery op a q) =
+        WellFormedExpr levels a × IsBeside levels a q × WellFormedSelect levels q
+    WellFormedCond levels (compare_quantified op quantifier a q) =
+        WellFormedExpr levels a × IsBeside levels a q × WellFormedSelect levels q
     WellFormedCond levels (between a low high) = WellFormedPair levels a low × WellFormedPair levels a high
-    WellFormedCond levels (in_subquery a q) = WellFormedExpr levels a × IsBeside levels a q × WellFormedSelect levels q
-    WellFormedCond levels (in_list a es) = WellFormedExpr levels a × AllByRecursion (WellFormedPair levels a) es
-    WellFormedCond levels (like text pattern escape) = WellFormedText levels text × WellFormedText levels pattern × WellFormedEscape levels escape
+    WellFormedCond levels (in_subquery a q) =
+        WellFormedExpr levels a × IsBeside levels a q × WellFormedSelect levels q
+    WellFormedCond levels (in_list a es) =
+        WellFormedExpr levels a × AllByRecursion (WellFormedPair levels a) es
+    WellFormedCond levels (like text pattern escape) =
+        WellFormedText levels text × WellFormedText levels pattern × WellFormedEscape levels escape
     WellFormedCond levels (is_null a) = WellFormedExpr levels a
     WellFormedCond levels (exists q) = WellFormedSelect levels q
     WellFormedCond levels (negated c) = WellFormedCond levels c
@@ -215,7 +226,8 @@ module _ {N : Naming} (m : Reading N) (k : Kinds N) (IsDeclared : N.Parameter �
 
   abbrev pub WellFormedQuery : Query N → Type 0
   WellFormedQuery (specification q) = WellFormedSelect [] q
-  WellFormedQuery (union all left right) = WellFormedQuery left × WellFormedQuery right × HasValue (query_kinds k (union all left right))
+  WellFormedQuery (union all left right) =
+      WellFormedQuery left × WellFormedQuery right × HasValue (query_kinds k (union all left right))
 
   -- ---- environments
 
@@ -227,14 +239,16 @@ module _ {N : Naming} (m : Reading N) (k : Kinds N) (IsDeclared : N.Parameter �
     pub line : OnlyIf level.has_line (IsLineOf level.from scope.line)
     pub group : AllByRecursion (IsLineOf level.from) scope.group
 
-  -- and its items are those of the tables
+  -- a scope of a level: its items are those of the level's tables, and its rows are of their kinds
   pub record IsScopeOf (level : Level N) (scope : Scope N.Item) : Type 0 where
     pub items : each m.item level.from ≡ Ok scope.items
     pub found : HasRowsOf level scope
 
   -- column references mean in these scopes what they mean among the tables' items
   abbrev pub AreItemsOf : List (List N.Table) → List (List N.Item) → Type 0
-  AreItemsOf scopes items = (xs : List (List N.Item)) × (each (each m.item) scopes ≡ Ok xs) × ((c : N.Column) → m.place c xs ≡ m.place c items)
+  AreItemsOf scopes items =
+      (xs : List (List N.Item)) × (each (each m.item) scopes ≡ Ok xs)
+      × ((c : N.Column) → m.place c xs ≡ m.place c items)
 
   -- an environment at these levels, with a value of its kind for each parameter that is declared
   pub record IsEnvOf (levels : List (Level N)) (env : Env N.Item) : Type 0 where
@@ -257,7 +271,8 @@ IsThere parameters None = ⊤
 IsThere parameters (Some i) = HasValue (well_formed (slice_get parameters i))
 
 abbrev pub IsDeclaredAt : List Kind → PlacedParameter → Type 0
-IsDeclaredAt parameters p = HasValue (well_formed (slice_get parameters p.position)) × IsThere parameters p.indicator
+IsDeclaredAt parameters p =
+    HasValue (well_formed (slice_get parameters p.position)) × IsThere parameters p.indicator
 
 -- each input has a value of its kind
 abbrev pub AreInputsOf : List Kind → List Input → Type 0

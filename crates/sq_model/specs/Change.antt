@@ -70,11 +70,13 @@ stored_value s env d (new_value.Expr e) = value (reading s) (expr_of e) env >>= 
 stored_value s env d new_value.Null = assigned d value.Null
 
 abbrev pub domain_at : BaseTable → ℕ → Domain
-domain_at t place = unwrap_or (slice_get (map column_domain (column_definitions t.definition)) place) domain.Int
+domain_at t place =
+    unwrap_or (slice_get (map column_domain (column_definitions t.definition)) place) domain.Int
 
 -- one after the other: the first is evaluated and stored before the second is evaluated
 abbrev pub stored_values : Setting → Env Item → BaseTable → List (ℕ × NewValue) → Outcome (List (ℕ × Value))
-stored_values s env t news = each (λ n. and_then (stored_value s env (domain_at t n.0) n.1) (λ v. Ok (n.0, v))) news
+stored_values s env t news =
+    each (λ n. and_then (stored_value s env (domain_at t n.0) n.1) (λ v. Ok (n.0, v))) news
 
 -- the value of the column at a place, if one is given
 abbrev pub given_at : List (ℕ × Value) → ℕ → Option Value
@@ -109,7 +111,8 @@ insert_places d target None = target.columns
 insert_places d target (Some columns) = filter_map (place_under d target) (listed columns)
 
 abbrev pub stored_row : BaseTable → List ℕ → Row → Outcome (List (ℕ × Value))
-stored_row t places row = each (λ p. and_then (assigned (domain_at t p.0) p.1) (λ v. Ok (p.0, v))) (zip places row)
+stored_row t places row =
+    each (λ p. and_then (assigned (domain_at t p.0) p.1) (λ v. Ok (p.0, v))) (zip places row)
 
 abbrev pub if_some : {A : Type 0} → List A → Outcome (List A)
 if_some [] = Err status.NoData
@@ -139,7 +142,9 @@ value_or_default s c (Some v) = Ok v
 
 -- a new row: each column has the value that is given for it, or else its default
 abbrev pub new_row : Setting → BaseTable → List (ℕ × Value) → Outcome Row
-new_row s t given = each (λ p. value_or_default s p.1 (given_at given p.0)) (enumerate_from 0 (column_definitions t.definition))
+new_row s t given =
+    each (λ p. value_or_default s p.1 (given_at given p.0))
+    (enumerate_from 0 (column_definitions t.definition))
 
 -- new rows take the next numbers (own rule)
 abbrev pub has_numbers : Setting → ℕ → List Row → Bool
@@ -160,7 +165,7 @@ insert_outcome s i = do
 
 -- ---- the rows that UPDATE and DELETE change (13.6, 13.7, 13.9 and 13.10)
 
--- which rows: those that the search condition keeps, or the one that a cursor is on
+-- the rows that a statement changes: those that its search condition keeps, or the one that a cursor is on
 pub data Which : Type 0 where
   searched : Clause Named → Which
   numbered : ℕ → Which
@@ -169,9 +174,10 @@ abbrev pub which_target : Setting → TableName → Which → Outcome Target
 which_target s name (Which.searched clause) = searched_target (tables_in s) name clause
 which_target s name (Which.numbered n) = searched_target (tables_in s) name absent
 
--- of none there is no data; the row under a number is there
+-- the numbers of the rows that are changed; where the search condition keeps none, there is no data
 abbrev pub numbers_changed : Setting → Target → Which → Outcome (List ℕ)
-numbers_changed s target (Which.searched clause) = chosen_numbers (reading s) (outer_env s) target (rows_at s target.place) >>= if_some
+numbers_changed s target (Which.searched clause) =
+    chosen_numbers (reading s) (outer_env s) target (rows_at s target.place) >>= if_some
 numbers_changed s target (Which.numbered n) = Ok (n ∷ [])
 
 abbrev pub is_numbered : List ℕ → Numbered → Bool
@@ -180,14 +186,17 @@ is_numbered numbers r = list_any (nat_eq r.number) numbers
 -- ---- UPDATE
 
 abbrev pub set_places : TableDescriptor → Target → Update → List (ℕ × NewValue)
-set_places d target u = filter_map (λ a. option_map (λ place. (place, a.value)) (place_under d target a.column)) (listed u.assignments)
+set_places d target u =
+    filter_map (λ a. option_map (λ place. (place, a.value)) (place_under d target a.column))
+    (listed u.assignments)
 
 abbrev pub item_alone : TableDescriptor → Item
 item_alone d = record { reference = record { table = d.table; correlation = None }; columns = column_names d }
 
 -- the environment in which the statement sees a row of the base table: as its table's columns
 abbrev pub row_env : Setting → TableDescriptor → Target → Row → Env Item
-row_env s d target row = seen_at (record { item = item_alone d; columns = target.columns; condition = absent }) row (outer_env s)
+row_env s d target row =
+    seen_at (record { item = item_alone d; columns = target.columns; condition = absent }) row (outer_env s)
 
 abbrev pub with_values : List (ℕ × Value) → Row → Row
 with_values given row = fold (λ r g. slice_set r g.0 g.1) row given

@@ -39,12 +39,16 @@ has_null values = list_any is_null_value values
 
 -- the rows of a base table now
 abbrev pub rows_of_base : Elements → Content → TableName → List Row
-rows_of_base elements content name = flat_map (λ place. rows_in (table_at content place)) (option_to_list (base_place elements name))
+rows_of_base elements content name =
+    flat_map (λ place. rows_in (table_at content place)) (option_to_list (base_place elements name))
 
 -- ---- of one row
 
 abbrev pub own_item : BaseTable → Item
-own_item t = record { reference = record { table = t.name; correlation = None }; columns = table_columns t.definition }
+own_item t = record {
+  reference = record { table = t.name; correlation = None };
+  columns = table_columns t.definition;
+}
 
 -- the environment of a CHECK: one row of its table, which is named by its own name
 abbrev pub check_env : BaseTable → Row → Env Item
@@ -57,12 +61,15 @@ satisfied (Ok truth.Unknown) = Ok tt
 satisfied (Ok truth.True) = Ok tt
 satisfied (Err s) = Err s
 
--- it has no subquery, parameter or USER, so nothing but the row is read
+-- the condition of a CHECK has no subquery, parameter or USER, so nothing but the row is read
 abbrev pub check_satisfied : BaseTable → Row → Cond → Outcome (Unit {0})
-check_satisfied t row condition = satisfied (truth (by_name [] [] []) (cond_of t.name.user condition) (check_env t row))
+check_satisfied t row condition =
+    satisfied (truth (by_name [] [] []) (cond_of t.name.user condition) (check_env t row))
 
 abbrev pub not_null_satisfied : BaseTable → Row → Outcome (Unit {0})
-not_null_satisfied t row = demanded (not (has_null (values_in t.definition (not_null_columns t.definition) row))) status.IntegrityConstraintViolation
+not_null_satisfied t row =
+    demanded (not (has_null (values_in t.definition (not_null_columns t.definition) row)))
+    status.IntegrityConstraintViolation
 
 abbrev pub all_satisfied : {A : Type 0} → (A → Outcome (Unit {0})) → List A → Outcome (Unit {0})
 all_satisfied test [] = Ok tt
@@ -81,7 +88,9 @@ abbrev pub key_satisfied : TableDefinition → List Row → List Name → Bool
 key_satisfied t rows key = not (has_twice same_row (map (values_in t key) rows))
 
 abbrev pub keys_satisfied : BaseTable → List Row → Outcome (Unit {0})
-keys_satisfied t rows = demanded (list_all (key_satisfied t.definition rows) (keys t.definition)) status.IntegrityConstraintViolation
+keys_satisfied t rows =
+    demanded (list_all (key_satisfied t.definition rows) (keys t.definition))
+    status.IntegrityConstraintViolation
 
 -- ---- references: some referencing column is null, or a row of the other table is the same in the paired columns
 
@@ -121,7 +130,9 @@ AreInDomains (d ∷ ds) (v ∷ vs) = IsInDomain d v × AreInDomains ds vs
 AreInDomains _ _ = ⊥
 
 abbrev pub DomainsHold : Elements → Content → BaseTable → Type 0
-DomainsHold elements content t = AllByRecursion (AreInDomains (map column_domain (column_definitions t.definition))) (rows_of_base elements content t.name)
+DomainsHold elements content t =
+    AllByRecursion (AreInDomains (map column_domain (column_definitions t.definition)))
+    (rows_of_base elements content t.name)
 
 -- the constraints of each row, the keys and the references of a table are satisfied
 abbrev pub ChecksHold : Elements → Content → BaseTable → Type 0
@@ -130,7 +141,7 @@ ChecksHold elements content t =
     × (keys_satisfied t (rows_of_base elements content t.name) ≡ Ok tt)
     × (references_satisfied elements content t ≡ Ok tt)
 
--- of every base table
+-- the property holds of every base table
 abbrev pub EachTable : Elements → (BaseTable → Type 0) → Type 0
 EachTable elements P = (place : ℕ) (t : BaseTable) → slice_get (base_tables elements) place ≡ Some t → P t
 
@@ -139,4 +150,5 @@ AllChecksHold elements content = EachTable elements (ChecksHold elements content
 
 -- all constraints hold: of all rows of all tables
 abbrev pub ConstraintsHold : Elements → Content → Type 0
-ConstraintsHold elements content = EachTable elements (DomainsHold elements content) × AllChecksHold elements content
+ConstraintsHold elements content =
+    EachTable elements (DomainsHold elements content) × AllChecksHold elements content

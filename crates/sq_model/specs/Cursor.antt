@@ -12,7 +12,7 @@ pub data CursorState : Type 0 where
   over_numbers : List ℕ → Option ℕ → CursorState
   over_rows : List (List Value) → ℕ → CursorState
 
--- at OPEN
+-- where a cursor stands after OPEN
 abbrev pub before_numbers : List ℕ → CursorState
 before_numbers numbers = CursorState.over_numbers numbers None
 
@@ -58,7 +58,10 @@ at_place rows place = record { cursor = CursorState.over_rows rows place; row = 
 
 abbrev pub at_number : List ℕ → ℕ → Fetched → Option (List Value) → Fetched
 at_number behind number otherwise None = otherwise
-at_number behind number otherwise (Some row) = record { cursor = CursorState.over_numbers behind (Some number); row = Some row }
+at_number behind number otherwise (Some row) = record {
+  cursor = CursorState.over_numbers behind (Some number);
+  row = Some row;
+}
 
 -- the next number under which a row is now; numbers without a row are passed for good
 abbrev pub to_next : (ℕ → Option (List Value)) → List ℕ → Fetched
@@ -69,7 +72,8 @@ to_next now (number ∷ behind) = at_number behind number (to_next now behind) (
 abbrev pub fetched : (ℕ → Option (List Value)) → Move → CursorState → Fetched
 fetched now move CursorState.closed = record { cursor = CursorState.closed; row = None }
 fetched now move (CursorState.over_numbers numbers on) = to_next now numbers
-fetched now move (CursorState.over_rows rows place) = at_place rows (bounded (length rows) (wanted move (length rows) place))
+fetched now move (CursorState.over_rows rows place) =
+    at_place rows (bounded (length rows) (wanted move (length rows) place))
 
 -- ---- what a cursor is on
 

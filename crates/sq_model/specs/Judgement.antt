@@ -37,18 +37,22 @@ abbrev pub modules_judged : {F : Type 0} → Program → Result ScriptText F →
 modules_judged p script (Some refusal) = Judgement.module_refused refusal
 modules_judged p script None = script_judgement p script
 
-abbrev pub modules_judgement : {F : Type 0} → List SchemaText → Result (List ModuleText) F → Result ScriptText F → ℕ → Judgement F
+abbrev pub modules_judgement : {F : Type 0} → List SchemaText → Result (List ModuleText) F
+    → Result ScriptText F → ℕ → Judgement F
 modules_judgement schemas (Err fault) script row_numbers = Judgement.module_unread fault
 modules_judgement schemas (Ok modules) script row_numbers =
     modules_judged (program_of schemas modules row_numbers) script (first_module_refusal modules)
 
 -- ---- before them the schemas
 
-abbrev pub schemas_judged : {F : Type 0} → List SchemaText → Result (List ModuleText) F → Result ScriptText F → ℕ → Option SchemaRefusal → Judgement F
+abbrev pub schemas_judged : {F : Type 0} → List SchemaText → Result (List ModuleText) F → Result ScriptText F
+    → ℕ → Option SchemaRefusal → Judgement F
 schemas_judged schemas modules script row_numbers (Some refusal) = Judgement.schema_refused refusal
 schemas_judged schemas modules script row_numbers None = modules_judgement schemas modules script row_numbers
 
 -- schema texts, module texts and a script, as they were read, and the greatest number of a row
-abbrev pub judgement : {F : Type 0} → Result (List SchemaText) F → Result (List ModuleText) F → Result ScriptText F → ℕ → Judgement F
+abbrev pub judgement : {F : Type 0} → Result (List SchemaText) F → Result (List ModuleText) F
+    → Result ScriptText F → ℕ → Judgement F
 judgement (Err fault) modules script row_numbers = Judgement.schema_unread fault
-judgement (Ok schemas) modules script row_numbers = schemas_judged schemas modules script row_numbers (first_schema_refusal schemas)
+judgement (Ok schemas) modules script row_numbers =
+    schemas_judged schemas modules script row_numbers (first_schema_refusal schemas)

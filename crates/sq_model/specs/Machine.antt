@@ -74,7 +74,8 @@ abbrev pub is_entry : Name → Name → CursorEntry → Bool
 is_entry module_name name c = same_name c.in_module module_name && same_name c.name name
 
 abbrev pub cursor_at : State → Name → Name → CursorState
-cursor_at s module_name name = unwrap_or (option_map (λ c. c.state) (find (is_entry module_name name) s.cursors)) CursorState.closed
+cursor_at s module_name name =
+    unwrap_or (option_map (λ c. c.state) (find (is_entry module_name name) s.cursors)) CursorState.closed
 
 abbrev pub set_cursor : Name → Name → CursorState → CursorEntry → CursorEntry
 set_cursor module_name name state c = if is_entry module_name name c then record c { state = state } else c
@@ -168,7 +169,8 @@ open_by r name (Ok state) = (moved r name state, replied_with status.SuccessfulC
 open_by r name (Err s) = ends_with r s
 
 abbrev pub open_cursor : Running → Name → Cursor → Outcomes
-open_cursor r name c = if is_open (cursor_now r name) then ends_with r status.InvalidCursorState else open_by r name (opened r c)
+open_cursor r name c =
+    if is_open (cursor_now r name) then ends_with r status.InvalidCursorState else open_by r name (opened r c)
 
 -- ---- FETCH (13.3)
 
@@ -177,7 +179,8 @@ integer_of (value.Num n) = n.unscaled
 integer_of _ = pos 0
 
 abbrev pub parameter_integer : Parameters → Name → ℤ
-parameter_integer parameters name = integer_of (unwrap_or (option_map (λ p. p.value) (parameter_named parameters name)) value.Null)
+parameter_integer parameters name =
+    integer_of (unwrap_or (option_map (λ p. p.value) (parameter_named parameters name)) value.Null)
 
 -- the number of ABSOLUTE and RELATIVE, read before any target is set
 abbrev pub position_integer : Parameters → Position → ℤ
@@ -199,7 +202,8 @@ numbered_row s place number = option_map (λ r. r.row) (find (λ r. r.number == 
 -- the row under a number, as an updatable cursor shows it now
 abbrev pub shown_now : Running → Option Target → ℕ → Option Row
 shown_now r None number = None
-shown_now r (Some target) number = option_map (λ row. in_columns row target.columns) (numbered_row (setting r) target.place number)
+shown_now r (Some target) number =
+    option_map (λ row. in_columns row target.columns) (numbered_row (setting r) target.place number)
 
 -- no data where no row is reached; a failure of retrieving leaves the cursor where it came
 abbrev pub fetch_reply : Running → Fetch → Option Row → Reply
@@ -245,7 +249,8 @@ select_into r s = (r.state, select_reply r s (selected_row r s))
 
 -- a status leaves everything as it was; else the database is the new one, and the cursors are as `behind` has them
 abbrev pub change_by : Running → State → Outcome Content → Outcomes
-change_by r behind (Ok content) = (record behind { tables = content }, replied_with status.SuccessfulCompletion)
+change_by r behind (Ok content) =
+    (record behind { tables = content }, replied_with status.SuccessfulCompletion)
 change_by r behind (Err s) = ends_with r s
 
 -- the number that the cursor is on, if its row is there
@@ -257,10 +262,11 @@ current_number r cursor =
     option_and_then (λ c. option_and_then (λ target. option_and_then (row_is_there r target) (number_on (cursor_now r cursor))) (updatable_cursor (surroundings r) c))
     (cursor_named r.in_module cursor)
 
--- which rows UPDATE and DELETE change; a positioned statement needs a cursor that is on a row that is there
+-- the rows that UPDATE and DELETE change; a positioned statement needs a cursor that is on a row that is there
 abbrev pub which_rows : Running → Option Where → Outcome Which
 which_rows r None = Ok (Which.searched absent)
-which_rows r (Some (rows_where.Condition c)) = Ok (Which.searched (present (cond_of r.in_module.authorization c)))
+which_rows r (Some (rows_where.Condition c)) =
+    Ok (Which.searched (present (cond_of r.in_module.authorization c)))
 which_rows r (Some (rows_where.CurrentOf cursor)) = do
   number ← or_status status.InvalidCursorState (current_number r cursor)
   Ok (Which.numbered number)
@@ -292,7 +298,9 @@ rolled_back s = record { tables = s.committed; committed = s.committed; cursors 
 
 -- the cursor that a statement names; that it is there is a rule of well-formed statements
 abbrev pub with_named : Running → Name → (Cursor → Outcomes) → Outcomes
-with_named r name go_on = unwrap_or (option_map go_on (cursor_named r.in_module name)) (ends_with r status.SyntaxErrorOrAccessRuleViolation)
+with_named r name go_on =
+    unwrap_or (option_map go_on (cursor_named r.in_module name))
+    (ends_with r status.SyntaxErrorOrAccessRuleViolation)
 
 abbrev pub performed : Running → Statement → Outcomes
 performed r (statement.Open name) = with_named r name (open_cursor r name)
@@ -322,14 +330,17 @@ running p s values m procedure = record {
 }
 
 abbrev pub call_of : Program → State → List Value → ModuleText → Procedure → Outcomes
-call_of p s values m procedure = performed_if (is_well_formed_procedure p.elements m procedure) (running p s values m procedure)
+call_of p s values m procedure =
+    performed_if (is_well_formed_procedure p.elements m procedure) (running p s values m procedure)
 
 abbrev pub call_in : Program → State → Call → ModuleText → Option Outcomes
 call_in p s c m = option_map (call_of p s c.values m) (procedure_named m c.procedure)
 
 -- the state after a call, and what it answers; a script's calls name procedures that are there
 abbrev pub outcome : Program → State → Call → Outcomes
-outcome p s c = unwrap_or (option_and_then (call_in p s c) (module_named p.modules c.in_module)) (s, replied_with status.SyntaxErrorOrAccessRuleViolation)
+outcome p s c =
+    unwrap_or (option_and_then (call_in p s c) (module_named p.modules c.in_module))
+    (s, replied_with status.SyntaxErrorOrAccessRuleViolation)
 
 abbrev pub stepped : Program → State → Call → State
 stepped p s c = (outcome p s c).0

@@ -35,9 +35,11 @@ started d value.Null = start_value d
 started d v = unwrap_or (result_ok (assigned d v)) (start_value d)
 
 abbrev pub started_parameters : List Declared → List Value → Parameters
-started_parameters declared values = map (λ p. record { name = p.0.name; domain = p.0.domain; value = started p.0.domain p.1 }) (zip declared values)
+started_parameters declared values =
+    map (λ p. record { name = p.0.name; domain = p.0.domain; value = started p.0.domain p.1 })
+    (zip declared values)
 
--- as expressions read them
+-- parameters as expressions read them
 abbrev pub inputs_of : Parameters → List Input
 inputs_of parameters = map (λ p. record { name = p.name; value = p.value }) parameters
 
@@ -84,7 +86,8 @@ parameter_named parameters name = find (λ p. same_name p.name name) parameters
 
 -- the domain of a declared parameter
 abbrev pub domain_of_parameter : Parameters → Name → Domain
-domain_of_parameter parameters name = unwrap_or (option_map (λ p. p.domain) (parameter_named parameters name)) domain.Int
+domain_of_parameter parameters name =
+    unwrap_or (option_map (λ p. p.domain) (parameter_named parameters name)) domain.Int
 
 -- a row into as many targets, from left to right
 abbrev pub row_retrieved : Parameters → List Parameter → List Value → Outcome (List Retrieval)
@@ -109,7 +112,8 @@ assigned_to assignments p = find (λ a. same_name a.name p.name) assignments
 
 -- in the order in which the parameters are declared
 abbrev pub outputs_of : Parameters → List Retrieval → List Assignment
-outputs_of parameters retrievals = filter_map (assigned_to (flat_map (λ r. r.assignments) retrievals)) parameters
+outputs_of parameters retrievals =
+    filter_map (assigned_to (flat_map (λ r. r.assignments) retrievals)) parameters
 
 abbrev pub is_cut : List Retrieval → Bool
 is_cut retrievals = list_any (λ r. r.cut) retrievals

@@ -52,7 +52,9 @@ abbrev pub row_line : Numbered → Bytes
 row_line r = codes " " ++ flat_map blank_value r.row ++ codes "\n"
 
 abbrev pub table_lines : TableName → Table → Bytes
-table_lines name t = codes "TABLE " ++ name.user ++ codes "." ++ name.name ++ codes " " ++ decimal (length t.rows) ++ codes "\n" ++ flat_map row_line t.rows
+table_lines name t =
+    codes "TABLE " ++ name.user ++ codes "." ++ name.name ++ codes " " ++ decimal (length t.rows)
+    ++ codes "\n" ++ flat_map row_line t.rows
 
 -- ---- a run, item by item
 

@@ -15,12 +15,17 @@ pub data Item : Type 0 where
   show : TableName → Item
 
 abbrev pub item_of_script : ScriptItem → Item
-item_of_script (script.Call «module» procedure arguments) = Item.call (record { in_module = «module»; procedure = procedure; values = argument_values arguments })
+item_of_script (script.Call «module» procedure arguments) =
+    Item.call (record { in_module = «module»; procedure = procedure; values = argument_values arguments })
 item_of_script (script.Table user table) = Item.show (record { user = user; name = table })
 
 -- what texts say: all schemas, then all modules
 abbrev pub program_of : List SchemaText → List ModuleText → ℕ → Program
-program_of schemas modules row_numbers = record { elements = elements_of schemas; modules = modules; row_numbers = row_numbers }
+program_of schemas modules row_numbers = record {
+  elements = elements_of schemas;
+  modules = modules;
+  row_numbers = row_numbers;
+}
 
 abbrev pub after_item : Program → State → Item → State
 after_item p s (Item.call c) = stepped p s c

@@ -1,3 +1,5 @@
+//! What takes the bytes of a report.
+
 ghost use Rattle.std.specs.Prelude.{◌≡◌, ◌≤◌, ◌||◌, List, ℕ, Bool, Option, length, IfOk};
 ghost use Rattle.std.specs.Io.KnownBytes.{WriteAppends};
 ghost use Rattle.sq_out.specs.Fault.{is_fault};

@@ -1,3 +1,5 @@
+//! An output over a writer of std.
+
 ghost use Rattle.std.specs.Prelude.{◌≡◌, ◌≤◌, ◌||◌, false, length, IsErr, MatchResult};
 ghost use Rattle.sq_out.specs.Fault.{is_fault};
 

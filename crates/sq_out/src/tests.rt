@@ -1,3 +1,5 @@
+//! Outputs over writers of std, tried.
+
 use crate::{Out, OutOf, write_whole};
 use std::test::Fail;
 

@@ -12,7 +12,7 @@ use Rattle.sq_reader.specs.Reads.{Stops}
 use Rattle.sq_parse.specs.Refusal.{HasNoTree, refusal}
 use Rattle.sq_grammar.specs.declared.brackets.TheConstants.{MAX_DEPTH}
 
--- what the refusal says of the trees, each of which the parser takes, but for its depth
+-- What a refusal says of the trees, each of which the parser takes unless it nests brackets too deep.
 pub no_tree : {T : Type 0} (p : Parser T) (tokens_of : T → Tokens) (depth_of : T → ℕ) → ((tree : T) → Takes p (tokens_of tree) 0 0 (depth_of tree) MAX_DEPTH tree []) → (ts : Tokens) (s : Stop) → Stops (whole p ts) s → HasNoTree tokens_of depth_of ts (refusal ts s)
 no_tree p tokens_of depth_of takes ts stop.NoMemory stops = tt
 no_tree {T = T} p tokens_of depth_of takes ts (stop.Unfit left) stops = by (nat_lt (length ts - left) (length ts)) (is_too_deep ts (length ts - left)) refl refl

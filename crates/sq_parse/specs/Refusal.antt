@@ -10,42 +10,44 @@ use Rattle.sq_reader.specs.declared.stop.Stop.TheVariants as stop
 
 -- The refusal at the token of this index. A bracket too many takes precedence over any other fault of its token.
 abbrev pub refusal_at : Tokens → ℕ → ParseError
-refusal_at ts index = if nat_lt index (length ts) then (if is_too_deep ts index then TooDeep index else Unexpected index) else EndOfText
+refusal_at ts index =
+    if nat_lt index (length ts) then (if is_too_deep ts index then TooDeep index else Unexpected index) else EndOfText
 
 -- What a reading of a text's tokens comes to: the tree, or the refusal at the token where the reading is stuck.
 abbrev pub answer : {T : Type 0} → Tokens → Outcome T → Result T ParseError
 answer ts (Ok read) = Ok read.0
 answer ts (Err left) = Err (refusal_at ts (length ts - left))
 
--- what reading all of the tokens by a rule of the grammar comes to
+-- What reading all of the tokens by a rule of the grammar comes to.
 abbrev pub parsed : {T : Type 0} → Parser T → Tokens → Result T ParseError
 parsed rule ts = answer ts (whole rule ts)
 
--- A parse answers this, unless memory ran out.
+-- What a parse answers for a wanted tree or refusal: the same, unless memory ran out.
 abbrev pub Answers : {T : Type 0} → Result T ParseError → Result T ParseError → Type 0
 Answers wanted (Ok tree) = Ok tree ≡ wanted
 Answers wanted (Err NoMemory) = Unit {0}
 Answers wanted (Err fault) = Err fault ≡ wanted
 
--- Any tree that is spelled by these tokens is this one.
+-- This tree is the only one that these tokens spell.
 abbrev pub IsOnlyTree : {T : Type 0} → (T → Tokens) → Tokens → T → Type 0
 IsOnlyTree {T = T} tokens_of ts tree = (other : T) → tokens_of other ≡ ts → other ≡ tree
 
--- What a refusal says of the tokens.
+-- What a refusal says of the tokens of the text.
 abbrev pub IsRefusal : Tokens → ParseError → Type 0
 IsRefusal ts NoMemory = Unit {0}
 IsRefusal ts (Unexpected index) = (index < length ts) × (is_too_deep ts index ≡ false)
 IsRefusal ts (TooDeep index) = IsTrue (is_too_deep ts index)
 IsRefusal ts EndOfText = Unit {0}
 
--- What a refusal says of the trees of the grammar: none has these tokens, or each that has them is deeper than brackets may be.
+-- What a refusal says of the trees of the grammar: none has these tokens, or each tree that has them nests brackets
+-- too deep.
 abbrev pub HasNoTree : {T : Type 0} → (T → Tokens) → (T → ℕ) → Tokens → ParseError → Type 0
 HasNoTree tokens_of depth_of ts NoMemory = Unit {0}
 HasNoTree {T = T} tokens_of depth_of ts (Unexpected index) = (tree : T) → tokens_of tree ≡ ts → ⊥
 HasNoTree {T = T} tokens_of depth_of ts (TooDeep index) = (tree : T) → tokens_of tree ≡ ts → MAX_DEPTH < depth_of tree
 HasNoTree {T = T} tokens_of depth_of ts EndOfText = (tree : T) → tokens_of tree ≡ ts → ⊥
 
--- the refusal where reading stops
+-- The refusal of a text where reading stops.
 abbrev pub refusal : Tokens → Stop → ParseError
 refusal ts stop.NoMemory = NoMemory
 refusal ts (stop.Unfit left) = refusal_at ts (length ts - left)

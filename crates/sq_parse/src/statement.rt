@@ -1,4 +1,5 @@
-//! The statements of a procedure. In each rule `left` brackets may be open at once, and a statement's first word is read already.
+//! The statements of a procedure. In each rule `left` brackets may be open at once, and a statement's first word is
+//! read already.
 
 ghost use Rattle.std.specs.Prelude.{◌≡◌, ◌<◌, ◌≤◌, length, OnOk, OnSome};
 ghost use Rattle.sq_grammar.specs.declared.brackets.TheConstants.{MAX_DEPTH};

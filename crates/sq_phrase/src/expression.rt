@@ -336,7 +336,7 @@ pub fn expr(alloc: Global, tokens: &mut Reader<'_>, left: usize) -> Result<Expr,
     .expr(tokens)
 }
 
-/// The same where the first primary is read already.
+/// The rest of an expression whose first primary is read already.
 pub fn expr_from(
     alloc: Global,
     tokens: &mut Reader<'_>,

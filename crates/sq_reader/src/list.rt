@@ -54,7 +54,7 @@ pub fn comma_list<T: Drop, P: Fn(&mut Reader<'_>) -> Result<T, Stop>>(
     }
 }
 
-/// Items again and again, until there is none.
+/// Items, one after the other, until no more comes.
 #[tactic(auto, using(sq_grammar::proofs::Many::loops))]
 pub fn items<T: Drop, P: Fn(&mut Reader<'_>) -> Result<Option<T>, Stop>>(
     alloc: Global,

@@ -178,7 +178,7 @@ pub fn columns(alloc: Global, tokens: &mut Reader<'_>) -> Result<CommaList<Name>
     columns_from(alloc, tokens)
 }
 
-/// The same, if its bracket comes.
+/// A list of columns in brackets, or `None` if no bracket comes.
 #[tactic(auto, unfolding(sq_grammar::specs::Names::columns_if_any))]
 pub fn columns_if_any(
     alloc: Global,

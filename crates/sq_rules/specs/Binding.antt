@@ -62,7 +62,8 @@ nearest_fits [] further = map one_further further
 nearest_fits (p ∷ ps) further = p ∷ ps
 
 abbrev pub fits_here : Known → ColumnReference → EnclosingQuery → List Place
-fits_here k c query = map (λ f. record { depth = 0; item = f.0; column = f.1 }) (fitting c (items_here k query))
+fits_here k c query =
+    map (λ f. record { depth = 0; item = f.0; column = f.1 }) (fitting c (items_here k query))
 
 -- the columns that a reference fits, in the nearest scope in which it fits one: how far out that is, the item and the
 -- column
@@ -143,7 +144,8 @@ reads_outer k a e = list_any (is_outer k a) (columns_read k a e)
 
 -- outside a select list and HAVING, inside another, or over an outer reference
 abbrev pub misplaced_function : Known → Site → Bool
-misplaced_function k (Site.function_called a operand) = not a.functions_allowed || is_some_and (reads_outer k a) operand
+misplaced_function k (Site.function_called a operand) =
+    not a.functions_allowed || is_some_and (reads_outer k a) operand
 misplaced_function k _ = false
 
 abbrev pub is_at : Place → Place → Bool
@@ -162,7 +164,8 @@ is_ungrouped k queries p = is_some_and (is_ungrouped_at k p) (slice_get queries 
 
 -- in the select list or HAVING of the query, also in a subquery there, but not in a set function
 abbrev pub ungrouped_column : Known → Site → Bool
-ungrouped_column k (Site.column_read a c) = not a.in_function && list_any (is_ungrouped k a.queries) (fits k c a.queries)
+ungrouped_column k (Site.column_read a c) =
+    not a.in_function && list_any (is_ungrouped k a.queries) (fits k c a.queries)
 ungrouped_column k _ = false
 
 -- ---- counts (6.11, 7.9, 7.10, 13.3, 13.5 and 13.8)
@@ -207,7 +210,8 @@ orientation_names _ = []
 abbrev pub unknown_parameter : Known → Site → Bool
 unknown_parameter k (Site.parameter_read p) = list_any (is_unknown_name k) (parameter_names p)
 unknown_parameter k (Site.targets ps) = list_any (is_unknown_name k) (flat_map parameter_names ps)
-unknown_parameter k (Site.orientation_used scrolls (Some o)) = list_any (is_unknown_name k) (orientation_names o)
+unknown_parameter k (Site.orientation_used scrolls (Some o)) =
+    list_any (is_unknown_name k) (orientation_names o)
 unknown_parameter k _ = false
 
 -- SMALLINT, INTEGER, or NUMERIC(p,0) with p of at least 3 (own rule)
@@ -219,7 +223,8 @@ is_indicator_domain (domain.Char n) = false
 is_indicator_domain (domain.VarChar n) = false
 
 abbrev pub is_bad_indicator : Known → Parameter → Bool
-is_bad_indicator k p = is_some_and (λ d. not (is_indicator_domain d)) (option_and_then (domain_named k) (indicator_name p))
+is_bad_indicator k p =
+    is_some_and (λ d. not (is_indicator_domain d)) (option_and_then (domain_named k) (indicator_name p))
 
 abbrev pub bad_indicator : Known → Site → Bool
 bad_indicator k (Site.parameter_read p) = is_bad_indicator k p
@@ -243,7 +248,8 @@ is_over t c = is_some_and (same_table t) c.table
 -- is over another table
 abbrev pub not_updatable : Known → Site → Bool
 not_updatable k (Site.table_changed t) = is_known_table k t && is_err (target_of k.tables t)
-not_updatable k (Site.positioned t cursor) = is_known_table k t && is_some_and (λ c. not (is_over t c)) (cursor_known k cursor)
+not_updatable k (Site.positioned t cursor) =
+    is_known_table k t && is_some_and (λ c. not (is_over t c)) (cursor_known k cursor)
 not_updatable k _ = false
 
 -- in an insert column list, or among the columns of set clauses
@@ -269,7 +275,8 @@ is_whole_domain (domain.VarChar n) = false
 -- a number written with a point, or a parameter that is no whole number; one that is not declared is that fault alone
 abbrev pub is_bad_position : Known → Position → Bool
 is_bad_position k (position_of.Number n) = has_point n.number
-is_bad_position k (position_of.Parameter name) = is_some_and (λ d. not (is_whole_domain d)) (domain_named k name)
+is_bad_position k (position_of.Parameter name) =
+    is_some_and (λ d. not (is_whole_domain d)) (domain_named k name)
 
 -- NEXT needs no SCROLL; a number is a whole one, and so is a parameter's kind
 abbrev pub is_bad_orientation : Known → (scrolls : Bool) → Orientation → Bool

@@ -50,10 +50,12 @@ names_written None otherwise = otherwise
 names_written (Some columns) otherwise = map Some (listed columns)
 
 abbrev pub view_names : Tables → Name → ViewDefinition → List (Option Name)
-view_names tables owner v = names_written v.columns (unwrap_or (result_ok (select_names tables (select_of owner v.query))) [])
+view_names tables owner v =
+    names_written v.columns (unwrap_or (result_ok (select_names tables (select_of owner v.query))) [])
 
 abbrev pub view_kinds : Tables → Name → ViewDefinition → List Kind
-view_kinds tables owner v = unwrap_or (result_ok (select_kinds (kinds_by_name tables []) [] (select_of owner v.query))) []
+view_kinds tables owner v =
+    unwrap_or (result_ok (select_kinds (kinds_by_name tables []) [] (select_of owner v.query))) []
 
 abbrev pub view_descriptor : Tables → Name → ViewDefinition → TableDescriptor
 view_descriptor tables owner v = record {

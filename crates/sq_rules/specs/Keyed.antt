@@ -25,12 +25,14 @@ use Rattle.sq_rules.specs.Words.{is_some_and}
 abbrev pub is_known_value : List Input → Expr Named → Bool
 is_known_value inputs (literal v) = true
 is_known_value inputs (signed sign (literal v)) = true
-is_known_value inputs (parameter p) = is_some_and (λ v. not (is_null_value v)) (result_ok (input_value p inputs))
+is_known_value inputs (parameter p) =
+    is_some_and (λ v. not (is_null_value v)) (result_ok (input_value p inputs))
 is_known_value inputs _ = false
 
 -- the column that a test compares with such a value by `=`
 abbrev pub column_equal : List Input → Cond Named → Option Name
-column_equal inputs (compare comparison.Equal (column c) e) = if is_known_value inputs e then Some c.column else None
+column_equal inputs (compare comparison.Equal (column c) e) =
+    if is_known_value inputs e then Some c.column else None
 column_equal inputs _ = None
 
 abbrev pub tests_of : Conds Named → List (Cond Named)
@@ -46,7 +48,8 @@ is_by_key inputs cs key = list_all (is_among (columns_equal inputs (length key) 
 
 -- one list of tests joined by AND, without a subquery, whose first tests name each column of one declared key
 abbrev pub is_keyed : TableDefinition → List Input → Clause Named → Bool
-is_keyed t inputs (present (disjunction (a_cond (conjunction cs) no_cond))) = not (have_subquery cs) && list_any (is_by_key inputs cs) (keys t)
+is_keyed t inputs (present (disjunction (a_cond (conjunction cs) no_cond))) =
+    not (have_subquery cs) && list_any (is_by_key inputs cs) (keys t)
 is_keyed t inputs _ = false
 
 -- ---- calls
@@ -59,8 +62,10 @@ is_keyed_where elements user inputs name _ = false
 -- A call with these inputs is keyed if its statement is a searched UPDATE or DELETE on a base table, by a key: it reads one
 -- row at most.
 abbrev pub is_keyed_statement : Elements → Name → List Input → Statement → Bool
-is_keyed_statement elements user inputs (statement.Update u) = is_keyed_where elements user inputs (table_of user u.table) u.target
-is_keyed_statement elements user inputs (statement.Delete x) = is_keyed_where elements user inputs (table_of user x.table) x.target
+is_keyed_statement elements user inputs (statement.Update u) =
+    is_keyed_where elements user inputs (table_of user u.table) u.target
+is_keyed_statement elements user inputs (statement.Delete x) =
+    is_keyed_where elements user inputs (table_of user x.table) x.target
 is_keyed_statement elements user inputs _ = false
 
 -- ---- cursors

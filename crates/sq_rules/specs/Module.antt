@@ -62,7 +62,7 @@ parameter_declarations p = filter_map declared_in (declarations_of p.declaration
 abbrev pub declared_by : ParameterDeclaration → Option Declared
 declared_by d = option_map (λ domain. record { name = d.name; domain = domain }) (domain_of d.data_type)
 
--- the same with their domains; in a module that is not refused each has one
+-- the named parameters with their domains; in a module that is not refused each has one
 abbrev pub declared_parameters : Procedure → List Declared
 declared_parameters p = filter_map declared_by (parameter_declarations p)
 

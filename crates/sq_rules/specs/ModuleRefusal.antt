@@ -30,7 +30,8 @@ names_before names place = filter_map (λ name. name) (take place names)
 
 -- the place of the first name that was used before
 abbrev pub first_repeated : List (Option Name) → Option ℕ
-first_repeated names = position (λ n. is_some_and (is_among (names_before names n.0)) n.1) (enumerate_from 0 names)
+first_repeated names =
+    position (λ n. is_some_and (is_among (names_before names n.0)) n.1) (enumerate_from 0 names)
 
 abbrev pub procedure_name : ModuleItem → Option Name
 procedure_name i = option_map (λ p. p.name) (procedure_in i)
@@ -60,7 +61,9 @@ abbrev pub is_bad_type : DataType → Bool
 is_bad_type t = is_none (domain_of t)
 
 abbrev pub has_bad_declared : List ParameterDeclaration → Bool
-has_bad_declared ds = has_name_twice (map (λ d. d.name) ds) || list_any (λ d. is_bad_type d.data_type) ds || nat_lt 64 (length ds)
+has_bad_declared ds =
+    has_name_twice (map (λ d. d.name) ds) || list_any (λ d. is_bad_type d.data_type) ds
+    || nat_lt 64 (length ds)
 
 abbrev pub has_bad_parameter : ModuleItem → Bool
 has_bad_parameter (item.Cursor c) = false
@@ -72,7 +75,10 @@ abbrev pub at_item : ℕ → ModuleFault → Option ℕ → Option ModuleRefusal
 at_item text fault place = option_map (λ i. record { text = text; item = Some i; fault = fault }) place
 
 abbrev pub name_refusal : List Name → ℕ → ModuleText → Option ModuleRefusal
-name_refusal earlier text m = if is_among earlier m.name then Some (record { text = text; item = None; fault = module_fault.TwoModules }) else None
+name_refusal earlier text m =
+    if is_among earlier m.name
+    then Some (record { text = text; item = None; fault = module_fault.TwoModules })
+    else None
 
 -- each refusal is looked for over the whole module before the next
 abbrev pub module_refusal : List Name → ℕ → ModuleText → Option ModuleRefusal

@@ -45,7 +45,8 @@ is_on_column columns (Privilege.references c) = is_among columns c
 is_on_column columns _ = true
 
 abbrev pub table_gives : Name → TableDefinition → Holding
-table_gives owner t grantable user name p = same_name owner user && same_table (table_of owner t.name) name && is_on_column (table_columns t) p
+table_gives owner t grantable user name p =
+    same_name owner user && same_table (table_of owner t.name) name && is_on_column (table_columns t) p
 
 -- ---- GRANT: what the grantor holds with the grant option (11.36)
 
@@ -94,11 +95,13 @@ column_underneath view source c =
 abbrev pub privilege_underneath : TableDescriptor → Source → Privilege → Option Privilege
 privilege_underneath view source Privilege.insert = Some Privilege.insert
 privilege_underneath view source Privilege.delete = Some Privilege.delete
-privilege_underneath view source (Privilege.update c) = option_map Privilege.update (column_underneath view source c)
+privilege_underneath view source (Privilege.update c) =
+    option_map Privilege.update (column_underneath view source c)
 privilege_underneath view source _ = None
 
 -- on an updatable view INSERT, DELETE and UPDATE follow those on the table of its FROM clause, UPDATE column by column
-abbrev pub holds_underneath : Holding → Name → (grantable : Bool) → TableDescriptor → Source → Privilege → Bool
+abbrev pub holds_underneath : Holding → Name → (grantable : Bool) → TableDescriptor → Source → Privilege
+    → Bool
 holds_underneath held owner grantable view source p =
     is_some_and (held grantable owner source.item.reference.table) (privilege_underneath view source p)
 
@@ -136,6 +139,6 @@ chain (e ∷ before) grantable user name p =
 abbrev pub holds : Elements → Name → TableName → Privilege → Bool
 holds elements = chain elements false
 
--- and with the grant option
+-- a user holds a privilege with the grant option
 abbrev pub may_grant_on : Elements → Name → TableName → Privilege → Bool
 may_grant_on elements = chain elements true

@@ -70,7 +70,8 @@ abbrev pub constraints_in : TableElement → List Constraint
 constraints_in (table_element.Column c) = map (of_column c.name) c.constraints
 constraints_in (table_element.Unique columns) = Constraint.unique (listed columns) ∷ []
 constraints_in (table_element.PrimaryKey columns) = Constraint.primary_key (listed columns) ∷ []
-constraints_in (table_element.ForeignKey key) = Constraint.referential (listed key.columns) key.references ∷ []
+constraints_in (table_element.ForeignKey key) =
+    Constraint.referential (listed key.columns) key.references ∷ []
 constraints_in (table_element.Check condition) = Constraint.check condition ∷ []
 
 -- all constraints of a table, in the order of the text
@@ -96,7 +97,8 @@ pub record Reference : Type 0 where
   pub references : References
 
 abbrev pub reference_in : Constraint → Option Reference
-reference_in (Constraint.referential columns references) = Some (record { columns = columns; references = references })
+reference_in (Constraint.referential columns references) =
+    Some (record { columns = columns; references = references })
 reference_in _ = None
 
 abbrev pub condition_in : Constraint → Option Cond
@@ -120,7 +122,8 @@ checks t = filter_map condition_in (constraints t)
 
 -- the referenced columns: those written, or else the primary key (11.8)
 abbrev pub referenced_columns : TableDefinition → References → Option (List Name)
-referenced_columns target references = option_or (option_map listed references.columns) (slice_get (primary_keys target) 0)
+referenced_columns target references =
+    option_or (option_map listed references.columns) (slice_get (primary_keys target) 0)
 
 -- ---- the tables and views of some elements
 

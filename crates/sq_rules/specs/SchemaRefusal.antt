@@ -51,7 +51,8 @@ abbrev pub is_made : Elements → TableName → Bool
 is_made elements t = list_any (λ d. same_table d.table t) (tables_of elements)
 
 abbrev pub columns_of_made : Elements → TableName → List Name
-columns_of_made elements t = flat_map column_names (option_to_list (result_ok (descriptor_of (tables_of elements) t)))
+columns_of_made elements t =
+    flat_map column_names (option_to_list (result_ok (descriptor_of (tables_of elements) t)))
 
 -- the elements up to this one: a table may reference itself
 abbrev pub with_element : Elements → Name → SchemaElement → Elements
@@ -59,7 +60,7 @@ with_element before user e = record { user = user; element = e } ∷ before
 
 -- ---- a name used again
 
--- of a table or view in the user's own schema
+-- the name of a table or view in the user's own schema is used again
 abbrev pub is_made_again : Elements → Name → TableName → Bool
 is_made_again before user t = same_user user t && is_made before t
 
@@ -75,11 +76,15 @@ view_has_fault before user v = has_syntax_fault (view_judged before user) (view_
 -- the names of a view's columns: those of its list or, where its query has no fault, of the query
 abbrev pub names_repeat : Elements → Name → ViewDefinition → Option (CommaList Name) → Bool
 names_repeat before user v (Some columns) = has_name_twice (listed columns)
-names_repeat before user v None = not (view_has_fault before user v) && has_name_twice (filter_map (λ n. n) (view_names (tables_of before) user v))
+names_repeat before user v None =
+    not (view_has_fault before user v)
+    && has_name_twice (filter_map (λ n. n) (view_names (tables_of before) user v))
 
 abbrev pub name_twice : Elements → Name → SchemaElement → Bool
-name_twice before user (element.Table t) = is_made_again before user (table_of user t.name) || has_name_twice (table_columns t)
-name_twice before user (element.View v) = is_made_again before user (table_of user v.name) || names_repeat before user v v.columns
+name_twice before user (element.Table t) =
+    is_made_again before user (table_of user t.name) || has_name_twice (table_columns t)
+name_twice before user (element.View v) =
+    is_made_again before user (table_of user v.name) || names_repeat before user v v.columns
 name_twice before user (element.Grant g) = false
 
 -- ---- a table or a column that is not there
@@ -95,7 +100,8 @@ abbrev pub constraint_unknown : Elements → Name → List Name → Constraint �
 constraint_unknown elements user columns (Constraint.not_null name) = false
 constraint_unknown elements user columns (Constraint.unique names) = has_unknown columns names
 constraint_unknown elements user columns (Constraint.primary_key names) = has_unknown columns names
-constraint_unknown elements user columns (Constraint.referential names r) = has_unknown columns names || reference_unknown elements user r
+constraint_unknown elements user columns (Constraint.referential names r) =
+    has_unknown columns names || reference_unknown elements user r
 constraint_unknown elements user columns (Constraint.check c) = false
 
 abbrev pub action_columns : Action → List Name
@@ -112,7 +118,9 @@ grant_unknown before user g =
     not (is_made before (table_of user g.table)) || has_unknown (columns_of_made before (table_of user g.table)) (flat_map action_columns (actions_of g.privileges))
 
 abbrev pub unknown_name : Elements → Name → SchemaElement → Bool
-unknown_name before user (element.Table t) = list_any (constraint_unknown (with_element before user (element.Table t)) user (table_columns t)) (constraints t)
+unknown_name before user (element.Table t) =
+    list_any (constraint_unknown (with_element before user (element.Table t)) user (table_columns t))
+    (constraints t)
 unknown_name before user (element.View v) = false
 unknown_name before user (element.Grant g) = grant_unknown before user g
 
@@ -195,7 +203,9 @@ is_good_reference elements user t r =
     (referenced_table elements user r.references)
 
 abbrev pub bad_reference : Elements → Name → SchemaElement → Bool
-bad_reference before user (element.Table t) = list_any (λ r. not (is_good_reference (with_element before user (element.Table t)) user t r)) (table_references t)
+bad_reference before user (element.Table t) =
+    list_any (λ r. not (is_good_reference (with_element before user (element.Table t)) user t r))
+    (table_references t)
 bad_reference before user _ = false
 
 -- ---- CHECK (11.9): no subquery, set function, USER or parameter (own rule)
@@ -206,21 +216,24 @@ is_refused_in_check Site.subquery_read = true
 is_refused_in_check _ = false
 
 abbrev pub check_sites : Elements → Name → TableDefinition → Cond → List Site
-check_sites elements user t c = cond_sites (known_tables (tables_of elements)) (beside_table (table_of user t.name)) (cond_of user c)
+check_sites elements user t c =
+    cond_sites (known_tables (tables_of elements)) (beside_table (table_of user t.name)) (cond_of user c)
 
 abbrev pub is_bad_check : Elements → Name → TableDefinition → Cond → Bool
 is_bad_check elements user t c =
     has_syntax_fault (view_judged elements user) (check_sites elements user t c) || list_any is_refused_in_check (check_sites elements user t c)
 
 abbrev pub bad_check : Elements → Name → SchemaElement → Bool
-bad_check before user (element.Table t) = list_any (is_bad_check (with_element before user (element.Table t)) user t) (checks t)
+bad_check before user (element.Table t) =
+    list_any (is_bad_check (with_element before user (element.Table t)) user t) (checks t)
 bad_check before user _ = false
 
 -- ---- views (11.19)
 
 -- a column list of another count, or no list and a column without a name
 abbrev pub has_bad_names : Elements → Name → ViewDefinition → Option (CommaList Name) → Bool
-has_bad_names before user v (Some columns) = not (length (listed columns) == select_count (tables_of before) (select_of user v.query))
+has_bad_names before user v (Some columns) =
+    not (length (listed columns) == select_count (tables_of before) (select_of user v.query))
 has_bad_names before user v None = list_any is_none (view_names (tables_of before) user v)
 
 abbrev pub bad_view : Elements → Name → SchemaElement → Bool
@@ -228,16 +241,19 @@ bad_view before user (element.View v) = view_has_fault before user v || has_bad_
 bad_view before user _ = false
 
 abbrev pub bad_check_option : Elements → Name → SchemaElement → Bool
-bad_check_option before user (element.View v) = v.check_option && is_none (updatable_here (tables_of before) (select_of user v.query))
+bad_check_option before user (element.View v) =
+    v.check_option && is_none (updatable_here (tables_of before) (select_of user v.query))
 bad_check_option before user _ = false
 
 -- ---- privileges
 
 abbrev pub columns_referenced : Elements → Name → References → Option (List Name)
-columns_referenced elements user r = option_and_then (λ target. referenced_columns target r) (referenced_table elements user r)
+columns_referenced elements user r =
+    option_and_then (λ target. referenced_columns target r) (referenced_table elements user r)
 
 abbrev pub may_reference_column : Elements → Name → References → Name → Bool
-may_reference_column elements user r column = holds elements user (table_of user r.table) (Privilege.references column)
+may_reference_column elements user r column =
+    holds elements user (table_of user r.table) (Privilege.references column)
 
 -- REFERENCES on each referenced column
 abbrev pub may_reference : Elements → Name → Reference → Bool
@@ -257,16 +273,21 @@ action_privileges columns (action.Update list) = map Privilege.update (columns_g
 action_privileges columns (action.References list) = map Privilege.references (columns_granted columns list)
 
 abbrev pub all_privileges : List Name → List Privilege
-all_privileges columns = Privilege.select ∷ Privilege.insert ∷ Privilege.delete ∷ map Privilege.update columns ++ map Privilege.references columns
+all_privileges columns =
+    Privilege.select ∷ Privilege.insert ∷ Privilege.delete ∷ map Privilege.update columns
+    ++ map Privilege.references columns
 
 -- all that is named has to be held with the grant option; of ALL PRIVILEGES something (own rule)
 abbrev pub may_grant : (Privilege → Bool) → List Name → Privileges → Bool
 may_grant held columns privileges.All = list_any held (all_privileges columns)
-may_grant held columns (privileges.Actions actions) = list_all held (flat_map (action_privileges columns) (listed actions))
+may_grant held columns (privileges.Actions actions) =
+    list_all held (flat_map (action_privileges columns) (listed actions))
 
 abbrev pub privilege_lacking : Elements → Name → SchemaElement → Bool
-privilege_lacking before user (element.Table t) = not (list_all (may_reference (with_element before user (element.Table t)) user) (table_references t))
-privilege_lacking before user (element.View v) = lacks_privilege (view_judged before user) (view_sites before user v)
+privilege_lacking before user (element.Table t) =
+    not (list_all (may_reference (with_element before user (element.Table t)) user) (table_references t))
+privilege_lacking before user (element.View v) =
+    lacks_privilege (view_judged before user) (view_sites before user v)
 privilege_lacking before user (element.Grant g) =
     not (may_grant (may_grant_on before user (table_of user g.table)) (columns_of_made before (table_of user g.table)) g.privileges)
 

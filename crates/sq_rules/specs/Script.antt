@@ -41,7 +41,7 @@ argument_values (arguments.Listed list) = map argument_value (listed list)
 abbrev pub fits_in : Domain → Value → Bool
 fits_in d v = is_ok (stored d v)
 
--- as many values as named parameters, each of which can store its value
+-- there are as many values as named parameters, and each parameter can store its value
 abbrev pub fit : List Declared → List Value → Bool
 fit [] [] = true
 fit [] (v ∷ values) = false
@@ -49,7 +49,8 @@ fit (d ∷ ds) [] = false
 fit (d ∷ ds) (v ∷ values) = fits_in d.domain v && fit ds values
 
 abbrev pub procedure_called : List ModuleText → Name → Name → Option Procedure
-procedure_called modules «module» procedure = option_and_then (λ m. procedure_named m procedure) (module_named modules «module»)
+procedure_called modules «module» procedure =
+    option_and_then (λ m. procedure_named m procedure) (module_named modules «module»)
 
 -- ---- refusals
 
@@ -61,7 +62,8 @@ call_fault values None = Some script_fault.UnknownProcedure
 call_fault values (Some p) = arguments_fault values p
 
 abbrev pub script_fault_of : Elements → List ModuleText → ScriptItem → Option ScriptFault
-script_fault_of elements modules (script.Call «module» procedure arguments) = call_fault (argument_values arguments) (procedure_called modules «module» procedure)
+script_fault_of elements modules (script.Call «module» procedure arguments) =
+    call_fault (argument_values arguments) (procedure_called modules «module» procedure)
 script_fault_of elements modules (script.Table user table) =
     if is_some (base_place elements (record { user = user; name = table })) then None else Some script_fault.UnknownTable
 
@@ -71,8 +73,10 @@ pub record ScriptRefusal : Type 0 where
   pub fault : ScriptFault
 
 abbrev pub item_refusal : Elements → List ModuleText → ℕ × ScriptItem → Option ScriptRefusal
-item_refusal elements modules i = option_map (λ fault. record { item = i.0; fault = fault }) (script_fault_of elements modules i.1)
+item_refusal elements modules i =
+    option_map (λ fault. record { item = i.0; fault = fault }) (script_fault_of elements modules i.1)
 
 -- the first refusal of a script
 abbrev pub first_script_refusal : Elements → List ModuleText → ScriptText → Option ScriptRefusal
-first_script_refusal elements modules text = first_of (map (item_refusal elements modules) (enumerate_from 0 text.items))
+first_script_refusal elements modules text =
+    first_of (map (item_refusal elements modules) (enumerate_from 0 text.items))

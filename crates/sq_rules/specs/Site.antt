@@ -129,7 +129,8 @@ expr_sites k a (bracketed e) = expr_sites k a e
 
 -- two values that are compared
 abbrev pub compared_sites : Known → Around → Expr Named → Expr Named → List Site
-compared_sites k a e f = Site.alike_wanted (kind_here k a e) (kind_here k a f) ∷ expr_sites k a e ++ expr_sites k a f
+compared_sites k a e f =
+    Site.alike_wanted (kind_here k a e) (kind_here k a f) ∷ expr_sites k a e ++ expr_sites k a f
 
 abbrev pub first_kind : Outcome (List Kind) → Outcome Kind
 first_kind (Ok (k ∷ ks)) = Ok k
@@ -139,7 +140,8 @@ abbrev pub kinds_here : Known → Around → Select Named → Outcome (List Kind
 kinds_here k a q = select_kinds (kinds_by_name k.tables k.parameters) (from_clauses a) q
 
 abbrev pub count_in : Tables → TableReference → ℕ
-count_in tables r = unwrap_or (option_map (λ d. length d.columns) (result_ok (descriptor_of tables r.table))) 0
+count_in tables r =
+    unwrap_or (option_map (λ d. length d.columns) (result_ok (descriptor_of tables r.table))) 0
 
 -- the number of columns of a select list: `*` counts as all columns
 abbrev pub list_count : Tables → List TableReference → SelectList Named → ℕ
@@ -162,14 +164,22 @@ escape_sites k a None = []
 escape_sites k a (Some e) = text_sites k a e
 
 abbrev pub inside : Around → EnclosingQuery → (functions_allowed : Bool) → Around
-inside a query allowed = record { queries = query ∷ a.queries; functions_allowed = allowed; in_function = false }
+inside a query allowed = record {
+  queries = query ∷ a.queries;
+  functions_allowed = allowed;
+  in_function = false;
+}
 
 abbrev pub plain_query : List TableReference → EnclosingQuery
 plain_query from = record { from = from; grouping = None }
 
 -- the query of a select list and of HAVING
-abbrev pub shown_query : List TableReference → SelectList Named → List ColumnReference → Clause Named → EnclosingQuery
-shown_query from list by having = record { from = from; grouping = if is_grouped list by having then Some by else None }
+abbrev pub shown_query : List TableReference → SelectList Named → List ColumnReference → Clause Named
+    → EnclosingQuery
+shown_query from list by having = record {
+  from = from;
+  grouping = if is_grouped list by having then Some by else None;
+}
 
 abbrev pub list_sites : Known → Around → SelectList Named → (grouped : Bool) → List Site
 list_sites k a all_columns grouped = if grouped then Site.star_of_groups ∷ [] else []
@@ -183,7 +193,8 @@ abbrev mutual
   cond_sites k a (between e low high) = compared_sites k a e low ++ compared_sites k a e high
   cond_sites k a (in_subquery e q) = beside_subquery k a e q ++ select_sites k a q
   cond_sites k a (in_list e es) = expr_sites k a e ++ flat_map (compared_sites k a e) es
-  cond_sites k a (like text pattern escape) = text_sites k a text ++ text_sites k a pattern ++ escape_sites k a escape
+  cond_sites k a (like text pattern escape) =
+      text_sites k a text ++ text_sites k a pattern ++ escape_sites k a escape
   cond_sites k a (is_null e) = expr_sites k a e
   cond_sites k a (exists q) = Site.subquery_read ∷ select_sites k a q
   cond_sites k a (negated c) = cond_sites k a c

@@ -71,7 +71,7 @@ abbrev pub each_kind : Outcome (List Kind) → List (Outcome Kind)
 each_kind (Ok ks) = map Ok ks
 each_kind (Err s) = []
 
--- as many targets as columns, each of the kind of its column
+-- the sites of targets: there are as many as columns, and each is of the kind of its column
 abbrev pub into_sites : Known → CommaList Parameter → ℕ → Outcome (List Kind) → List Site
 into_sites k list columns kinds =
     Site.targets (listed list) ∷ Site.counts (length (listed list)) columns ∷ pair_sites (map (target_kind k) (listed list)) (each_kind kinds)
@@ -80,7 +80,8 @@ into_sites k list columns kinds =
 
 -- the procedure that opens a cursor declares the parameters of its query (own rule)
 abbrev pub opener_parameters : ModuleText → Name → List Declared
-opener_parameters m cursor = flat_map declared_parameters (filter (λ p. opens cursor p.statement) (procedures m))
+opener_parameters m cursor =
+    flat_map declared_parameters (filter (λ p. opens cursor p.statement) (procedures m))
 
 abbrev pub opener_surroundings : Surroundings → Cursor → Surroundings
 opener_surroundings u c = record u { parameters = opener_parameters u.in_module c.name }
@@ -116,10 +117,13 @@ abbrev pub updatable_query : Surroundings → Cursor → Option (Select Named)
 updatable_query u c = if is_plain c then only_specification (cursor_query u c) else None
 
 abbrev pub updatable_cursor : Surroundings → Cursor → Option Target
-updatable_cursor u c = option_and_then (λ q. result_ok (cursor_target (tables_of u.elements) q)) (updatable_query u c)
+updatable_cursor u c =
+    option_and_then (λ q. result_ok (cursor_target (tables_of u.elements) q)) (updatable_query u c)
 
 abbrev pub updatable_table : Surroundings → Cursor → Option TableName
-updatable_table u c = option_map (λ source. source.item.reference.table) (option_and_then (updatable_here (tables_of u.elements)) (updatable_query u c))
+updatable_table u c =
+    option_map (λ source. source.item.reference.table)
+    (option_and_then (updatable_here (tables_of u.elements)) (updatable_query u c))
 
 abbrev pub known_cursor : Surroundings → Cursor → KnownCursor
 known_cursor u c = record { name = c.name; sound = is_sound u c; table = updatable_table u c }
@@ -142,7 +146,9 @@ fetch_from_sites u f c =
     ∷ into_sites (known_in u) f.targets (query_count (tables_of u.elements) (cursor_query u c)) (cursor_columns u c)
 
 abbrev pub fetch_sites : Surroundings → Fetch → List Site
-fetch_sites u f = Site.cursor_used f.cursor ∷ flat_map (fetch_from_sites u f) (option_to_list (cursor_named u.in_module f.cursor))
+fetch_sites u f =
+    Site.cursor_used f.cursor
+    ∷ flat_map (fetch_from_sites u f) (option_to_list (cursor_named u.in_module f.cursor))
 
 -- ---- SELECT INTO (13.5)
 
@@ -162,9 +168,10 @@ abbrev pub column_kind : Tables → TableName → Name → Outcome Kind
 column_kind tables name c =
     and_then (descriptor_of tables name) (λ d. well_formed (option_map (λ k. k.kind) (find (λ k. same_name k.name c) d.columns)))
 
--- the same kind as its column; NULL is of every kind
+-- the sites of a new value, which is of the kind of its column; NULL is of every kind
 abbrev pub value_sites : Known → Around → Outcome Kind → NewValue → List Site
-value_sites k a d (new_value.Expr e) = Site.alike_wanted d (kind_here k a (expr_of e)) ∷ expr_sites k a (expr_of e)
+value_sites k a d (new_value.Expr e) =
+    Site.alike_wanted d (kind_here k a (expr_of e)) ∷ expr_sites k a (expr_of e)
 value_sites k a d new_value.Null = []
 
 -- ---- INSERT (13.8)
@@ -194,21 +201,29 @@ insert_sites u name i =
 
 -- the statement's own table is the outermost scope
 abbrev pub beside_table : TableName → Around
-beside_table name = record { queries = plain_query (record { table = name; correlation = None } ∷ []) ∷ []; functions_allowed = false; in_function = false }
+beside_table name = record {
+  queries = plain_query (record { table = name; correlation = None } ∷ []) ∷ [];
+  functions_allowed = false;
+  in_function = false;
+}
 
 -- a reference that means a column of the statement's own table
 abbrev pub means_own_column : Known → Site → Bool
-means_own_column k (Site.column_read a c) = list_any (λ p. p.depth + 1 == length a.queries) (fits k c a.queries)
+means_own_column k (Site.column_read a c) =
+    list_any (λ p. p.depth + 1 == length a.queries) (fits k c a.queries)
 means_own_column k _ = false
 
 -- who reads a column of the table that is changed needs SELECT on it (own rule)
 abbrev pub with_select : Known → TableName → List Site → List Site
-with_select k name sites = if list_any (means_own_column k) sites then Site.privilege_used name Privilege.select ∷ sites else sites
+with_select k name sites =
+    if list_any (means_own_column k) sites then Site.privilege_used name Privilege.select ∷ sites else sites
 
 abbrev pub where_sites : Surroundings → TableName → Option Where → List Site
 where_sites u name None = []
-where_sites u name (Some (rows_where.Condition c)) = cond_sites (known_in u) (beside_table name) (cond_of (own u) c)
-where_sites u name (Some (rows_where.CurrentOf cursor)) = Site.cursor_used cursor ∷ Site.positioned name cursor ∷ []
+where_sites u name (Some (rows_where.Condition c)) =
+    cond_sites (known_in u) (beside_table name) (cond_of (own u) c)
+where_sites u name (Some (rows_where.CurrentOf cursor)) =
+    Site.cursor_used cursor ∷ Site.positioned name cursor ∷ []
 
 abbrev pub set_sites : Surroundings → TableName → SetClause → List Site
 set_sites u name a =
@@ -238,8 +253,14 @@ statement_sites u (statement.Commit work) = []
 statement_sites u (statement.Rollback work) = []
 
 abbrev pub surroundings_of : Elements → ModuleText → Procedure → Surroundings
-surroundings_of elements m p = record { elements = elements; in_module = m; parameters = declared_parameters p }
+surroundings_of elements m p = record {
+  elements = elements;
+  in_module = m;
+  parameters = declared_parameters p;
+}
 
 abbrev pub is_well_formed_procedure : Elements → ModuleText → Procedure → Bool
 is_well_formed_procedure elements m p =
-    let u = surroundings_of elements m p in is_well_formed (judged_by u (known_in u)) (statement_sites u p.statement)
+    let u =
+    surroundings_of elements m p in is_well_formed (judged_by u (known_in u))
+    (statement_sites u p.statement)

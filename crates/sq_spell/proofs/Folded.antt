@@ -39,7 +39,7 @@ at_least : (n : ℕ) (ts : Tokens) → n ≤ deepest_from n ts
 at_least n [] = omega arith
 at_least n (t ∷ ts) = omega arith
 
--- n brackets are open: the sink knows how many, or the most that were open is past counting
+-- Where n brackets are open, the sink has counted n, or its maximum is past counting.
 abbrev IsNested : ℕ → Depth → Type 0
 IsNested n depth = (depth.now ≡ n) ⊎ (depth.most ≡ 2 ^ 64 - 1)
 

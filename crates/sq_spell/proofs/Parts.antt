@@ -14,7 +14,7 @@ one_and_more tokens (suc n) part parts some =
     let less : suc n - 1 ≡ n = omega arith in
     rw less (length-append (tokens part) (tokens_of_first tokens n parts))
 
--- the schema at a number above 0
+-- The tokens before an element of a schema that is not the first one.
 pub before_later : (first : SchemaDefinition) (rest : List SchemaDefinition) (n element : ℕ) (s : SchemaDefinition) → 0 < n → n - 1 < length rest → s ≡ get_or rest (n - 1) s → before_element_of_first (drop n (first ∷ rest)) element ≡ before_element s element
 before_later first rest zero element s some within is = absurd (omega arith)
 before_later first rest (suc n) element s some within is =

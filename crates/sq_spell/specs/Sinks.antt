@@ -6,14 +6,16 @@ use Rattle.sq_spell.specs.declared.sinks.Writer.{Writer}
 use Rattle.sq_spell.specs.declared.sinks.Counter.{Counter}
 use Rattle.sq_spell.specs.declared.sinks.Depth.{Depth}
 
--- the token stands at the end
+-- A writer after one more token: the token stands at the end.
 abbrev pub written : Writer → Lexeme → Writer
 written writer token = record writer { lexemes = writer.lexemes ++ token ∷ [] }
 
--- one more, up to the greatest usize
+-- A counter after one more token: one more, up to the greatest usize.
 abbrev pub counted : Counter → Lexeme → Counter
 counted counter token = record { tokens = min (counter.tokens + 1) (2 ^ 64 - 1) }
 
--- the brackets that are open now, and the most that were
+-- A depth after one more token: the brackets that are open now, and the most that were open at once.
 abbrev pub nested : Depth → Lexeme → Depth
-nested depth token = let now = min (open_after depth.now token) (2 ^ 64 - 1) in record { now = now; most = max depth.most now }
+nested depth token =
+    let now = min (open_after depth.now token) (2 ^ 64 - 1) in
+    record { now = now; most = max depth.most now }

@@ -216,7 +216,8 @@ impl Tree for QuerySpecification {
 #[cycle(walk_cond)]
 #[tactic(auto, using(sq_tree::proofs::CondLaws::cond_tokens_levels, std::proofs::lemmas::Grind::common_steps))]
 fn walk_subquery<S: Sink>(query: &QuerySpecification, sink: &mut S) -> Result<(), S::Stop>
-    ensures { OnOk result (sink.new ≡ fold S.after sink.old (bracketed (spec.query_specification_tokens query.now))) }
+    ensures { OnOk result (sink.new
+        ≡ fold S.after sink.old (bracketed (spec.query_specification_tokens query.now))) }
 {
     sink.symbol(Symbol::Open)?;
     query.walk(sink)?;
@@ -238,7 +239,8 @@ fn walk_escape<S: Sink>(escape: &Option<Boxed<Expr>>, sink: &mut S) -> Result<()
 #[cycle(walk_cond)]
 #[tactic(auto, using(sq_tree::proofs::CondLaws::cond_tokens_levels, std::proofs::lemmas::Grind::common_steps))]
 fn walk_clause<S: Sink>(word: Word, cond: &Option<Cond>, sink: &mut S) -> Result<(), S::Stop>
-    ensures { OnOk result (sink.new ≡ fold S.after sink.old (optional (λ c. lexeme.Word word ∷ spec.cond_tokens c) cond.now)) }
+    ensures { OnOk result (sink.new
+        ≡ fold S.after sink.old (optional (λ c. lexeme.Word word ∷ spec.cond_tokens c) cond.now)) }
 {
     if let Some(cond) = cond {
         sink.word(word)?;

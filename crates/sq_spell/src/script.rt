@@ -80,7 +80,8 @@ fn walk_item<S: Sink>(item: &ScriptItem, sink: &mut S) -> Result<(), S::Stop>
 
 /// Writes two names with a period between.
 fn walk_two_names<S: Sink>(first: Name, second: Name, sink: &mut S) -> Result<(), S::Stop>
-    ensures { OnOk result (sink.new ≡ fold S.after sink.old (lexeme.Name first ∷ lexeme.Symbol symbol.Dot ∷ lexeme.Name second ∷ [])) }
+    ensures { OnOk result (sink.new
+        ≡ fold S.after sink.old (lexeme.Name first ∷ lexeme.Symbol symbol.Dot ∷ lexeme.Name second ∷ [])) }
 {
     sink.name(first)?;
     sink.symbol(Symbol::Dot)?;

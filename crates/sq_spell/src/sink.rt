@@ -10,10 +10,10 @@ use sq_lex::{Characters, Lexeme, Name, Number, Symbol, Word};
 pub trait Sink {
     ghost use Rattle.sq_lex.specs.declared.lexeme.Lexeme.{Lexeme};
 
-    /// Why it takes no more tokens.
+    /// Why a sink takes no more tokens.
     type Stop;
 
-    /// What it is after one more token.
+    /// The sink after one more token.
     ghost after: { Self → Lexeme → Self };
 
     /// Takes a token.

@@ -1,4 +1,4 @@
-//! What a tree can do: hand its tokens to a sink; and what comes of that.
+//! Trees hand their tokens to a sink, which gives the list of them, their number, or how deep brackets nest.
 
 ghost use Rattle.std.specs.Prelude.{◌≡◌, fold, min, length, IfOk, OnOk};
 ghost use Rattle.sq_tree.specs.Brackets.{deepest};

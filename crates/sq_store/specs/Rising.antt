@@ -13,7 +13,7 @@ rising_between low (r ∷ rs) next = nat_le low r.number && rising_between (r.nu
 abbrev pub has_rising_rows : Table → Bool
 has_rising_rows t = rising_between 1 t.rows t.next
 
--- and the next number is at most one more than the greatest that a row may have
+-- the numbers rise, and the next one is at most one more than the greatest that a row may have
 abbrev pub is_rising : ℕ → Table → Bool
 is_rising row_numbers t = has_rising_rows t && nat_le t.next (row_numbers + 1)
 

@@ -1,3 +1,5 @@
+//! Changes of a table, and why one can't be made.
+
 ghost use Rattle.std.specs.Prelude.{◌≡◌};
 
 use sq_value::Row;

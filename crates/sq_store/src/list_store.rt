@@ -1,3 +1,5 @@
+//! The store that keeps its tables as plain lists.
+
 ghost use Rattle.std.specs.Prelude.{◌≡◌, ◌≤◌, ◌<◌, ◌+◌, true, Some, length, map, IfOk, OnErr, OnOk};
 ghost use Rattle.sq_store.specs.Content.{no_rows, table_at};
 ghost use Rattle.sq_store.specs.Keys.{keys_at, keys_of};
@@ -18,7 +20,7 @@ use std::alloc::{AllocError, Global};
 /// A store that keeps its tables as lists, and a copy of all tables for each content that it may go back to.
 #[derive(Drop)]
 pub struct ListStore {
-    /// Of each table the columns of each key.
+    /// The columns of each key of each table.
     keys: Items<Items<Items<usize>>>,
     row_numbers: u64,
     tables: Vec<Table>,
@@ -184,7 +186,7 @@ impl ListStore {
     }
 }
 
-/// So many tables without rows.
+/// `count` tables without rows.
 fn empty_tables(alloc: Global, count: usize) -> Result<Vec<Table>, AllocError>
     ensures { IfOk result (λ tables. tables.items ≡ no_rows count) }
 {

@@ -1,3 +1,5 @@
+//! Counting the rows that a store hands out.
+
 ghost use Rattle.std.specs.Prelude.{◌≡◌};
 ghost use Rattle.sq_store.specs.Meter.{counted};
 

@@ -1,3 +1,5 @@
+//! The contents that a store may go back to.
+
 ghost use Rattle.std.specs.Prelude.{◌≡◌};
 
 use crate::table::Table;

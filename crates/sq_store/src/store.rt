@@ -1,3 +1,5 @@
+//! What a store promises, whichever way it keeps its tables.
+
 ghost use Rattle.std.specs.Prelude.{◌≡◌, ◌<◌, ◌≤◌, ◌+◌, ◌-◌, ℕ, List, Option, Some, None, true, false, length, is_some, if◌then◌else◌, IfOk, IsSome, MatchOption, OnErr, OnOk};
 ghost use Rattle.std.specs.List.{list_all};
 ghost use Rattle.sq_store.specs.Change.{insert_count, rows_put};

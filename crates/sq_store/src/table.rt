@@ -1,3 +1,5 @@
+//! Tables of numbered rows.
+
 ghost use Rattle.std.specs.Prelude.{◌≡◌, ◌<◌, ◌≤◌, ◌+◌, ◌^◌, if◌then◌else◌, false, true, vec_len, filter, map, nat_eq, not, slice_get, IfOk, MatchOption, None, OnOk, Some};
 ghost use Rattle.std.specs.Option.{option_copied};
 ghost use Rattle.std.specs.List.{list_all};

@@ -3,7 +3,7 @@
 use sq_value::{Decimal, Key, Row, Value};
 use std::alloc::{AllocError, Global};
 
-/// The columns of each key of the one table: so many keys of one column each.
+/// The columns of each key of the one table: `count` keys of one column each.
 pub(crate) fn keys(alloc: Global, count: usize) -> Result<Vec<Vec<Vec<usize>>>, AllocError> {
     let mut keys = Vec::new(alloc);
     for column in 0..count.min(2) {

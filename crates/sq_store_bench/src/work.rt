@@ -31,15 +31,15 @@ pub(crate) enum Task {
 enum Work {
     /// Inserts the rows, each by an `apply` of its own.
     Insert,
-    /// The same, with a commit after each.
+    /// Inserts the rows, each by an `apply` of its own, with a commit after each.
     Fill,
     /// Commits.
     Commit,
     /// Finds each row by its first key, in mixed order.
     FindKey,
-    /// Gives so many rows other keys, each by an `apply` of its own, and takes it back.
+    /// Gives rows other keys, each by an `apply` of its own, and takes it back.
     Attempt,
-    /// The same, without taking it back.
+    /// Gives rows other keys, each by an `apply` of its own.
     Replace,
     /// Rolls back.
     Rollback,
@@ -49,7 +49,7 @@ enum Work {
     Walk,
     /// Removes the other rows.
     RemoveRest,
-    /// Looks so many times for a first row.
+    /// Looks for a first row, again and again.
     LookFirst,
 }
 
@@ -216,7 +216,7 @@ fn find_key<S: Store>(alloc: Global, store: &S, rows: u32) -> Result<u64, AllocE
     Ok(meter.count())
 }
 
-/// How many rows `next_from` finds, one after the other, where there are at most so many.
+/// How many rows `next_from` finds, one after the other, up to `rows`.
 fn walk<S: Store>(store: &S, rows: u32) -> u64 {
     let mut meter = Meter::new();
     if store.table_count() == 0 {
@@ -231,7 +231,7 @@ fn walk<S: Store>(store: &S, rows: u32) -> u64 {
     meter.count()
 }
 
-/// Looks so many times for the first row of all, and says how many times there is one.
+/// Looks for the first row of all `times` times, and says how often there is one.
 fn look_first<S: Store>(store: &S, times: u32) -> u64 {
     let mut meter = Meter::new();
     if store.table_count() == 0 {

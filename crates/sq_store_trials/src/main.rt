@@ -83,7 +83,7 @@ fn two_keys(alloc: Global) -> Result<Vec<Vec<Vec<usize>>>, AllocError> {
     Ok(tables)
 }
 
-/// For the one table a lookup by its second column.
+/// A lookup of the one table by its second column.
 fn one_lookup(alloc: Global) -> Result<Vec<Vec<Vec<usize>>>, AllocError> {
     let mut lookups = Vec::new(alloc);
     lookups.push(Vec::from_slice(alloc, &[1])?)?;
@@ -129,7 +129,7 @@ fn apply<S: Store>(
     Ok(came.unwrap_or("refused twice"))
 }
 
-/// Makes changes. None: memory is refused.
+/// Makes changes; `None` where memory is refused.
 fn apply_once<S: Store>(
     alloc: Global,
     store: &mut S,

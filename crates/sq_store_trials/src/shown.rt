@@ -9,7 +9,7 @@ use std::io;
 /// The greatest number that is asked for.
 const MOST: u64 = 12;
 
-/// The value of a column, 0 where it has no number.
+/// The number in a column; 0 where it has none.
 fn column(row: &Row, place: usize) -> i64 {
     match row.as_slice().get(place) {
         Some(Value::Num(number)) => number.unscaled(),
@@ -99,7 +99,7 @@ fn found<S: Store>(
     }
 }
 
-/// The number under which the second key finds the row under a number, 0 where there is none.
+/// The number under which the second key finds a row again; 0 where it finds none.
 fn found_again<S: Store>(
     alloc: Global,
     store: &S,

@@ -31,11 +31,11 @@ use Rattle.sq_tree.specs.declared.cond.Body.TheOpen as layer
 use Rattle.sq_tree.specs.declared.cond.Tail.{Tail, Tail-F, fold-roll-Tail, out-Tail, roll-Tail, roll-out-Tail}
 use Rattle.sq_tree.specs.declared.cond.Tail.TheVariants as tail
 
--- OR conj
+-- a further term of a condition: OR conj
 abbrev pub or_conj : Conj → Tokens
 or_conj c = or_tokens (conj_tokens c)
 
--- AND test
+-- a further test of a conjunction: AND test
 abbrev pub and_test : Test → Tokens
 and_test t = and_tokens (test_tokens t)
 
@@ -183,7 +183,7 @@ pub ruleset cond_tokens_levels = (cond_tokens-out, conj_tokens-out, test_tokens-
 
 pub ruleset cond_depth_levels = (cond_depth-out, conj_depth-out, test_depth-out, table_expression_depth-out, query_specification_depth-out, body_depth-Predicate, body_depth-Exists, body_depth-Bracketed, tail_depth-Compare, tail_depth-CompareQuery, tail_depth-Between, tail_depth-InQuery, tail_depth-InList, tail_depth-Like, tail_depth-Null)
 
--- The same for a tree that is put together.
+-- The tokens and depths of a tree that is put together from its parts.
 
 pub cond_tokens-roll : (c : Conj) (rest : List Conj) → cond_tokens (roll-Cond (record { first = c; rest = rest })) ≡ conj_tokens c ++ flat_map or_conj rest
 cond_tokens-roll c rest = cond_tokens-out _ ∙ rw out-roll-Cond refl

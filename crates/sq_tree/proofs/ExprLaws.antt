@@ -133,7 +133,7 @@ pub ruleset expr_tokens_levels = (expr_tokens-out, term_tokens-out, added_tokens
 
 pub ruleset expr_depth_levels = (expr_depth-out, term_depth-out, added_depth-out, scaled_depth-out, factor_depth-out, primary_depth-Number, primary_depth-Text, primary_depth-Parameter, primary_depth-User, primary_depth-Column, primary_depth-CountRows, primary_depth-SetFunction, primary_depth-Bracketed)
 
--- The same for a tree that is put together.
+-- The tokens and depths of a tree that is put together from its parts.
 
 pub expr_tokens-roll : (t : Term) (rest : List Added) → expr_tokens (roll-Expr (record { first = t; rest = rest })) ≡ term_tokens t ++ flat_map added_tokens rest
 expr_tokens-roll t rest = expr_tokens-out _ ∙ rw out-roll-Expr refl

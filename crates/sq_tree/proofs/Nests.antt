@@ -26,7 +26,7 @@ IsPlain t = (n : ℕ) → open_after n t ≡ n
 pub nests-deepest : {ts : Tokens} {d : ℕ} → Nests ts d → deepest ts ≡ d
 nests-deepest h = omega (arith, h.deep 0)
 
--- the same tokens and the same number, written in another way
+-- equal tokens nest equally deep
 pub nests-is : {ts us : Tokens} {d e : ℕ} → Nests ts e → us ≡ ts → d ≡ e → Nests us d
 nests-is {us = us} {e = e} h same deep = subst (λ d. Nests us d) (sym deep) (subst (λ vs. Nests vs e) (sym same) h)
 
@@ -77,7 +77,7 @@ nests-row tokens depth h (x ∷ xs) = nests-append (h x) (nests-row tokens depth
 pub nests-comma : {A : Type 0} (tokens : A → Tokens) (depth : A → ℕ) → ((x : A) → Nests (tokens x) (depth x)) → (list : CommaList A) → Nests (comma_tokens tokens list) (comma_depth depth list)
 nests-comma tokens depth h list = nests-append (h list.first) (nests-row (comma_then tokens) depth (λ x. nests-plain _ (λ n. refl) (h x)) list.rest)
 
--- the same of parts that are known to nest, each with a proof beside it
+-- parts in a row nest as deep as the deepest, where each has the proof of its own nesting beside it
 pub nests-proved : {A : Type 0} (tokens : A → Tokens) (depth : A → ℕ) (with : Tokens → Tokens) → ((ts : Tokens) (d : ℕ) → Nests ts d → Nests (with ts) d) → (xs : List ((x : A) × Nests (tokens x) (depth x))) → Nests (flat_map with (map tokens (map (λ e. e.0) xs))) (greatest (map depth (map (λ e. e.0) xs)))
 nests-proved tokens depth with h [] = nests-none
 nests-proved tokens depth with h (e ∷ es) = nests-append (h _ _ e.1) (nests-proved tokens depth with h es)

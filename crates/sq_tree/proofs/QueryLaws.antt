@@ -53,7 +53,7 @@ pub ruleset query_tokens_levels = (query_tokens-out, union_term_tokens-out, quer
 
 pub ruleset query_depth_levels = (query_depth-out, union_term_depth-out, query_term_depth-Specification, query_term_depth-Bracketed)
 
--- The same for a tree that is put together.
+-- The tokens and depths of a tree that is put together from its parts.
 
 pub query_tokens-roll : (t : QueryTerm) (rest : List UnionTerm) → query_tokens (roll-Query (record { first = t; rest = rest })) ≡ query_term_tokens t ++ flat_map union_term_tokens rest
 query_tokens-roll t rest = query_tokens-out _ ∙ rw out-roll-Query refl

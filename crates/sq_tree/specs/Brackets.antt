@@ -16,6 +16,6 @@ abbrev pub deepest_from : ℕ → Tokens → ℕ
 deepest_from n [] = n
 deepest_from n (t ∷ ts) = max n (deepest_from (open_after n t) ts)
 
--- the same, where none is open before them
+-- the greatest number of brackets open at once, where none is open before the tokens
 abbrev pub deepest : Tokens → ℕ
 deepest = deepest_from 0

@@ -94,7 +94,7 @@ tail_layer (layer.Null negated) = lexeme.Word word.Is ∷ not_tokens negated ++ 
 abbrev pub test_layer : Test-F Tokens Tokens Tokens Tokens Tokens Tokens Tokens → Tokens
 test_layer t = not_tokens t.negated ++ t.body
 
--- AND test
+-- another test of a conjunction: AND test
 abbrev pub and_tokens : Tokens → Tokens
 and_tokens test = lexeme.Word word.And ∷ test
 

@@ -35,7 +35,7 @@ schema_start s n = length (tokens_of_first schema_definition_tokens n (schemas s
 abbrev pub before_element : SchemaDefinition → ℕ → ℕ
 before_element s n = length (schema_head s ++ tokens_of_first schema_element_tokens n s.elements)
 
--- the same of the first of these schemas
+-- how many tokens of the first of these schemas stand before one of its elements
 abbrev pub before_element_of_first : List SchemaDefinition → ℕ → ℕ
 before_element_of_first [] n = 0
 before_element_of_first (s ∷ ss) n = before_element s n

@@ -62,7 +62,7 @@ can_be_cut [] [] = true
 can_be_cut [] (c ∷ cs) = false
 can_be_cut (i ∷ items) text = list_any (λ cut. fits i (cut.0) && can_be_cut items (cut.1)) (splits text)
 
--- the same said as a relation: there are such pieces, and together they are the text
+-- pieces put together, and pieces that fit their items: a text can be cut exactly where there are such pieces whose joining it is
 abbrev pub joined : List (List ℕ) → List ℕ
 joined [] = []
 joined (piece ∷ pieces) = piece ++ joined pieces

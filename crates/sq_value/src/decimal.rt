@@ -110,18 +110,26 @@ impl Decimal {
         }
     }
 
-    /// The order by value, whatever the scales.
+    /// The order by value, whatever the scales. At the same scale it is that of the unscaled values.
+    #[tactic(auto, using(crate::specs::laws::NumberOrder::compared_alike))]
     pub fn cmp(self, other: Decimal) -> Ordering
         ensures { result ≡ compared self other }
     {
+        if self.scale == other.scale {
+            return self.unscaled.cmp(&other.unscaled);
+        }
         raised(self.unscaled, other.scale).cmp(&raised(other.unscaled, self.scale))
     }
 
-    /// The unscaled value at another scale, truncated toward zero.
+    /// The unscaled value at another scale, truncated toward zero. At its own scale it is what it is.
+    #[tactic(auto, using(crate::specs::laws::ValueOrder::truncated_alike))]
     pub(crate) fn truncated(self, scale: u8) -> i128
         requires { scale ≤ 18 }
         ensures { result ≡ (truncated scale self).unscaled }
     {
+        if self.scale == scale {
+            return self.unscaled as i128;
+        }
         quotient(
             raised(self.unscaled, scale),
             power_of_ten(self.scale) as i128,

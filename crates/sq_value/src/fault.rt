@@ -34,7 +34,7 @@ pub enum StoreFault {
     /// Codes other than blanks would be lost: SQLSTATE 22001.
     #[error("the text is too long")]
     TooLong,
-    #[error("want of memory")]
+    #[error("out of memory")]
     NoMemory,
 }
 
@@ -54,7 +54,7 @@ pub enum RetrieveFault {
     /// Leading digits would be lost: SQLSTATE 22003.
     #[error("the number is out of range")]
     Range,
-    #[error("want of memory")]
+    #[error("out of memory")]
     NoMemory,
 }
 

@@ -12,7 +12,7 @@ use crate::wide::in_digits;
 use std::alloc::{AllocError, Global};
 use std::cmp::Ordering;
 
-/// SUM of the values that are not null, and null where there is none (ISO/IEC 9075:1992, 6.5).
+/// SUM of the values that are not null, or null if all are (ISO/IEC 9075:1992, 6.5).
 ///
 /// The values are of one kind: numbers of one scale, for texts have no sum and give null. Only the sum itself is tested,
 /// and `Range` comes where it has more than 18 digits. It is kept in 128 bits: the sum of 2 to the 64 numbers of at most
@@ -28,7 +28,7 @@ pub fn sum(values: &[Value]) -> Result<Value, ArithmeticFault>
     }
 }
 
-/// AVG of the values that are not null, truncated toward zero at their scale, and null where there is none (ISO/IEC
+/// AVG of the values that are not null, truncated toward zero at their scale, or null if all are (ISO/IEC
 /// 9075:1992, 6.5).
 ///
 /// The values are of one kind, as in `sum`. Only the mean itself is tested.
@@ -46,7 +46,7 @@ pub fn avg(values: &[Value]) -> Result<Value, ArithmeticFault>
     }
 }
 
-/// MIN of the values that are not null: of equal ones the first, and null where there is none (ISO/IEC 9075:1992, 6.5).
+/// MIN of the values that are not null: the first of equal ones, or null if all are null (ISO/IEC 9075:1992, 6.5).
 pub fn least(alloc: Global, values: &[Value]) -> Result<Value, AllocError>
     ensures value { IfOk result (λ v. v ≡ extreme Extreme.Least values.now) }
     ensures memory { let v = extreme Extreme.Least values.now in takes_memory v ≡ false → result ≡ Ok v }
@@ -54,7 +54,7 @@ pub fn least(alloc: Global, values: &[Value]) -> Result<Value, AllocError>
     copy_of(alloc, best_of(Extreme::Least, values))
 }
 
-/// MAX of the values that are not null: of equal ones the first, and null where there is none (ISO/IEC 9075:1992, 6.5).
+/// MAX of the values that are not null: the first of equal ones, or null if all are null (ISO/IEC 9075:1992, 6.5).
 pub fn greatest(alloc: Global, values: &[Value]) -> Result<Value, AllocError>
     ensures value { IfOk result (λ v. v ≡ extreme Extreme.Greatest values.now) }
     ensures memory { let v = extreme Extreme.Greatest values.now in takes_memory v ≡ false → result ≡ Ok v }

@@ -87,7 +87,7 @@ impl Text {
         })
     }
 
-    /// A text of so many blanks.
+    /// A text of `length` blanks.
     pub(crate) fn blanks(alloc: Global, length: u16) -> Result<Text, AllocError>
         requires { length ≤ 240 }
         ensures { IfOk result (λ text. text ≡ replicate length 32) }

@@ -38,7 +38,7 @@ impl Value {
 pub fn copy_row(alloc: Global, row: &[Value]) -> Result<Row, AllocError>
     ensures { IfOk result (λ copy. copy ≡ row.now) }
 {
-    let mut copy = Items::new(alloc);
+    let mut copy = Items::from_vec(Vec::with_capacity(alloc, row.len())?);
     for value in row {
         copy.push(value.copy(alloc)?)?;
     }

@@ -42,6 +42,12 @@ times_twice (negsuc a) k l = negated_times (suc a * k) l ∙ ap (λ n. neg_ℤ (
 pub ten_positive : (s : ℕ) → 0 < 10 ^ s
 ten_positive s = omega (arith, one-le-pow s 10 (omega arith))
 
+-- at one scale numbers compare as their unscaled values
+pub compared_alike : (a b : Number) → a.scale ≡ b.scale → int_cmp a.unscaled b.unscaled ≡ compared a b
+compared_alike a b h =
+    scaled_cmp a.unscaled b.unscaled (10 ^ a.scale) (ten_positive a.scale)
+    ∙ ap (λ s. int_cmp (a.unscaled *ℤ pos (10 ^ s)) (b.unscaled *ℤ pos (10 ^ a.scale))) h
+
 -- two numbers compare as both times the power of ten of a third one's scale
 third : (a b : Number) (s : ℕ) → compared a b ≡ int_cmp (a.unscaled *ℤ pos (10 ^ b.scale * 10 ^ s)) (b.unscaled *ℤ pos (10 ^ a.scale * 10 ^ s))
 third a b s =

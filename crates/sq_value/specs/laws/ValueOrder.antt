@@ -120,3 +120,9 @@ at_18_is n h =
     let power : 10 ^ (18 - n.scale) * 10 ^ n.scale ≡ 10 ^ 18 = sym (pow-add 10 (18 - n.scale) n.scale) ∙ ap (λ k. 10 ^ k) whole in
     sym (whole_quotient (n.unscaled *ℤ pos (10 ^ (18 - n.scale))) (10 ^ n.scale) (ten_positive n.scale))
     ∙ ap (λ x. int_div x (pos (10 ^ n.scale))) (times_twice n.unscaled (10 ^ (18 - n.scale)) (10 ^ n.scale) ∙ ap (λ k. n.unscaled *ℤ pos k) power)
+
+-- a number at its own scale
+pub truncated_alike : (n : Number) (s : ℕ) → n.scale ≡ s → n.unscaled ≡ (truncated s n).unscaled
+truncated_alike n s h =
+    sym (whole_quotient n.unscaled (10 ^ n.scale) (ten_positive n.scale))
+    ∙ ap (λ k. int_div (n.unscaled *ℤ pos (10 ^ k)) (pos (10 ^ n.scale))) h

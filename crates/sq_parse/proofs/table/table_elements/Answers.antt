@@ -1,6 +1,6 @@
 use Rattle.std.proofs.Common.{rules}
 use Rattle.sq_grammar.specs.Schema.{table_element}
-use Rattle.sq_parse.proofs.schema.table_elements.Goals as goal
+use Rattle.sq_parse.proofs.table.table_elements.Goals as goal
 
 pub returns-clause-value : goal.returns-clause-value
 returns-clause-value c = c.comma_list.ensures.value (table_element c.args.left) (search rules)

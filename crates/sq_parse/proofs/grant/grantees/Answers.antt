@@ -1,6 +1,6 @@
 use Rattle.std.proofs.Common.{rules}
 use Rattle.sq_grammar.specs.Schema.{grantee}
-use Rattle.sq_parse.proofs.schema.grantees.Goals as goal
+use Rattle.sq_parse.proofs.grant.grantees.Goals as goal
 
 pub returns-clause-value : goal.returns-clause-value
 returns-clause-value c = c.comma_list.ensures.value grantee (search rules)
