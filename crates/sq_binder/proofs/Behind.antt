@@ -69,7 +69,7 @@ behind b f q make rest = record { is = λ counts. first_at f q make rest counts 
 pub two_made : {A B C : Type 0} (b : Binding A) (f : A → Binding B) (make : A → B → C) → Makes (b >>= λ x. f x >>= λ y. pure (make x y)) (pairs b f) (λ z. make z.0 z.1)
 two_made b f make = behind b f (λ x. f x >>= λ y. pure (make x y)) make (λ a. made (f a) (make a))
 
--- and of three
+-- what is made of three parts
 pub three_made : {A B C D : Type 0} (b : Binding A) (f : A → Binding B) (g : A → B → Binding C) (make : A → B → C → D)
     → Makes (b >>= λ x. f x >>= λ y. g x y >>= λ z. pure (make x y z)) (pairs b (λ x. pairs (f x) (g x))) (λ z. make z.0 z.1.0 z.1.1)
 three_made b f g make =

@@ -18,7 +18,7 @@ use Rattle.sq_binder.proofs.Steps.{stops_as, stops_here}
 
 -- ---- what is made of a part
 
--- it is handed on where binding stopped
+-- a stop is handed on
 pub stop_found : {A B : Type 0} (image : B → A) (b : Binding A) (before : Counts) (r : Result (Found B) Stop) (stop : Stop) → IsErrAnd r (λ s. s ≡ stop) → Stops (b (counts_of before)) stop → Finds image b before r
 stop_found image b before (Ok x) stop is s = absurd is
 stop_found image b before (Err g) stop is s = subst (λ (g : Stop). Stops (b (counts_of before)) g) (sym is) s

@@ -78,7 +78,7 @@ clause_seen items tables are = λ i. ((map-map (λ (i : NamedItem). i.table) nam
 few_tested : (n : ℕ) → n < 16 → nat_lt 16 (suc n) ≡ false
 few_tested n few = grind (arith, nat_tests)
 
--- so many items behind the first
+-- fewer than 16 items behind the first
 pub few_items : {A : Type 0} (f : A → TableReference) (first : A) (rest : List A) (n : ℕ) → n ≡ length rest → n < 16 → nat_lt most_items (length (map f (first ∷ rest))) ≡ false
 few_items f first rest n is few = ap (λ (m : ℕ). nat_lt 16 (suc m)) (length-map rest f ∙ sym is) ∙ few_tested n few
 

@@ -63,7 +63,7 @@ twice_at t None rs =
 pub twice_step : (r : TableReference) (rs : List TableReference) → has_item_twice (r ∷ rs) ≡ (list_any (clashes r) rs || has_item_twice rs)
 twice_step r rs = twice_at r.table r.correlation rs
 
--- those behind the first
+-- the items behind the first
 abbrev pub later : List FromItem → List FromItem
 later items = take (length items - 1) (drop 1 items)
 

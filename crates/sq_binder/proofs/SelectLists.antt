@@ -137,7 +137,7 @@ module _ {A E : Type 0} (f : A → Binding ShownColumn) (g : E → A) (before : 
   pub all_shown : (b : Binding Shown) (xs : List E) (i : ℕ) (list : Found SelectedList) → length xs ≤ i → SoFarShown f g before (b (counts_of before)) list (drop i xs) → Finds list_seen b before (Ok list)
   all_shown b xs i list past so_far = (all_done step g (b (counts_of before)) xs i (found_of list_seen list) past so_far.is, so_far.counted)
 
--- ---- at most so many columns
+-- ---- no more columns than the greatest number
 
 module _ (a : Surroundings) (items : List FromItem) (es : List (Expr Named)) (counts : binding.Counts) where
   tested : (t : Bool) → nat_lt most_columns (length es) ≡ t → list_split a items (expressions es) counts ≡ made_of split ((if t then refused fault.LimitExceeded else each (shown_column a) es) counts)
@@ -153,6 +153,6 @@ module _ (a : Surroundings) (items : List FromItem) (es : List (Expr Named)) (co
 few_tested : (n : ℕ) → n < 64 → nat_lt 64 (suc n) ≡ false
 few_tested n few = grind (arith, nat_tests)
 
--- so many columns behind the first
+-- fewer than 64 columns behind the first
 pub few_listed : (first : SpelledExpr) (rest : List SpelledExpr) (n : ℕ) → n ≡ length rest → n < 64 → nat_lt most_columns (length (map expr_of (first ∷ rest))) ≡ false
 few_listed first rest n is few = ap (λ (m : ℕ). nat_lt 64 (suc m)) (length-map rest expr_of ∙ sym is) ∙ few_tested n few

@@ -17,7 +17,7 @@ binds_as {A} image o p r is h = subst (λ (q : Outcome A). Binds image q r) (sym
 pub stops_as : {A : Type 0} (o p : Outcome A) (stop : Stop) → o ≡ p → Stops p stop → Stops o stop
 stops_as {A} o p stop is h = subst (λ (q : Outcome A). Stops q stop) (sym is) h
 
--- it stops with a fault
+-- binding stops with a fault
 pub stops_by : {A : Type 0} (o : Outcome A) (stop : Stop) (f : Broken) → stop ≡ Fault f → o ≡ Err f.rule → Stops o stop
 stops_by o stop f is fails = subst (λ (s : Stop). Stops o s) (sym is) fails
 
@@ -30,7 +30,7 @@ pub stops_here : {A B : Type 0} (o : Outcome A) (f : A → Outcome B) (stop : St
 stops_here o f NoMemory s = tt
 stops_here {A} o f (Fault fault) s = ap (λ (p : Outcome A). and_then p f) s
 
--- it is handed on where binding stopped
+-- a stop is handed on
 pub handed_on : {A B : Type 0} (image : B → A) (o : Outcome A) (r : Result B Stop) (stop : Stop) → IsErrAnd r (λ s. s ≡ stop) → Stops o stop → Binds image o r
 handed_on image o (Ok x) stop is s = absurd is
 handed_on image o (Err g) stop is s = subst (λ (g : Stop). Stops o g) (sym is) s

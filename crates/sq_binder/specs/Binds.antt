@@ -6,14 +6,14 @@ use Rattle.sq_binding.specs.Outcome.{Outcome}
 use Rattle.sq_binder.specs.declared.stop.Stop.{Stop}
 use Rattle.sq_binder.specs.declared.stop.Stop.TheVariants.{Fault, NoMemory}
 
--- a rule that is broken, by no name or by what has this one
+-- a rule is broken, and no name is at fault
 abbrev pub broken : BindingFault → Stop
 broken rule = Fault (record { rule = rule; about = None })
 
 abbrev pub about : BindingFault → Name → Stop
 about rule name = Fault (record { rule = rule; about = Some name })
 
--- the definition's fault is the rule: what it is about is not spoken of
+-- a fault breaks the rule that the definition finds broken; the name at fault is left open
 abbrev pub Stops : {A : Type 0} → Outcome A → Stop → Type 0
 Stops outcome NoMemory = ⊤
 Stops outcome (Fault fault) = outcome ≡ Err fault.rule

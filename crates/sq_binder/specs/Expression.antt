@@ -10,9 +10,10 @@ use Rattle.sq_binder.specs.Scope.{parameters_in, scopes_in}
 use Rattle.sq_binder.specs.declared.expression.Standing.{Standing}
 
 abbrev pub bound_at : Standing → Expr Named → ℕ → Outcome Bound
-bound_at at e n = bound (scopes_in at.environment.now) (parameters_in at.environment.now) at.allowed at.in_function e n
+bound_at at e n =
+    bound (scopes_in at.environment.now) (parameters_in at.environment.now) at.allowed at.in_function e n
 
--- what stands left of a sign is bound; before it stand so many set functions of the query
+-- the left operand of a sign is bound, behind a given number of set functions of the query
 abbrev pub sum_step : Standing → ℕ → Bound → Sign × Expr Named → Outcome Bound
 sum_step at n left s = bound_at at s.1 (n + length left.calls) >>= operated_as (sum_operator s.0) left
 

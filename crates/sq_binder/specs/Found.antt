@@ -45,29 +45,44 @@ brought_of b = with_brought tt b
 abbrev pub found_of : {A B : Type 0} → (image : B → A) → Found B → binding.Found A
 found_of image x = with_brought (image x.part) x.brought
 
--- It answers what the definition computes behind these counts, with the counts behind that, or the definition's fault, or memory
--- ran out.
+-- The answer is the part that the definition computes behind these counts, with the counts behind it, or the definition's fault, or
+-- memory ran out.
 abbrev pub Finds : {A B : Type 0} → (image : B → A) → Binding A → Counts → Result (Found B) Stop → Type 0
-Finds image b before (Ok x) = (b (counts_of before) ≡ Ok (found_of image x)) × (counts_of x.brought.next ≡ after (counts_of before) (found_of image x))
+Finds image b before (Ok x) =
+    (b (counts_of before) ≡ Ok (found_of image x))
+    × (counts_of x.brought.next ≡ after (counts_of before) (found_of image x))
 Finds image b before (Err stop) = Stops (b (counts_of before)) stop
 
 -- nothing is brought along
 abbrev pub no_findings : Findings
-no_findings = record { items = 0; outer_items = 0; reach = 0; reads_outermost = false; can_fail = false; has_ungrouped = false; has_user = false }
+no_findings = record {
+  items = 0;
+  outer_items = 0;
+  reach = 0;
+  reads_outermost = false;
+  can_fail = false;
+  has_ungrouped = false;
+  has_user = false;
+}
 
 abbrev pub nothing : Counts → Brought
 nothing before = record {
   calls = [];
   calls_can_fail = false;
-  findings = record { values = no_findings; has_subquery = false; lacks_privilege = false; lacks_grant_option = false };
+  findings = record {
+    values = no_findings;
+    has_subquery = false;
+    lacks_privilege = false;
+    lacks_grant_option = false;
+  };
   next = before;
 }
 
--- the same, where evaluation may answer a status
+-- a part whose evaluation may answer a status
 abbrev pub failing : {A : Type 0} → binding.Found A → binding.Found A
 failing x = record x { findings = findings.both x.findings findings.a_status }
 
--- the same, of a subquery, seen from the query around it
+-- a subquery, seen from the query around it
 abbrev pub outward : {A : Type 0} → binding.Found A → binding.Found A
 outward x = record x { findings = findings.of_subquery x.findings }
 
@@ -89,10 +104,12 @@ pairs b f = λ counts. and_then (b counts) (λ x. and_then (f x.part (after coun
 abbrev pub both_of : {A B X Y : Type 0} → (X → A) → (Y → B) → X × Y → A × B
 both_of f g p = (f p.0, g p.1)
 
--- what a function ensures that puts a part behind one that is bound
+-- a part stands behind one that is bound, or one of both has a fault
 abbrev pub Pairs : {A B : Type 0} → Found A → Result (Found B) Stop → Result (Found (A × B)) Stop → Type 0
 Pairs left (Ok right) (Ok both) =
-    (both.part ≡ (left.part, right.part)) × (brought_of both.brought ≡ joined (brought_of left.brought) (brought_of right.brought)) × (both.brought.next ≡ right.brought.next)
+    (both.part ≡ (left.part, right.part))
+    × (brought_of both.brought ≡ joined (brought_of left.brought) (brought_of right.brought))
+    × (both.brought.next ≡ right.brought.next)
 Pairs left (Ok right) (Err stop) = stop ≡ NoMemory
 Pairs left (Err earlier) (Ok both) = ⊥
 Pairs left (Err earlier) (Err stop) = stop ≡ earlier
@@ -106,10 +123,13 @@ Begins (Ok first) (Err stop) = stop ≡ NoMemory
 Begins (Err earlier) (Ok all) = ⊥
 Begins (Err earlier) (Err stop) = stop ≡ earlier
 
--- what is bound so far, and the next one
-abbrev pub Continues : {A : Type 0} → Found (List A) → Result (Found A) Stop → Result (Found (List A)) Stop → Type 0
+-- a list grows by the next part, or that has a fault
+abbrev pub Continues : {A : Type 0} → Found (List A) → Result (Found A) Stop → Result (Found (List A)) Stop
+    → Type 0
 Continues parts (Ok next) (Ok all) =
-    (all.part ≡ parts.part ++ next.part ∷ []) × (brought_of all.brought ≡ joined (brought_of parts.brought) (brought_of next.brought)) × (all.brought.next ≡ next.brought.next)
+    (all.part ≡ parts.part ++ next.part ∷ [])
+    × (brought_of all.brought ≡ joined (brought_of parts.brought) (brought_of next.brought))
+    × (all.brought.next ≡ next.brought.next)
 Continues parts (Ok next) (Err stop) = stop ≡ NoMemory
 Continues parts (Err earlier) (Ok all) = ⊥
 Continues parts (Err earlier) (Err stop) = stop ≡ earlier

@@ -35,13 +35,16 @@ same_names None None tables = tables
 same_names (Some m) (Some n) tables = same_name m n
 same_names _ _ tables = false
 
--- both items are exposed by one name
+-- two items are exposed by one name
 abbrev pub clashes : TableReference → TableReference → Bool
 clashes r s = same_names r.correlation s.correlation (same_table r.table s.table)
 
 -- a reference to a table of this user
 abbrev pub reference_under : Name → SpelledReference → TableReference
-reference_under user r = record { table = record { user = user; name = r.table.table }; correlation = option_map (λ c. c.name) r.correlation }
+reference_under user r = record {
+  table = record { user = user; name = r.table.table };
+  correlation = option_map (λ c. c.name) r.correlation;
+}
 
 abbrev pub item_over : TableReference → NamedTable → Binding NamedItem
 item_over r t = has_found (table_findings t) >> pure (binding.item_over r t)

@@ -24,7 +24,10 @@ column_of c = record { name = c.name; position = c.position; kind = c.kind }
 
 abbrev pub item_of : FromItem → binding.FromItem
 item_of item = record {
-  reference = record { table = record { user = item.user; name = item.name }; correlation = item.correlation };
+  reference = record {
+    table = record { user = item.user; name = item.name };
+    correlation = item.correlation;
+  };
   columns = map column_of item.columns;
 }
 
@@ -77,7 +80,7 @@ only [] = Ok None
 only (at ∷ []) = Ok (Some at)
 only (at ∷ next ∷ others) = Err fault.AmbiguousName
 
--- what fits so far, with what fits in the item of a number
+-- the item and column that fit so far, with a column that fits in the item of a number; two are ambiguous
 abbrev pub with_fit : Option (ℕ × ℕ) → ℕ → Option ℕ → Outcome (Option (ℕ × ℕ))
 with_fit found n None = Ok found
 with_fit None n (Some column) = Ok (Some (n, column))
@@ -85,7 +88,9 @@ with_fit (Some earlier) n (Some column) = Err fault.AmbiguousName
 
 -- the column of these numbers, as one that a reference means
 abbrev pub found_at : binding.Scope → (is_outermost : Bool) → ℕ × ℕ → Outcome binding.FoundColumn
-found_at scope outermost at = or_fault fault.UnknownColumn (option_map (binding.found_in scope outermost at) (binding.column_numbered scope at))
+found_at scope outermost at =
+    or_fault fault.UnknownColumn
+    (option_map (binding.found_in scope outermost at) (binding.column_numbered scope at))
 
 -- ---- parameters
 

@@ -42,15 +42,20 @@ shown_of shown = record { tree = numbered_of shown.0; column = column_of shown.1
 
 -- ---- lists in turn
 
-abbrev pub BeginsList : Result (Found (BoundExpr × BoundColumn)) Stop → Result (Found SelectedList) Stop → Type 0
-BeginsList (Ok first) (Ok all) = (list_seen all.part ≡ split (shown_of first.part ∷ [])) × (all.brought ≡ first.brought)
+abbrev pub BeginsList : Result (Found (BoundExpr × BoundColumn)) Stop → Result (Found SelectedList) Stop
+    → Type 0
+BeginsList (Ok first) (Ok all) =
+    (list_seen all.part ≡ split (shown_of first.part ∷ [])) × (all.brought ≡ first.brought)
 BeginsList (Ok first) (Err stop) = stop ≡ NoMemory
 BeginsList (Err earlier) (Ok all) = ⊥
 BeginsList (Err earlier) (Err stop) = stop ≡ earlier
 
-abbrev pub Shows : Found SelectedList → Result (Found (BoundExpr × BoundColumn)) Stop → Result (Found SelectedList) Stop → Type 0
+abbrev pub Shows : Found SelectedList → Result (Found (BoundExpr × BoundColumn)) Stop
+    → Result (Found SelectedList) Stop → Type 0
 Shows list (Ok next) (Ok all) =
-    (list_seen all.part ≡ with_shown (list_seen list.part) (shown_of next.part)) × (brought_of all.brought ≡ joined (brought_of list.brought) (brought_of next.brought)) × (all.brought.next ≡ next.brought.next)
+    (list_seen all.part ≡ with_shown (list_seen list.part) (shown_of next.part))
+    × (brought_of all.brought ≡ joined (brought_of list.brought) (brought_of next.brought))
+    × (all.brought.next ≡ next.brought.next)
 Shows list (Ok next) (Err stop) = stop ≡ NoMemory
 Shows list (Err earlier) (Ok all) = ⊥
 Shows list (Err earlier) (Err stop) = stop ≡ earlier

@@ -27,7 +27,7 @@ use Rattle.sq_binder.specs.declared.found.Counts.{Counts}
 use Rattle.sq_binder.specs.declared.from.FromClause.{FromClause}
 use Rattle.sq_binder.specs.declared.select_list.SelectedList.{SelectedList}
 
--- with no set function of the query before
+-- the counts at the start of a query: none of its set functions stands before
 abbrev pub first : Counts → Counts
 first counts = record { functions = 0; subqueries = counts.subqueries }
 
@@ -43,24 +43,32 @@ abbrev pub AllParts : Type 0
 AllParts = (List TablePlace × List FromItem) × Clauses
 
 -- the select list and HAVING
-abbrev pub shown_bound : Surroundings → List FromItem → SelectList Named → Clause Named → Binding (Shown × NumberedClause)
+abbrev pub shown_bound : Surroundings → List FromItem → SelectList Named → Clause Named
+    → Binding (Shown × NumberedClause)
 shown_bound a items list having = pairs (list_split a items list) (λ shown. clause_bound a having)
 
--- GROUP BY, and what stands behind it
-abbrev pub groups_bound : Surroundings → List FromItem → List ColumnReference → SelectList Named → Clause Named → Binding Groups
-groups_bound a items by list having = pairs (each (grouping_column (of_lines items a)) by) (λ columns. shown_bound (of_groups items columns a) items list having)
+-- GROUP BY, the select list and HAVING
+abbrev pub groups_bound : Surroundings → List FromItem → List ColumnReference → SelectList Named
+    → Clause Named → Binding Groups
+groups_bound a items by list having =
+    pairs (each (grouping_column (of_lines items a)) by)
+    (λ columns. shown_bound (of_groups items columns a) items list having)
 
--- WHERE, and what stands behind it
-abbrev pub clauses_bound : Surroundings → List FromItem → Clause Named → List ColumnReference → SelectList Named → Clause Named → Binding Clauses
-clauses_bound a items filter by list having = pairs (from_first (clause_bound (of_lines items a) filter)) (λ kept. groups_bound a items by list having)
+-- WHERE, GROUP BY, the select list and HAVING
+abbrev pub clauses_bound : Surroundings → List FromItem → Clause Named → List ColumnReference
+    → SelectList Named → Clause Named → Binding Clauses
+clauses_bound a items filter by list having =
+    pairs (from_first (clause_bound (of_lines items a) filter)) (λ kept. groups_bound a items by list having)
 
--- those of a table expression that a text of this user spells
-abbrev pub clauses_of : Name → TableExpression → Surroundings → List FromItem → SelectList Named → Binding Clauses
+-- the clauses of a table expression that a text of this user spells
+abbrev pub clauses_of : Name → TableExpression → Surroundings → List FromItem → SelectList Named
+    → Binding Clauses
 clauses_of own table a items list =
     let t = out-TableExpression table in
-    clauses_bound a items (clause (option_map (cond_of own) t.where_clause)) (listed_if_any t.group_by) list (clause (option_map (cond_of own) t.having))
+    clauses_bound a items (clause (option_map (cond_of own) t.where_clause)) (listed_if_any t.group_by) list
+    (clause (option_map (cond_of own) t.having))
 
--- ---- what the definitions see of them
+-- ---- the clauses, as the definitions see them
 
 abbrev pub clause_seen : Option BoundCond → NumberedClause
 clause_seen c = clause_if (option_map cond_seen c)
@@ -74,7 +82,8 @@ groups_seen = both_of (map place_meant) shown_seen
 abbrev pub clauses_seen : Option BoundCond × (List BoundPlace × (SelectedList × Option BoundCond)) → Clauses
 clauses_seen = both_of clause_seen groups_seen
 
-abbrev pub parts_seen : FromClause × (Option BoundCond × (List BoundPlace × (SelectedList × Option BoundCond))) → AllParts
+abbrev pub parts_seen : FromClause
+    × (Option BoundCond × (List BoundPlace × (SelectedList × Option BoundCond))) → AllParts
 parts_seen = both_of clause_of clauses_seen
 
 -- a clause that is written
@@ -96,7 +105,8 @@ parts_can_fail x = x.findings.values.can_fail || x.calls_can_fail
 -- the query specification of these parts
 abbrev pub selected : (distinct : Bool) → Found AllParts → Found NumberedSelect
 selected distinct x = record {
-  part = NumberedSelect.select distinct x.part.1.1.1.0.0 x.part.0.0 x.part.1.0 (groups_found x) x.part.1.1.1.0.1 (parts_can_fail x) None;
+  part = NumberedSelect.select distinct x.part.1.1.1.0.0 x.part.0.0 x.part.1.0
+      (groups_found x) x.part.1.1.1.0.1 (parts_can_fail x) None;
   calls = [];
   calls_can_fail = false;
   findings = record x.findings { values = record x.findings.values { can_fail = parts_can_fail x } };
@@ -114,7 +124,9 @@ unless None x = Ok x
 unless (Some f) x = Err f
 
 abbrev pub specified : (star distinct : Bool) → Found AllParts → Outcome (Found NumberedSelect)
-specified star distinct x = unless (grouping_fault star (is_grouped (groups_found x)) x.findings.values.has_ungrouped) (selected distinct x)
+specified star distinct x =
+    unless (grouping_fault star (is_grouped (groups_found x)) x.findings.values.has_ungrouped)
+    (selected distinct x)
 
 abbrev pub specification_of : (star distinct : Bool) → Binding AllParts → Binding NumberedSelect
 specification_of star distinct b = λ counts. and_then (from_first b counts) (specified star distinct)

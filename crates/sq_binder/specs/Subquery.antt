@@ -22,9 +22,11 @@ use Rattle.sq_binder.specs.declared.stop.Stop.{Stop}
 use Rattle.sq_binder.specs.declared.stop.Stop.TheVariants.{NoMemory}
 use Rattle.sq_binder.specs.declared.typed.Typed.{Typed}
 
--- what a function ensures that makes a subquery of a query specification
+-- a query specification becomes a subquery, seen from the query around it
 abbrev pub Numbers : Found BoundSpecification → Result (Found BoundSpecification) Stop → Type 0
-Numbers query (Ok subquery) = (found_of select_seen subquery ≡ as_subquery (found_of select_seen query)) × (subquery.brought.next.functions ≡ query.brought.next.functions)
+Numbers query (Ok subquery) =
+    (found_of select_seen subquery ≡ as_subquery (found_of select_seen query))
+    × (subquery.brought.next.functions ≡ query.brought.next.functions)
 Numbers query (Err stop) = stop ≡ NoMemory
 
 -- a subquery beside a value has one column, of a kind that agrees
@@ -32,9 +34,12 @@ abbrev pub fault_beside : Kind → List ResultColumn → Option BindingFault
 fault_beside k (column ∷ []) = if is_comparable k column.kind then None else Some fault.KindMismatch
 fault_beside k _ = Some fault.CountMismatch
 
--- what a function ensures that puts a subquery behind a value
-abbrev pub Beside : Found Typed → Result (Found BoundSpecification) Stop → Result (Found (BoundExpr × BoundSpecification)) Stop → Type 0
-Beside left query (Ok both) = Pairs left query (Ok (record { part = (left.part, both.part.1); brought = both.brought })) × (both.part.0 ≡ left.part.expr)
+-- a subquery stands beside a value
+abbrev pub Beside : Found Typed → Result (Found BoundSpecification) Stop
+    → Result (Found (BoundExpr × BoundSpecification)) Stop → Type 0
+Beside left query (Ok both) =
+    Pairs left query (Ok (record { part = (left.part, both.part.1); brought = both.brought }))
+    × (both.part.0 ≡ left.part.expr)
 Beside left query (Err stop) = Pairs left query (Err stop)
 
 -- ---- predicates
@@ -52,11 +57,15 @@ abbrev pub negated_if : Bool → Binding NumberedCond → Binding NumberedCond
 negated_if true b = b >>= λ x. pure (NumberedCond.negated x)
 negated_if false b = b
 
-abbrev pub query_compared : Comparison → Option Quantifier → Binding BindingTyped → Binding NumberedSelect → Binding NumberedCond
-query_compared op quantifier left q = left >>= λ x. compared_side quantifier x.kind q >>= λ y. pure (NumberedCond.compare_query (compared_as quantifier) op x.tree y)
+abbrev pub query_compared : Comparison → Option Quantifier → Binding BindingTyped → Binding NumberedSelect
+    → Binding NumberedCond
+query_compared op quantifier left q =
+    left >>= λ x. compared_side quantifier x.kind q
+    >>= λ y. pure (NumberedCond.compare_query (compared_as quantifier) op x.tree y)
 
 abbrev pub among_query : (not : Bool) → Binding BindingTyped → Binding NumberedSelect → Binding NumberedCond
-among_query not left q = negated_if not (left >>= λ x. beside x.kind q >>= λ y. pure (NumberedCond.in_query x.tree y))
+among_query not left q =
+    negated_if not (left >>= λ x. beside x.kind q >>= λ y. pure (NumberedCond.in_query x.tree y))
 
 abbrev pub query_exists : Binding NumberedSelect → Binding NumberedCond
 query_exists q = binding.subquery q >>= λ y. pure (NumberedCond.exists y)

@@ -15,7 +15,12 @@ abbrev pub descriptor_of : Column → ColumnDescriptor
 descriptor_of c = record { name = c.name; kind = c.kind }
 
 abbrev pub named_table_of : NamedTable → binding_from.NamedTable
-named_table_of t = record { place = t.place; columns = map descriptor_of t.columns.now; may_select = t.may_select; may_grant = t.may_grant }
+named_table_of t = record {
+  place = t.place;
+  columns = map descriptor_of t.columns.now;
+  may_select = t.may_select;
+  may_grant = t.may_grant;
+}
 
 -- tables mean what their names mean to the user of the text
 abbrev pub surroundings : {T : Type 0} → (T → NamedTables) → Surroundings T → binding.Surroundings

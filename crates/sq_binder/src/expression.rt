@@ -168,7 +168,7 @@ fn primary_value(primary: &Primary, at: &Standing<'_>, before: usize) -> ExprRes
 }
 
 impl<'a> Standing<'a> {
-    /// In the operand of a set function, where no further one may stand.
+    /// The operand of a set function, where no further one may stand.
     fn inside(&self) -> Standing<'a>
         ensures { result
             ≡ record { environment = self.now.environment; allowed = false; in_function = true } }

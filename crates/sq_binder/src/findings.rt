@@ -19,7 +19,7 @@ pub const MOST_ITEMS: usize = 16;
 pub struct Findings {
     /// How many items of the FROM clause, from the left, hold all columns that are read.
     pub items: usize,
-    /// The same, of the query around this one.
+    /// How many items of the query around this one, from the left, hold all columns of it that are read.
     pub outer_items: usize,
     /// How many queries further out the columns that are read reach.
     pub reach: usize,
@@ -29,7 +29,7 @@ pub struct Findings {
     pub can_fail: bool,
     /// Whether a column of this query that is no grouping column stands outside set functions.
     pub has_ungrouped: bool,
-    /// Whether there is USER.
+    /// Whether USER is read.
     pub has_user: bool,
 }
 
@@ -60,7 +60,7 @@ impl Findings {
         }
     }
 
-    /// The same, of a part that may answer a status.
+    /// What is found in a part whose evaluation may answer a status.
     pub fn failing(self) -> Findings
         ensures { findings_of result ≡ findings.failing (findings_of self) }
     {

@@ -54,7 +54,7 @@ impl Brought {
         })
     }
 
-    /// The same, of a part that may answer a status.
+    /// What a part whose evaluation may answer a status brings along.
     pub fn failing(self) -> Brought
         ensures { (brought_of result ≡ failing (brought_of self)) × (result.next ≡ self.next) }
     {
@@ -64,7 +64,7 @@ impl Brought {
         }
     }
 
-    /// The same, of a subquery, seen from the query around it.
+    /// What a subquery brings along, seen from the query around it.
     pub fn of_subquery(self) -> Brought
         ensures { (brought_of result ≡ outward (brought_of self)) × (result.next ≡ self.next) }
     {

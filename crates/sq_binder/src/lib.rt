@@ -43,6 +43,7 @@ pub use kinds::{are_comparable, is_text};
 pub use parameter::{indicator_of, parameter_of};
 pub use query_findings::QueryFindings;
 pub use scope::{Environment, FromItem, Scope};
+pub use set_function::is_distinct;
 pub use stop::{Fault, Stop};
 pub use subquery::SelectResult;
 pub use surroundings::{

@@ -88,7 +88,7 @@ pub fn operated(alloc: Global, operator: Operator, left: Bound, right: Bound) ->
     }
 }
 
-/// The same, where the result is of this kind.
+/// Two operands and their operator, with a result of this kind.
 fn operands(alloc: Global, operator: Operator, left: Bound, right: Bound, kind: Kind) -> ExprResult
     requires { is_bounded kind ≡ true }
     ensures { Binds bound_of (Ok (spec.operands operator (bound_of left) (bound_of right) kind)) result }

@@ -15,7 +15,7 @@ pub struct QueryFindings {
     pub has_subquery: bool,
     /// Whether SELECT is not held on a table that is read.
     pub lacks_privilege: bool,
-    /// Whether it is not held with the grant option.
+    /// Whether SELECT is not held with the grant option on a table that is read.
     pub lacks_grant_option: bool,
 }
 
@@ -50,7 +50,7 @@ impl QueryFindings {
         }
     }
 
-    /// The same, of a part that may answer a status.
+    /// What is found in a part whose evaluation may answer a status.
     #[tactic(auto, using(crate::proofs::Behind::with_a_status))]
     pub fn failing(self) -> QueryFindings
         ensures { query_findings_of result ≡ spec.both (query_findings_of self) spec.a_status }
@@ -61,7 +61,7 @@ impl QueryFindings {
         }
     }
 
-    /// The same, of a part that may answer a status or not.
+    /// What is found in a part of which it is known whether its evaluation may answer a status.
     pub fn with_can_fail(self, can_fail: bool) -> QueryFindings
         ensures { query_findings_of result ≡ with_can_fail can_fail (query_findings_of self) }
     {

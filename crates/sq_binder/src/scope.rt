@@ -153,7 +153,7 @@ impl Scope<'_> {
     }
 }
 
-/// What fits so far, with what fits in a further item. The reference is of a column of this name.
+/// The column that fits among the items so far or in a further one. One in each makes the name ambiguous.
 fn with_fit(
     found: Option<(usize, usize)>,
     number: usize,
@@ -223,7 +223,7 @@ impl<'a> Environment<'a> {
         }
     }
 
-    /// In a query of this scope.
+    /// The surroundings of a text in a query of this scope.
     pub fn within<'s>(&'s self, scope: Scope<'s>) -> Environment<'s>
         ensures scopes { scopes_in result ≡ scopes_of scope.entry }
         ensures parameters { parameters_in result ≡ parameters_in self.now }

@@ -63,7 +63,7 @@ pub fn function_over(
     }
 }
 
-/// The same, where its values are of this kind.
+/// A set function of this number whose values are of this kind.
 fn function_call(
     alloc: Global,
     number: usize,

@@ -26,7 +26,7 @@ pub type Groups = (Items<Place>, (SelectedList, Option<BoundCond>));
 pub type Parts = (FromClause, (Option<BoundCond>, Groups));
 
 impl Counts {
-    /// With no set function of the query before.
+    /// The counts at the start of a query: none of its set functions stands before.
     pub fn first(self) -> Counts
         ensures { result ≡ first self }
     {

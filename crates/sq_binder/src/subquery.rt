@@ -48,7 +48,7 @@ fn as_subquery(query: Found<BoundSpecification>) -> SelectResult
     })
 }
 
-/// With the next number of a subquery.
+/// The query, with the next number of a subquery.
 fn numbered(query: Found<BoundSpecification>) -> SelectResult
     requires { query.brought.findings.values.reach ≡ 0 }
     ensures { Numbers query result }

@@ -61,7 +61,7 @@ pub struct Surroundings<'a, T> {
 /// What binding an expression in a query answers.
 pub type TypedResult = Result<Found<Typed>, Stop>;
 
-/// The same, where its kind is known.
+/// What binding an expression of a known kind in a query answers.
 pub type TreeResult = Result<Found<BoundExpr>, Stop>;
 
 pub fn value<T: Tables>(expr: &Expr, at: &Surroundings<'_, T>, before: Counts) -> TypedResult

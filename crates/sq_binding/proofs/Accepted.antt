@@ -89,7 +89,7 @@ module _ (names : NamedTables) (j : Judged) (fit : NamesFit names j) where
       || (clean fault.UngroupedColumn i || (clean fault.CountMismatch i || (clean fault.BadSortKey i || (clean fault.UnknownParameter i || (clean fault.BadIndicator i || (clean fault.TargetTwice i
       || (clean fault.NotUpdatable i || (clean fault.ColumnTwice i || (clean fault.UnknownCursor i || (clean fault.BadOrientation i || false))))))))))))))))
 
-  -- it is bound exactly where there is none
+  -- a query specification is bound exactly where it has no fault
   pub accepted_exactly : (q : Select Named) → SelectSpellsNoNull q → (counts : Counts) → is_ok (select_bound (surrounded names j [] false) q counts) ≡ not (has_syntax_fault j (select_sites j.known outside q))
   accepted_exactly q null counts = told (select_bound (surrounded names j [] false) q counts) refl
     where

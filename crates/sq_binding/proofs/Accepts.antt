@@ -22,7 +22,7 @@ abbrev pub Accepts : {A : Type 0} → Judged → List Site → Outcome A → Typ
 Accepts j sites (Ok x) = is_well_formed j sites ≡ true
 Accepts j sites (Err f) = Refuses j sites f
 
--- it is bound exactly where no rule is broken
+-- an outcome that accepts these sites is a value exactly where they are well formed
 pub accepted : {A : Type 0} (j : Judged) (sites : List Site) (o : Outcome A) → Accepts j sites o → is_ok o ≡ is_well_formed j sites
 accepted j sites (Ok x) h = sym h
 accepted j sites (Err f) h = sym h.1

@@ -244,7 +244,7 @@ module _ (parameters : List Declared) where
         then_alike Anything LikeClause (cond_bound (at names scopes allowed) c) (cond_bound (at others more allowed) c) (λ x. pure (NumberedClause.present x)) (λ x. pure (NumberedClause.present x)) (cond_alike c names others same scopes more alike allowed)
         (λ x y t. pure_alike LikeClause (NumberedClause.present x) (NumberedClause.present y) refl)
 
-    -- and so are query specifications
+    -- query specifications become alike in scopes that are alike
     pub select_alike : (q : Select Named) (names : NamedTables) (scopes more : List Scope) (alike : AllZip Like scopes more) (allowed : Bool) → Alike SameShown (select_bound (at names scopes allowed) q) (select_bound (at names more allowed) q)
     select_alike (select distinct list from filter by having) names scopes more alike allowed =
         specification_alike (is_star list) (from_bound names from >>= parts scopes) (from_bound names from >>= parts more)

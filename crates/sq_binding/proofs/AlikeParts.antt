@@ -127,7 +127,7 @@ module _ (names others : NamedTables) (parameters : List Declared) (scopes more 
 
 -- ---- GROUP BY
 
--- the same place here, or one further out in both
+-- two places are alike: the same place here, or one further out in both
 abbrev pub LikePlace : Place → Place → Type 0
 LikePlace p q = (item column : ℕ) → is_here item column p ≡ is_here item column q
 

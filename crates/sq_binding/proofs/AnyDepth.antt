@@ -38,7 +38,7 @@ module _ (T : ℕ → Bool → NumberedCond → Type 0) (P : NumberedSelect → 
     pub SelectHas : NumberedSelect → Type 0
     SelectHas (select distinct list from filter groups columns can_fail number) = P (select distinct list from filter groups columns can_fail number) × ClauseHas filter × GroupsHave groups
 
-  -- those that stand in it
+  -- the query specifications that stand in a query specification
   abbrev pub SelectInner : NumberedSelect → Type 0
   SelectInner (select distinct list from filter groups columns can_fail number) = ClauseHas filter × GroupsHave groups
 

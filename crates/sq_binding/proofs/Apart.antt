@@ -61,7 +61,7 @@ no_more (n ∷ names) all once h =
     let shorter : length (s.before ++ s.later) ≡ length s.before + length s.later = length-append s.before s.later in
     omega (arith, rest, whole, shorter)
 
--- so no list of names is longer than it may be, where those are not
+-- a list of names that are all among others, each once, is no longer than it may be where those are not
 pub none_too_many : (most : ℕ) (names all : List Name) → has_name_twice names ≡ false → AllByRecursion (λ n. list_any (same_name n) all ≡ true) names → nat_lt most (length all) ≡ false → nat_lt most (length names) ≡ false
 none_too_many most names all once h few = within (length names) (length all) (no_more names all once h) few
   where

@@ -109,7 +109,7 @@ module _ (columns : TableKinds) (a : Surroundings) (counts : Counts) where
         );
       }
 
-  -- it is the text with its names placed
+  -- the bound condition is the text with its names placed
   pub cond_is_written : (text : Cond Named) (x : Found NumberedCond) → cond_bound a text counts ≡ Ok x → (c : BoundCond) → cond_seen c ≡ x.part → (before added : List SetFunctionCall) → length before ≡ counts.functions
       → map call_of added ≡ x.calls → (later : List SetFunctionCall) → cond_placed (around a) text ≡ Ok (cond_meant (map call_meant ((before ++ added) ++ later)) c)
   cond_is_written text x is c same before added size calls later =

@@ -137,7 +137,7 @@ module _ (scopes : List Scope) (parameters : List Declared) (P : (allowed inside
       bracketed_holds (Ok x) p = cases.of_bracketed allowed inside n e x p
       bracketed_holds (Err f) p = tt
 
-  -- it holds of what an expression is bound to
+  -- the property holds of what an expression is bound to
   pub it_holds_inside : (allowed inside : Bool) (e : Expr Named) (n : ℕ) (b : Bound) → bound scopes parameters allowed inside e n ≡ Ok b → P allowed inside n e b
   it_holds_inside allowed inside e n b is = subst (IfBound (P allowed inside n e)) is (all_hold allowed inside e n)
 

@@ -1,6 +1,7 @@
 -- The table that a statement changes, and the columns of it that get values, are refused exactly where the rules refuse them (ISO/IEC
 -- 9075:1992, 13.6 to 13.10).
 use Rattle.std.proofs.Common.{◌≡◌, ℕ, Bool, true, false, not, ◌&&◌, ◌||◌, List, [], ◌∷◌, length, map, Option, Some, None, Ok, Err, refl, sym, ap, subst, arith, ◌∙◌}
+use Rattle.std.proofs.lemmas.Cmp.{nat_list_eq_equiv}
 use Rattle.std.specs.List.{list_any, zip}
 use Rattle.std.specs.Option.{option_map}
 use Rattle.std.specs.Prelude.{⊤, find, if◌then◌else◌, is_err, is_ok, is_some, nat_lt}
@@ -23,7 +24,6 @@ use Rattle.sq_binding.specs.From.{NamedTable}
 use Rattle.sq_binding.specs.Outcome.{Outcome, and_then, or_fault}
 use Rattle.sq_binding.proofs.Clean.{CleanSite, clean_more, no_site}
 use Rattle.sq_binding.proofs.FromFaults.{NamesFit}
-use Rattle.sq_binding.proofs.SameParameters.{name_itself, names_equal}
 use Rattle.sq_binding.proofs.Sites.{fault_here}
 use Rattle.sq_binding.proofs.Told.{Told}
 
@@ -95,15 +95,6 @@ module _ (names : UserNames) (j : Judged) (fits : TablesFit names j) (name : Tab
 
 -- ---- a column of it
 
-same_turned : (n m : Name) → same_name n m ≡ same_name m n
-same_turned n m = by (same_name n m) (same_name m n) refl refl
-  where
-    by : (b c : Bool) → same_name n m ≡ b → same_name m n ≡ c → b ≡ c
-    by true true e f = refl
-    by false false e f = refl
-    by true false e f = sym (name_itself n) ∙ ap (same_name n) (names_equal n m e) ∙ ap (λ k. same_name k m) (names_equal n m e) ∙ name_itself m ∙ sym (name_itself m) ∙ ap (same_name m) (sym (names_equal n m e)) ∙ f
-    by false true e f = sym e ∙ ap (same_name n) (names_equal m n f) ∙ name_itself n
-
 -- What is found of a name among columns: whether it is there, and the kind of the first.
 abbrev IfFoundAs : Bool → Option Kind → Option Receiver → Type 0
 IfFoundAs among kind (Some r) = (among ≡ true) × (kind ≡ Some r.kind)
@@ -123,7 +114,7 @@ receiver_found name (u ∷ us) [] e = cc
 receiver_found name (u ∷ us) (c ∷ cs) e =
     let rest : length us ≡ length cs = omega (arith, e) in
     among_step c (receiver_over (u, c)) refl (same_name c.name name) (same_name name c.name) (list_any (same_name name) (map (λ c. c.name) cs)) (find (λ c. same_name c.name name) cs) (find (λ r. same_name r.name name) (map receiver_over (zip us cs)))
-    (same_turned name c.name) (receiver_found name us cs rest)
+    (nat_list_eq_equiv.symm name c.name) (receiver_found name us cs rest)
 
 module _ (names : UserNames) (j : Judged) (fits : TablesFit names j) (table : TableName) (t : ChangedTable) (is : IsChanged names j table t) where
   abbrev pub column_site : Name → Site

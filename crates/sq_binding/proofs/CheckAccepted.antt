@@ -128,7 +128,7 @@ module _ (j : Judged) (no_parameters : j.known.parameters ≡ []) (t : TableName
   either_way c null true e = with_subquery c e (cond_bound beside c at_first) refl
   either_way c null false e = without_subquery c null e (cond_bound beside c at_first) refl
 
-  -- it is bound exactly where the rules refuse nothing in it
+  -- the condition of a CHECK is bound exactly where the rules refuse nothing in it
   pub check_accepted : (c : Cond Named) → CondSpellsNoNull c → is_ok (check_bound t d.columns c) ≡ not (has_syntax_fault j (cond_sites j.known (beside_table t) c) || list_any is_refused_in_check (cond_sites j.known (beside_table t) c))
   check_accepted c null =
       subst (λ parameters. is_ok (checked (cond_bound (record (beside_columns t d.columns) { parameters = parameters }) c at_first)) ≡ not (has_syntax_fault j (S c) || is_refused c)) no_parameters (either_way c null (has_subquery c) refl)

@@ -202,7 +202,7 @@ module _ (names : NamedTables) (j : Judged) (fit : NamesFit names j) (held : All
     clause_clean (present c) null scopes queries over all tight allowed =
         only_first j (Loose j.known queries) (cond_sites j.known (standing queries allowed false) c) (cond_bound (surrounded names j scopes allowed) c) (λ x. pure (NumberedClause.present x)) (cond_clean c null scopes queries over (all refl) tight allowed)
 
-    -- and so does a query specification
+    -- a query specification that is bound breaks no rule
     pub select_clean : (q : Select Named) → SelectSpellsNoNull q → (scopes : List Scope) (queries : List EnclosingQuery) (over : AllZip (IsOver j.known) scopes queries) (all : (depth : ℕ) → GroupsAt j.known scopes queries depth)
         (tight : (depth : ℕ) → TightAt j.known scopes queries depth) (allowed : Bool) → SelectIsClean names j fit scopes queries over all tight allowed q
     select_clean (select distinct list from filter by having) null scopes queries over all tight allowed =

@@ -44,7 +44,7 @@ after_of b f counts z e =
     let same : joined steps.step more.step ≡ z = cc in
     record { first = steps.step; second = more.step; is_first = steps.first; is_second = more.first; is_joined = same }
 
--- of what is bound something is known
+-- something is known of what is bound
 abbrev pub KnownIf : {A : Type 0} → (A → Type 0) → Binding A → Type 0
 KnownIf {A} P b = (counts : Counts) (z : Found A) → b counts ≡ Ok z → P z.part
 

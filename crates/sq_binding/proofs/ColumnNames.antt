@@ -7,29 +7,17 @@ use Rattle.sq_meaning.specs.SortKeys.{item_name}
 use Rattle.sq_meaning.specs.Spelled.{Named}
 use Rattle.sq_meaning.specs.Status as status
 use Rattle.sq_meaning.specs.Syntax.{SelectList, all_columns, expressions, Select, select}
+use Rattle.sq_binding.specs.ColumnNames.{item_names, list_names, names_placed}
 use Rattle.sq_binding.specs.Condition.{clause_bound, select_bound}
 use Rattle.sq_binding.specs.Found.{Counts, Found, each}
-use Rattle.sq_binding.specs.From.{NamedItem, NamedTables, from_bound, items_of}
+use Rattle.sq_binding.specs.From.{NamedItem, from_bound, items_of}
 use Rattle.sq_binding.specs.NumberedCondition.{NumberedSelect, ResultColumn, columns_of}
-use Rattle.sq_binding.specs.PlacedQuery.{item_placed}
 use Rattle.sq_binding.specs.Scope.{FromItem, ItemColumn}
 use Rattle.sq_binding.specs.Select.{ShownColumn, Surroundings, column_of_item, columns_of_item, list_bound, of_groups, shown_column}
 use Rattle.sq_binding.proofs.Pieces.{list_holds, shown_holds, star_holds}
 use Rattle.sq_binding.proofs.PlacedParts.{from_binds}
 use Rattle.sq_binding.proofs.QueryCases.{at_first, whole_holds}
 use Rattle.sq_binding.proofs.Turns.{anything, each_holds, it_is}
-
-abbrev pub item_names : FromItem → List (Option Name)
-item_names item = map (λ c. Some c.name) item.columns
-
--- `*` has the names of all columns of all items, and an expression has a name if it is a column reference alone
-abbrev pub list_names : List FromItem → SelectList Named → List (Option Name)
-list_names items all_columns = flat_map item_names items
-list_names items (expressions es) = map item_name es
-
--- the names of a query specification's columns: those of its select list, over the items of its FROM
-abbrev pub names_placed : NamedTables → Select Named → status.Outcome (List (Option Name))
-names_placed names (select distinct list from filter by having) = status.and_then (status.each (item_placed names) from) (λ items. Ok (list_names (items_of items) list))
 
 abbrev pub names_of : List ResultColumn → List (Option Name)
 names_of columns = map (λ c. c.name) columns

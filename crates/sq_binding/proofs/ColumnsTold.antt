@@ -30,7 +30,7 @@ module _ (names : UserNames) (j : Judged) (fits : TablesFit names j) (table : Ta
     abbrev pub one_sites : A → List Site
     one_sites x = Site.column_changed table (name_of x) ∷ sites_of x
 
-    -- of all columns of the list
+    -- these are the names of all columns in the list
     module _ (all : List Name) where
       abbrev whole : Site
       whole = Site.column_list all

@@ -240,7 +240,7 @@ module _ (names : NamedTables) (j : Judged) (fit : NamesFit names j) where
         pure_judges j [] (GroupsAt j.known scopes queries 0) ((false ≡ true) × (allowed ≡ true)) (λ x. is_bound x ≡ true → false ≡ true) NumberedClause.absent (λ t. t)
     clause_faults (present c) null scopes queries over all allowed = present_faults names j scopes queries over (all refl) allowed c (cond_faults c null scopes queries over (all refl) allowed)
 
-    -- and so is that of a query specification
+    -- the fault of a query specification is one that the rules find in it
     pub select_faults : (q : Select Named) → SelectSpellsNoNull q → (scopes : List Scope) (queries : List EnclosingQuery) (over : AllZip (IsOver j.known) scopes queries) (all : (depth : ℕ) → GroupsAt j.known scopes queries depth) (allowed : Bool)
         → SelectHasFaults names j scopes queries over all allowed q
     select_faults (select distinct list from filter by having) null scopes queries over all allowed =

@@ -49,7 +49,7 @@ ok_same x y e = cc
 pub has_there : {A : Type 0} (P : A → Type 0) (o : status.Outcome A) (x : A) → o ≡ Ok x → P x → Has P o
 has_there P o x e p = subst (Has P) (sym e) p
 
--- so many set functions may stand before a part
+-- any number of set functions may stand before a part
 pub some_before : (n : ℕ) → (before : List PlacedExpr) × (length before ≡ n)
 some_before zero = ([], refl)
 some_before (suc n) = let rest = some_before n in (missing ∷ rest.0, ap suc rest.1)

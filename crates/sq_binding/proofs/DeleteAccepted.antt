@@ -107,7 +107,7 @@ module _ (names : UserNames) (j : Judged) (fits : TablesFit names j) (cursors : 
   all_fit : TablesFit names (all_held j)
   all_fit = record { tables = fits.tables; wide = fits.wide; changes = fits.changes; narrow = fits.narrow; apart = fits.apart }
 
-  -- it is bound exactly where the rules find no fault in it
+  -- a DELETE is bound exactly where the rules find no fault in it
   pub delete_accepts : (d : Delete) → WhereSpellsNoNull names d.target → Accepts j (delete_sites names j fits cursors known positions d) (whole (delete_bound names j.known.parameters cursors d))
   delete_accepts d null =
       whole_accepts j (delete_sites names j fits cursors known positions d) (delete_bound names j.known.parameters cursors d) (delete_tells names j fits cursors known positions d null at_first)

@@ -41,7 +41,7 @@ use Rattle.sq_binding.proofs.FoundKinds.{SpellsNoNull, kind_found, meant_there, 
 use Rattle.sq_binding.proofs.Cases.{Cases, it_holds}
 
 module _ (j : Judged) (scopes : List Scope) (queries : List EnclosingQuery) (over : AllZip (IsOver j.known) scopes queries) where
-  -- of a column reference
+  -- the faults of a column reference
   pub column_breaks : (allowed inside : Bool) (c : ColumnReference) (f : BindingFault) → column_fault f (length (rules.fits j.known c queries)) ≡ true → breaks j f (Site.column_read (standing queries allowed inside) c) ≡ true
   column_breaks allowed inside c fault.UnknownColumn h = h
   column_breaks allowed inside c fault.AmbiguousName h = h
@@ -67,7 +67,7 @@ module _ (j : Judged) (scopes : List Scope) (queries : List EnclosingQuery) (ove
         fault_here j fault.UngroupedColumn (Site.column_read (standing queries allowed false) c) [] (ungrouped_breaks allowed c found m (groups found.depth further.0) (is_false found.is_grouped further.1)))
         (λ t. tt)
 
-    -- of a parameter
+    -- the faults of a parameter
     name_fault : (f : BindingFault) (domain : Option Domain) → (f ≡ fault.UnknownParameter) × (domain ≡ None) → (p : Parameter) → domain_named j.known p.name ≡ domain → breaks j f (Site.parameter_read p) ≡ true
     name_fault f domain h p is =
         let unknown : is_unknown_name j.known p.name ≡ true = ap is_none (is ∙ h.1) in
@@ -99,7 +99,7 @@ module _ (j : Judged) (scopes : List Scope) (queries : List EnclosingQuery) (ove
     parameter_faults p (Ok at) h =
         next_fault j (Site.parameter_read p ∷ []) (indicator_bound j.known.parameters p.indicator) (λ i. Ok (parameter_as at i)) (optional_faults p p.indicator refl) (λ i is. tt)
 
-    -- of operands
+    -- the faults of operands
     text_wanted : (b : Around) (e : Expr Named) (k : Kind) → kind_here j.known b e ≡ Ok k → is_text k ≡ true → breaks j fault.KindMismatch (Site.number_wanted (kind_here j.known b e)) ≡ true
     text_wanted b e (Num s) is t = cc
     text_wanted b e (Chars n) is t = ap is_of_text is
@@ -174,7 +174,7 @@ module _ (j : Judged) (scopes : List Scope) (queries : List EnclosingQuery) (ove
         all : List Site
         all = Site.number_wanted (kind_here j.known b e) ∷ Site.number_wanted (kind_here j.known b g) ∷ scale ∷ sites
 
-    -- of a set function
+    -- the faults of a set function
     call_faults : (f : SetFunction) (o : status.Outcome Kind) (k : Kind) → o ≡ Ok k → IfFault j (summed_sites f o) (kind_of_call f k)
     call_faults Count o k is = tt
     call_faults Min o k is = tt
@@ -214,7 +214,7 @@ module _ (j : Judged) (scopes : List Scope) (queries : List EnclosingQuery) (ove
     count_faults true inside n = tt
     count_faults false inside n = refl
 
-    -- of a value expression
+    -- the faults of a value expression
     abbrev sites_of : (allowed inside : Bool) → Expr Named → List Site
     sites_of allowed inside e = expr_sites j.known (standing queries allowed inside) e
 

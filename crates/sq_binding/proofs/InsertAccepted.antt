@@ -233,7 +233,7 @@ module _ (names : UserNames) (j : Judged) (fits : TablesFit names j) (reads : Re
   all_fit : TablesFit names (all_held j)
   all_fit = record { tables = fits.tables; wide = fits.wide; changes = fits.changes; narrow = fits.narrow; apart = fits.apart }
 
-  -- it is bound exactly where the rules find no fault in it
+  -- an INSERT is bound exactly where the rules find no fault in it
   pub insert_accepts : (i : Insert) → SourceSpellsNoNull names i.source → Accepts j (insert_sites names j fits i) (whole (insert_bound names j.known.parameters i))
   insert_accepts i null =
       whole_accepts j (insert_sites names j fits i) (insert_bound names j.known.parameters i) (insert_tells names j fits i null at_first) (insert_tells names (all_held j) all_fit i null at_first) (λ x is. insert_lacks i at_first x is)

@@ -116,7 +116,7 @@ module _ (j : Judged) (xs ys : List Site) (among : Among j xs ys) where
   pub more_judges : {A : Type 0} (G H C D : Type 0) (P Q : A → Type 0) (b : Binding A) → (H → G) → (C → D) → ((x : A) → P x → Q x) → Judges j xs G C P b → Judges j ys H D Q b
   more_judges G H C D P Q b grouped called more h counts = more_judged G H C D P Q grouped called more (b counts) (h counts)
 
-  -- at more sites alone
+  -- what is judged at these sites is judged at more of them
   pub wider_judges : {A : Type 0} (G C : Type 0) (P : A → Type 0) (b : Binding A) → Judges j xs G C P b → Judges j ys G C P b
   wider_judges G C P b h = more_judges G G C C P P b (λ g. g) (λ c. c) (λ x p. p) h
 

@@ -149,7 +149,7 @@ is_column k (r ∷ from) (suc item) column c e = let rest = is_column k from ite
 abbrev pub GroupFits : Known → Scope → EnclosingQuery → Type 0
 GroupFits k scope query = (p : Place) → is_grouped scope.grouping p.item p.column ≡ false → is_ungrouped_at k p query ≡ true
 
--- of the scope so many queries further out
+-- where a column is no grouping column of the scope at this depth, the rules find so
 abbrev pub GroupsAt : Known → List Scope → List EnclosingQuery → ℕ → Type 0
 GroupsAt k [] queries depth = ⊤
 GroupsAt k (scope ∷ scopes) [] depth = ⊤

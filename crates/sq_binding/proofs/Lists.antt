@@ -88,7 +88,7 @@ abbrev pub before_rest : {A : Type 0} → Found (List A) → Outcome (Found (Lis
 before_rest x rest = and_then rest (λ y. Ok (listed x y))
 
 module _ {A B : Type 0} (f : A → Binding B) (counts : Counts) where
-  -- at the end of the list all is bound
+  -- at the end of the list, all of it is bound
   pub all_bound : (x : Found (List B)) → before_rest x (each f [] (after counts x)) ≡ Ok x
   all_bound x = λ i. Ok (record {
     part = append-nil x.part i;

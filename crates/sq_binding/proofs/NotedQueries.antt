@@ -322,6 +322,6 @@ cases = record {
 pub cond_noted : (c : Cond Named) (a : Surroundings) (counts : Counts) (x : Found NumberedCond) → cond_bound a c counts ≡ Ok x → PartNoted cond_trees a x
 cond_noted = cond_is CondNoted CondsNoted ClauseNoted SelectNoted cases
 
--- and so is what is found in a query specification
+-- what is found in a query specification is noted as it is
 pub select_noted : (s : Select Named) (a : Surroundings) (counts : Counts) (x : Found NumberedSelect) → select_bound a s counts ≡ Ok x → SelectNoted a counts s x
 select_noted = select_is CondNoted CondsNoted ClauseNoted SelectNoted cases

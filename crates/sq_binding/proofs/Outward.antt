@@ -138,7 +138,7 @@ inside_only f here n m p is h = subst (λ k. p.depth < k) is (omega (arith, here
 pub closed_out : (f : Findings) → f.reach ≡ 0 → (q : PlacedSelect) → SelectReads (IsOutward f) 0 q → IsClosed q
 closed_out f here = select_from (IsOutward f) IsInside (λ k m. k ≡ m) (λ k m is. ap suc is) (inside_only f here) 0 0 refl
 
--- and the items of the query around that one reads are those that are found
+-- the items of the query around it that a query specification reads are among those that are found
 pub items_out : (f : Findings) (q : PlacedSelect) → SelectReads (IsOutward f) 0 q → SelectReads (IsAmongItems f.outer_items) 0 q
 items_out f = select_from (IsOutward f) (IsAmongItems f.outer_items) (λ k m. k ≡ m) (λ k m is. ap suc is) (λ n m p is h. subst (λ k. IsAmongItems f.outer_items k p) is h.1) 0 0 refl
 

@@ -20,7 +20,7 @@ abbrev pub IfFound : {A : Type 0} → (Found A → Type 0) → Outcome (Found A)
 IfFound P (Ok x) = P x
 IfFound P (Err f) = ⊤
 
--- of whatever is bound
+-- the relation holds of whatever is bound
 abbrev pub Binds : {A : Type 0} → Bool → (List PlacedExpr → A → Type 0) → Binding A → Type 0
 Binds allowed P b = (counts : Counts) → IfFound (IsPart allowed counts P) (b counts)
 
@@ -114,7 +114,7 @@ must_binds allowed false f counts = tt
 pub has_found_binds : (allowed : Bool) (found : QueryFindings) → Binds allowed Anything (has_found found)
 has_found_binds allowed found counts = record { is_so = λ before later size. tt; none_forbidden = λ no. refl }
 
--- they leave what is said of the next
+-- a part of which nothing is said leaves what is said of the next one
 pub then_any : {A B : Type 0} (allowed : Bool) (Q : List PlacedExpr → B → Type 0) (b : Binding A) (f : A → Binding B) → Binds allowed Anything b → ((x : A) → Binds allowed Q (f x)) → Binds allowed Q (b >>= f)
 then_any allowed Q b f h g = then_binds allowed Anything Q b f h (λ x. more_binds allowed Q (λ functions z. ⊤ → Q functions z) (f x) (λ functions z q _. q) (g x))
 

@@ -79,7 +79,7 @@ module _ (names : UserNames) (a : Surroundings) (rs : List Receiver) where
 
 -- ---- the columns
 
--- those that are listed, or all
+-- the columns that get values: those that are listed, or all
 abbrev pub IntoIs : ChangedTable → Option (CommaList Name) → List Receiver → Type 0
 IntoIs t None rs = rs ≡ receivers_of t
 IntoIs t (Some list) rs = Along (λ (name : Name) (r : Receiver). IsMade t name (λ (found : Receiver) (x : Name) (y : Receiver). y ≡ found) name r) (listed list) rs

@@ -46,7 +46,7 @@ test_part allowed counts placed (Err f) h = tt
 test_binds : (allowed : Bool) (placed : status.Outcome PlacedCond) (c : Binding NumberedCond) → Binds allowed (CondIs placed) c → Binds allowed (CondIs placed) (test c)
 test_binds allowed placed c h counts = test_part allowed counts placed (c counts) (h counts)
 
--- of its parts, where its clauses are bound so
+-- a query specification is placed where its parts are
 select_of_parts : (a : Surroundings) (distinct : Bool) (list : SelectList Named) (from : List TableReference) (filter : Clause Named) (by : List ColumnReference) (having : Clause Named)
     → ((items : List FromItem) → Binds false (ClauseIs (clause_placed (of_lines items (around a)) filter)) (clause_bound (of_lines items a) filter))
     → ((items : List FromItem) (columns : List Place) → Binds true (ClauseIs (clause_placed (of_lines items (around a)) having)) (clause_bound (of_groups items columns a) having))
@@ -139,7 +139,7 @@ mutual
       one_binds a.functions_allowed (CondIs (cond_placed (around a) c)) (ClauseIs (clause_placed (around a) (present c))) (cond_bound a c) (λ x. NumberedClause.present x) (cond_is_placed c a)
       (λ functions x p. one_step present (cond_placed (around a) c) (cond_of functions x) p)
 
-  -- so is a query specification, whose set functions are its own
+  -- a query specification, whose set functions are its own, is placed
   pub select_is_placed : (q : Select Named) (a : Surroundings) → Binds a.functions_allowed (SelectIs (select_placed (around a) q)) (select_bound a q)
   select_is_placed (select distinct list from filter by having) a =
       select_of_parts a distinct list from filter by having (λ items. clause_is_placed filter (of_lines items a)) (λ items columns. clause_is_placed having (of_groups items columns a))

@@ -108,7 +108,7 @@ module _ (names : UserNames) (parameters : List Declared) where
 
 -- ---- FETCH
 
--- of the cursor of this name, in the orientation that is written, into these targets
+-- a FETCH of the cursor of this name, in the orientation that is written, into these targets
 pub record IsFetch (parameters : List Declared) (cursors : NamedCursors) (f : Fetch) (x : NumberedFetch) : Type 0 where
   pub cursor : NamedCursor
   pub is_named : cursor_named cursors f.cursor ≡ Ok cursor

@@ -26,7 +26,7 @@ use Rattle.sq_binding.proofs.PlacedQuery.{cond_is_placed, select_is_placed}
 
 -- ---- views
 
--- its query, placed; where it is updatable, its rows are those of a base table
+-- a view has its query, placed; where it is updatable, its rows are those of a base table
 abbrev pub IsView : UserNames → Select Named → NumberedView → Type 0
 IsView names q v = (select_placed (around (outside names [])) q ≡ Ok (select_of v.query)) × IfAny names (outside names []) q v.query v.updatable
 

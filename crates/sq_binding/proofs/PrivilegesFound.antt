@@ -286,7 +286,7 @@ pub select_privilege : (j : Judged) (s : Select Named) (a : Surroundings) (count
 select_privilege j s a counts x fit is =
     select_lacks_found j.holds j.known (λ f. f.lacks_privilege) (λ t. t.may_select) a.names (λ f g. refl) (λ f. refl) (λ f. refl) (λ f v. refl) (λ t. refl) fit s a counts x is refl
 
--- and so is the grant option, where these may be granted on
+-- the grant option is found missing where one of these tables may not be granted on
 pub select_grant_option : (grants : TableName → Privilege → Bool) (k : Tables) (s : Select Named) (a : Surroundings) (counts : Counts) (x : Found NumberedSelect) → GrantFits a.names grants → select_bound a s counts ≡ Ok x → (b : Around)
     → x.findings.lacks_grant_option ≡ list_any (privilege_missing grants) (select_sites k b s)
 select_grant_option grants k s a counts x fit is =

@@ -78,7 +78,7 @@ module _ (columns : TableKinds) (a : Surroundings) (counts : Counts) (distinct :
   abbrev L : ListStands columns a (items_of items.part) places.part list shown
   L = list_stands_by columns a (items_of items.part) places.part list (at_first kept.subqueries) shown parts.list_is
 
-  -- its trees are those of its text
+  -- the tree of WHERE is the one of its text
   kept_tree : clause_of [] kept.part ≡ parts.filter_is.1.tree
   kept_tree =
       let c = it_is _ (clause_bound lines filter (at_first counts.subqueries)) kept parts.filter_is.0 (clause_is_placed filter lines (at_first counts.subqueries)) in
@@ -224,7 +224,7 @@ module _ (columns : TableKinds) where
   pub clause_stands : (c : Clause Named) (a : Surroundings) (counts : Counts) (x : Found NumberedClause) → clause_bound a c counts ≡ Ok x → ClauseStands columns a counts c x
   clause_stands = clause_is (CondStands columns) (CondsStand columns) (ClauseStands columns) (SelectStands columns) cases
 
-  -- and so is what a query specification is bound to
+  -- what a query specification is bound to is well formed
   pub select_stands : (s : Select Named) (a : Surroundings) (counts : Counts) (x : Found NumberedSelect) → select_bound a s counts ≡ Ok x → SelectStands columns a counts s x
   select_stands = select_is (CondStands columns) (CondsStand columns) (ClauseStands columns) (SelectStands columns) cases
 

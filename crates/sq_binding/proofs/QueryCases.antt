@@ -336,7 +336,7 @@ module _ (C : Law (Cond Named) NumberedCond) (Cs : Law (Conds Named) NumberedCon
         whole_holds W a counts distinct list from filter by having (clause_holds filter) (clause_holds having) (S a counts (select distinct list from filter by having))
         (λ items kept columns shown groups parts right. cases.of_select a counts distinct list from filter by having items kept columns shown groups parts right)
 
-  -- it holds of what a search condition, a clause and a query specification are bound to
+  -- the properties hold of what a search condition, a clause and a query specification are bound to
   pub cond_is : (c : Cond Named) (a : Surroundings) (counts : Counts) (x : Found NumberedCond) → cond_bound a c counts ≡ Ok x → C a counts c x
   cond_is c a counts x is = it_is (C a counts c) (cond_bound a c counts) x is (cond_holds c a counts)
 

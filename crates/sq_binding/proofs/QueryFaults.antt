@@ -58,7 +58,7 @@ module _ (j : Judged) (sites : List Site) (queries : List EnclosingQuery) (from 
   abbrev IsGrouped : Type 0
   IsGrouped = is_grouped list by having ≡ true
 
-  -- it is grouped as the rules find it
+  -- a query specification is grouped exactly where the rules find it so
   is_grouped_so : (columns : List Place) (kept : NumberedClause) (calls : List PlacedExpr) → (is_some_of columns ≡ true → is_some_of by ≡ true) → (is_bound kept ≡ true → is_present having ≡ true) → (is_some_of calls ≡ true → IsGrouped)
       → (named : List Place) (functions : List PlacedExpr) (clause : NumberedClause) → groups_by columns kept calls ≡ NumberedGroups.grouped named functions clause → IsGrouped
   is_grouped_so [] NumberedClause.absent [] b h c named functions clause e = cc

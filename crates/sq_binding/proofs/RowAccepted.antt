@@ -88,7 +88,7 @@ module _ (names : UserNames) (j : Judged) (fits : UserFits names j) where
       q : Select Named
       q = select_of_statement names.user s
 
-  -- it is bound exactly where its query and its targets have no fault
+  -- a SELECT INTO is bound exactly where its query and its targets have no fault
   pub row_accepts : (s : SelectStatement) → SelectSpellsNoNull (select_of_statement names.user s) → Accepts j (row_sites names j fits.tables s) (whole (row_bound names j.known.parameters s))
   row_accepts s null =
       whole_accepts j (row_sites names j fits.tables s) (row_bound names j.known.parameters s) (row_tells names j fits.tables s null at_first) (row_tells names (all_held j) fits.tables s null at_first) (λ x is. row_lacks s at_first x is)

@@ -39,7 +39,7 @@ WhereSpellsNoNull names None = ⊤
 WhereSpellsNoNull names (Some (rows_where.Condition c)) = CondSpellsNoNull (cond_of names.user c)
 WhereSpellsNoNull names (Some (rows_where.CurrentOf name)) = ⊤
 
--- as the rules ask it of the rows
+-- the sites at which the rules ask which rows are changed
 abbrev pub where_sites_of : UserNames → Judged → TableName → Option Where → List Site
 where_sites_of names j table None = []
 where_sites_of names j table (Some (rows_where.Condition c)) = cond_sites j.known (beside_table table) (cond_of names.user c)

@@ -67,7 +67,7 @@ or_none true = refl
 or_none false = refl
 
 module _ (names : NamedTables) (j : Judged) (test : Site → Bool) (seen : QueryFindings → Bool) (Good : List EnclosingQuery → Bool → Type 0) (sees : Sees names j test seen Good) where
-  -- it is found in what is bound exactly where it is asked of one of these sites
+  -- a property is found in what is bound exactly where it is asked of one of these sites
   abbrev pub SeenIf : {A : Type 0} → List Site → Binding A → Type 0
   SeenIf {A} sites b = (counts : Counts) (z : Found A) → b counts ≡ Ok z → seen z.findings ≡ list_any test sites
 

@@ -310,7 +310,7 @@ module _ (names : NamedTables) (j : Judged) (fit : NamesFit names j) (test_site 
           (sym (any_both test_site L H))) (sym (any_both test_site B (L ++ H)))) (sym (any_both test_site W (B ++ (L ++ H))))) together
 
   mutual
-    -- it is found in a search condition exactly where it is asked of one of its sites
+    -- a property is found in a search condition exactly where it is asked of one of its sites
     pub cond_seen : (c : Cond Named) (scopes : List Scope) (queries : List EnclosingQuery) (over : AllZip (IsOver j.known) scopes queries) (allowed : Bool) (good : Good queries allowed) → CondSeen scopes queries over allowed good c
     cond_seen (compare op e f) scopes queries over allowed good = compare_seen scopes queries over allowed good op e f
     cond_seen (compare_subquery op e q) scopes queries over allowed good = compare_scalar_seen scopes queries over allowed good q (select_seen q scopes queries over allowed good) op e
@@ -348,7 +348,7 @@ module _ (names : NamedTables) (j : Judged) (fit : NamesFit names j) (test_site 
     clause_seen (present c) scopes queries over allowed good =
         last_seen names j test_site seen Good sees (cond_sites j.known (standing queries allowed false) c) (cond_bound (surrounded names j scopes allowed) c) (λ x. NumberedClause.present x) (cond_seen c scopes queries over allowed good)
 
-    -- and in a query specification
+    -- a property is found in a query specification exactly where it is asked of one of its sites
     pub select_seen : (q : Select Named) (scopes : List Scope) (queries : List EnclosingQuery) (over : AllZip (IsOver j.known) scopes queries) (allowed : Bool) (good : Good queries allowed) → SelectSeen scopes queries over allowed good q
     select_seen (select distinct list from filter by having) scopes queries over allowed good =
         select_is_seen distinct list from filter by having scopes queries over allowed good

@@ -96,7 +96,7 @@ select_seen-out s =
     let o = out-BoundSpecification s in
     ap select_seen (sym (roll-out-BoundSpecification s)) ∙ select_seen-roll o.distinct o.list o.from o.condition o.grouping o.columns o.can_fail o.number
 
--- the same query specification with another number
+-- a query specification with another number is seen the same but for it
 pub renumbered_seen : (s : BoundSpecification) (number : Option ℕ) → let o = out-BoundSpecification s in
     select_seen (roll-BoundSpecification (record { distinct = o.distinct; list = o.list; from = o.from; condition = o.condition; grouping = o.grouping; columns = o.columns; can_fail = o.can_fail; number = number }))
     ≡ with_number number (select_seen s)

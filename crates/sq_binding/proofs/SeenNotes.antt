@@ -126,7 +126,7 @@ conj_noted c h =
     each_part IsNotedTest IsNotedSelect test_seen meant_notes.IsNotedTest tests (each_of (λ t. CondHas IsNotedTest IsNotedSelect (test_seen t) → meant_notes.IsNotedTest t) test_noted tests)
     (subst (CondHas IsNotedTest IsNotedSelect) (conj_seen_out c) h)
 
--- of each term
+-- the tests of each term are noted as they are
 pub has_notes : (c : BoundCond) → CondHas IsNotedTest IsNotedSelect (cond_seen c) → HasNotes c
 has_notes c h =
     let terms = (out-BoundCond c).terms in
@@ -175,6 +175,6 @@ select_noted q h =
 pub cond_is_noted : (c : BoundCond) → CondHas IsNotedTest IsNotedSelect (cond_seen c) → CondIsNoted c
 cond_is_noted = cond_goes IsNotedTest IsNotedSelect IsNoted select_noted
 
--- and in a query specification, itself included
+-- the query specifications in one, itself included, are noted as they are
 pub select_is_noted : (q : BoundSpecification) → SelectHas IsNotedTest IsNotedSelect (select_seen q) → SelectIsNoted q
 select_is_noted = select_goes IsNotedTest IsNotedSelect IsNoted select_noted

@@ -156,6 +156,6 @@ cases = record {
 pub cond_is_numbered : (c : BoundCond) (a b : ℕ) → AreCounted a b (cond_numbers (cond_seen c)) → CondHas IsNotedTest IsNotedSelect (cond_seen c) → AreNumbered CondWith a b c
 cond_is_numbered = cond_all (Counts PredicateWith predicate_seen) (Counts CondWith cond_seen) (Counts ConjWith conj_seen) SelectCounts (Counts TestWith test_seen) GroupingCounts cases
 
--- and so have those in a query specification
+-- the query specifications in one have their numbers
 pub select_is_numbered : (q : BoundSpecification) (a b : ℕ) → AreCounted a b (select_numbers (select_seen q)) → SelectHas IsNotedTest IsNotedSelect (select_seen q) → AreNumbered SelectWith a b q
 select_is_numbered = select_all (Counts PredicateWith predicate_seen) (Counts CondWith cond_seen) (Counts ConjWith conj_seen) SelectCounts (Counts TestWith test_seen) GroupingCounts cases

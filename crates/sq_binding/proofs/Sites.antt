@@ -35,7 +35,7 @@ abbrev pub IfFault : {A : Type 0} → Judged → List Site → Outcome A → Typ
 IfFault j sites (Ok x) = ⊤
 IfFault j sites (Err f) = has_fault j sites f ≡ true
 
--- it is one of the first step, or of the next
+-- a fault of two steps is one of the first or of the next
 pub next_fault : {A B : Type 0} (j : Judged) (sites : List Site) (o : Outcome A) (f : A → Outcome B) → IfFault j sites o → ((x : A) → o ≡ Ok x → IfFault j sites (f x)) → IfFault j sites (and_then o f)
 next_fault j sites (Ok x) f h g = g x refl
 next_fault j sites (Err fault) f h g = h

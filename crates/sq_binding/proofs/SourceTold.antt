@@ -39,7 +39,7 @@ module _ (names : UserNames) (j : Judged) (fit : NamesFit names.tables j) where
   abbrev a : Surroundings
   a = surrounded names.tables j [] false
 
-  -- as the rules ask it of the kinds of the columns
+  -- the sites at which the rules ask for the kinds of the columns
   abbrev pub rows_sites : List (status.Outcome Kind) → InsertSource → List Site
   rows_sites kinds (source.Values values) = Site.counts (length kinds) (length (listed values)) ∷ flat_map (λ p. value_sites j.known outside p.0 p.1) (zip kinds (listed values))
   rows_sites kinds (source.Query q) =

@@ -196,6 +196,6 @@ module _ (u : Surroundings) (tables : NamedTables) (under : TableName → Option
     statement_accepts (statement.Commit work) null = refl
     statement_accepts (statement.Rollback work) null = refl
 
-    -- so a statement is bound exactly where it is well formed
+    -- a statement is bound exactly where it is well formed
     pub accepted_exactly : (s : Statement) → StatementSpellsNoNull names s → is_ok (statement_bound names u.parameters cursors s) ≡ is_well_formed j (statement_sites u s)
     accepted_exactly s null = accepted j (statement_sites u s) (statement_bound names u.parameters cursors s) (statement_accepts s null)

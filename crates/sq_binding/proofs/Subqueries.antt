@@ -20,7 +20,7 @@ use Rattle.sq_binding.proofs.Clean.{steps_of}
 use Rattle.sq_binding.proofs.CleanConds.{after_of}
 use Rattle.sq_binding.proofs.Told.{okay}
 
--- of whatever is bound, whether a subquery is found is this
+-- this says whether a subquery is found in whatever is bound
 abbrev pub Finds : {A : Type 0} → Bool → Binding A → Type 0
 Finds {A} some b = (counts : Counts) (z : Found A) → b counts ≡ Ok z → z.findings.has_subquery ≡ some
 
@@ -37,7 +37,7 @@ found_in_result : {A : Type 0} → Bool → Outcome (Found A) → Bool
 found_in_result b (Ok x) = x.findings.has_subquery
 found_in_result b (Err f) = b
 
--- the same, seen as a test of an outcome
+-- where no subquery is found in one of two equal parts, none is found in the other
 none_in : {A : Type 0} (x z : Found A) → okay x ≡ okay z → x.findings.has_subquery ≡ false → z.findings.has_subquery ≡ false
 unfolding found_in_result
 none_in x z is h = sym (ap (found_in_result false) is) ∙ h

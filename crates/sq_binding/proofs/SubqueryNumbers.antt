@@ -111,6 +111,6 @@ cases = record {
 pub cond_counted : (c : Cond Named) (a : Surroundings) (counts : Counts) (x : Found NumberedCond) → cond_bound a c counts ≡ Ok x → AreCounted counts.subqueries x.subqueries (cond_numbers x.part)
 cond_counted = cond_is CondCounted CondsCounted ClauseCounted SelectCounted cases
 
--- so are those in a query specification, which has none itself
+-- the subqueries in a query specification, which has no number itself, are counted
 pub select_counted : (s : Select Named) (a : Surroundings) (counts : Counts) (x : Found NumberedSelect) → select_bound a s counts ≡ Ok x → SelectCounted a counts s x
 select_counted = select_is CondCounted CondsCounted ClauseCounted SelectCounted cases

@@ -160,12 +160,12 @@ module _ (j : Judged) where
 
   -- ---- all of them
 
-  -- of all targets
+  -- these are all targets
   module _ (all : List Parameter) where
     abbrev whole : Site
     whole = Site.targets all
 
-    -- those before the rest are bound, and set these parameters
+    -- the targets before the rest are bound, and set these parameters
     record AreBefore (done : List Parameter) (before : List ℕ) : Type 0 where
       placed : AllZip (IsAt params) (names_in done) before
       known : list_any unknown (names_in done) ≡ false
@@ -223,7 +223,7 @@ module _ (j : Judged) where
         by fault.BadOrientation true is h = cc
         by fault.PrivilegeMissing true is h = cc
 
-    -- those before, and one more
+    -- one more target joins those before the rest
     with_next : (done : List Parameter) (before : List ℕ) → AreBefore done before → (t : Parameter × Kind) (target : PlacedParameter) → IsTarget t target → has_twice nat_eq (before ++ set_by target) ≡ false
         → AreBefore (done ++ t.0 ∷ []) (before ++ set_by target)
     with_next done before b t target h once = record {
@@ -299,7 +299,7 @@ module _ (j : Judged) where
   pairs_are (p ∷ ps) [] = refl
   pairs_are (p ∷ ps) (k ∷ ks) = ap (λ l. pair (p, k) ∷ l) (pairs_are ps ks)
 
-  -- as the rules ask it of targets and the kinds of their columns
+  -- the sites at which the rules ask for targets and the kinds of their columns
   abbrev pub target_sites : List Parameter → List Kind → List Site
   target_sites ps ks = Site.targets ps ∷ Site.counts (length ps) (length ks) ∷ pair_sites (map (target_kind j.known) ps) (map Ok ks)
 

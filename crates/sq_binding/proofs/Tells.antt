@@ -45,7 +45,7 @@ module _ (j : Judged) where
   must_tells sites true f h g counts = h refl
   must_tells sites false f h g counts = g refl
 
-  -- at other sites, where the same is asked
+  -- what is told at these sites is told at others at which the same is asked
   pub tells_at : {A : Type 0} (xs ys : List Site) (b : Binding A) → ((f : BindingFault) → has_fault j xs f ≡ true → has_fault j ys f ≡ true) → (AllHeld j → Clean j xs → Clean j ys) → Tells j xs b → Tells j ys b
   tells_at xs ys b more clean h counts = told_at j xs ys (b counts) more clean (h counts)
 
@@ -63,7 +63,7 @@ module _ (j : Judged) where
       then_tells (sites_of x) (flat_map sites_of xs) (λ y. ⊤) (f x) (λ y. each f xs >>= λ ys. pure (y ∷ ys)) (λ counts z is. tt) (h x)
       (λ y u. made_tells (flat_map sites_of xs) (each f xs) (λ ys. y ∷ ys) (each_tells sites_of f h xs))
 
-  -- the same, where something is known of each
+  -- each of a list tells its sites, where something is known of each
   pub each_tells_if : {A B : Type 0} (W : A → Type 0) (sites_of : A → List Site) (f : A → Binding B) → ((x : A) → W x → Tells j (sites_of x) (f x)) → (xs : List A) → AllByRecursion W xs → Tells j (flat_map sites_of xs) (each f xs)
   each_tells_if {A} {B} W sites_of f h [] w = pure_tells {A = List B} []
   each_tells_if {A} {B} W sites_of f h (x ∷ xs) w =
@@ -76,7 +76,7 @@ module _ (j : Judged) where
   either_turned false true = refl
   either_turned false false = refl
 
-  -- at the same sites in another order
+  -- what is told at these sites is told at them in another order
   pub turned_tells : {A : Type 0} (xs ys : List Site) (b : Binding A) → Tells j (xs ++ ys) b → Tells j (ys ++ xs) b
   turned_tells xs ys b =
       tells_at (xs ++ ys) (ys ++ xs) b (λ f h. any_both (breaks j f) ys xs ∙ either_turned (has_fault j ys f) (has_fault j xs f) ∙ sym (any_both (breaks j f) xs ys) ∙ h)

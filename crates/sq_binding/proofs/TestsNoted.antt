@@ -103,7 +103,7 @@ module _ (s : Select Named) (a : Surroundings) (counts : Counts) (q : Found Numb
 pub cond_notes : (c : Cond Named) (a : Surroundings) (counts : Counts) (x : Found NumberedCond) → cond_bound a c counts ≡ Ok x → AreSmall a.scopes → CondHas IsNotedTest IsNotedSelect x.part
 cond_notes = each_part.cond_has IsNotedTest IsNotedSelect IsSmall lines_small groups_small test_noted subquery_noted
 
--- and in a query specification, itself included
+-- the tests of a query specification and of those in it are noted as they are
 pub select_notes : (s : Select Named) (a : Surroundings) (counts : Counts) (x : Found NumberedSelect) → select_bound a s counts ≡ Ok x → AreSmall a.scopes → SelectHas IsNotedTest IsNotedSelect x.part
 select_notes s a counts x is small =
     each_part.whole_has IsNotedTest IsNotedSelect x.part (alone_noted s a counts x is small)

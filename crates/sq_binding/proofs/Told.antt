@@ -36,7 +36,7 @@ module _ (j : Judged) where
   told_test xs true f h g = h refl
   told_test xs false f h g = g refl
 
-  -- at other sites, where the same is asked
+  -- what is told at these sites is told at others at which the same is asked
   pub told_at : {A : Type 0} (xs ys : List Site) (o : Outcome A) → ((f : BindingFault) → has_fault j xs f ≡ true → has_fault j ys f ≡ true) → (AllHeld j → Clean j xs → Clean j ys) → Told j xs o → Told j ys o
   told_at xs ys (Ok x) more clean h = λ held. clean held (h held)
   told_at xs ys (Err f) more clean h = more f h

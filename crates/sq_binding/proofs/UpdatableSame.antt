@@ -102,7 +102,7 @@ module _ (names : UserNames) (j : Judged) (fits : TablesFit names j) (once : Col
     any_tables (r ∷ t ∷ from) trees true y is = none_left counts y is ∙ sym (none_from names j fits once list filter (not S) (r ∷ t ∷ from) refl)
     any_tables (r ∷ t ∷ from) trees false y is = none_left counts y is
 
-  -- it is updatable exactly where the rules say so, and over the same table
+  -- a query specification is updatable exactly where the rules say so, and over the same table
   pub updatable_same : (q : Select Named) → SelectSpellsNoNull q → (before : Counts) (z : Found NumberedSelect) → select_bound here q before ≡ Ok z → (counts : Counts) (y : Found (Option NumberedUpdatable))
       → updatable_bound names here q z.part counts ≡ Ok y → over y.part ≡ option_map (λ source. source.item.reference.table) (updatable_here j.known.tables q)
   updatable_same (select distinct list from filter by having) null before z is counts y so =

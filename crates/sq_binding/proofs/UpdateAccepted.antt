@@ -48,7 +48,7 @@ use Rattle.sq_binding.proofs.ValuesTold.{ValueSpellsNoNull, beside_tells}
 abbrev pub SetSpellsNoNull : Assignment → Type 0
 SetSpellsNoNull s = ValueSpellsNoNull s.value
 
--- as the rules ask it of a set clause: the privilege that it needs, and its value; and its column
+-- the sites of a set clause: the privilege that it needs and its value, and its column
 abbrev pub uses_of : Judged → TableName → Assignment → List Site
 uses_of j table s = Site.privilege_used table (Privilege.update s.column) ∷ value_sites j.known (beside_table table) (column_kind j.known.tables table s.column) s.value
 
@@ -244,7 +244,7 @@ module _ (names : UserNames) (j : Judged) (fits : TablesFit names j) (cursors : 
   all_fit : TablesFit names (all_held j)
   all_fit = record { tables = fits.tables; wide = fits.wide; changes = fits.changes; narrow = fits.narrow; apart = fits.apart }
 
-  -- it is bound exactly where the rules find no fault in it
+  -- an UPDATE is bound exactly where the rules find no fault in it
   pub update_accepts : (u : Update) → AllByRecursion SetSpellsNoNull (listed u.assignments) → WhereSpellsNoNull names u.target → Accepts j (update_sites names j fits cursors known positions u) (whole (update_bound names j.known.parameters cursors u))
   update_accepts u null nulls =
       whole_accepts j (update_sites names j fits cursors known positions u) (update_bound names j.known.parameters cursors u) (update_tells names j fits cursors known positions u null nulls at_first)

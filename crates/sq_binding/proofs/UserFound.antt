@@ -29,7 +29,7 @@ use Rattle.sq_binding.proofs.Told.{okay}
 abbrev any : List Site → Bool
 any sites = list_any is_refused_in_check sites
 
--- of whatever is bound, USER is found where it is asked of these sites
+-- USER is found in whatever is bound exactly where it is asked of these sites
 abbrev pub UserIf : {A : Type 0} → List Site → Binding A → Type 0
 UserIf {A} sites b = (counts : Counts) (z : Found A) → b counts ≡ Ok z → z.findings.values.has_user ≡ any sites
 

@@ -51,7 +51,7 @@ module _ (names : UserNames) (j : Judged) (fits : UserFits names j) where
     pub view_is_told : (q : Select Named) → SelectSpellsNoNull q → ViewTold j q (view_bound names q)
     view_is_told q null = subst (λ parameters. ViewTold j q (view_over names (changeable.outside names parameters) q)) no_parameters (view_told q null (select_bound a q at_first) refl)
 
-    -- it is bound exactly where there is no syntax fault
+    -- a view is bound exactly where there is no syntax fault
     pub view_accepted : (q : Select Named) → SelectSpellsNoNull q → is_ok (view_bound names q) ≡ not (has_syntax_fault j (select_sites j.known outside q))
     view_accepted q null = exactly (view_bound names q) (view_is_told q null)
       where

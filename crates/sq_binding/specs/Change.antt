@@ -51,7 +51,8 @@ abbrev pub receiver_named : ChangedTable → Name → Outcome Receiver
 receiver_named t name = or_fault fault.UnknownColumn (find (λ r. same_name r.name name) (receivers_of t))
 
 -- What is made of a column for each of a list in turn, where these names are before them: no name is there twice.
-abbrev pub each_column : {A B : Type 0} → ChangedTable → (A → Name) → (A → Receiver → Binding B) → (before : List Name) → List A → Binding (List B)
+abbrev pub each_column : {A B : Type 0} → ChangedTable → (A → Name) → (A → Receiver → Binding B)
+    → (before : List Name) → List A → Binding (List B)
 each_column t name_of make before [] = pure []
 each_column t name_of make before (x ∷ xs) = do
   receiver ← outcome (receiver_named t (name_of x))
@@ -63,14 +64,14 @@ each_column t name_of make before (x ∷ xs) = do
 abbrev pub itself : Name → Receiver → Binding Receiver
 itself name receiver = pure receiver
 
--- those that are listed, or all
+-- the columns that get values: those that are listed, or all
 abbrev pub receivers_bound : ChangedTable → Option (CommaList Name) → Binding (List Receiver)
 receivers_bound t None = pure (receivers_of t)
 receivers_bound t (Some list) = each_column t (λ name. name) itself [] (listed list)
 
 -- ---- values
 
--- of the kind of its column; NULL is of every kind
+-- a new value is of the kind of its column; NULL is of every kind
 abbrev pub new_value_bound : Surroundings → Kind → NewValue → Binding Numbered
 new_value_bound a k (new_value.Expr e) = do
   x ← value a (expr_of e)
@@ -96,7 +97,7 @@ value_for a p = new_value_bound a p.0.kind p.1
 abbrev pub column_for : ResultColumn × Receiver → Binding (Unit {0})
 column_for p = must_agree p.0.kind p.1.kind
 
--- as many values or columns as there are columns that get them
+-- there are as many values, or columns of the query, as columns that get them
 abbrev pub source_bound : UserNames → Surroundings → List Receiver → InsertSource → Binding NumberedSource
 source_bound names a receivers (source.Values list) = do
   must (length receivers == length (listed list)) fault.CountMismatch
@@ -145,7 +146,8 @@ positioned_bound cursors t name = do
   must (same_table t.reference.table over) fault.NotUpdatable
   pure (NumberedChange.positioned c.number t.under.leaf)
 
-abbrev pub rows_bound : UserNames → Surroundings → NamedCursors → ChangedTable → Option Where → Binding NumberedChange
+abbrev pub rows_bound : UserNames → Surroundings → NamedCursors → ChangedTable → Option Where
+    → Binding NumberedChange
 rows_bound names a cursors t None = pure (NumberedChange.searched (target_over t NumberedClause.absent))
 rows_bound names a cursors t (Some (rows_where.Condition c)) = do
   condition ← condition_bound a t (present (cond_of names.user c))
@@ -179,13 +181,15 @@ pub record NumberedUpdate : Type 0 where
   pub assignments : List NumberedAssignment
 
 -- a set clause: the value of a column
-abbrev pub assignment_bound : UserNames → Surroundings → ChangedTable → Assignment → Receiver → Binding NumberedAssignment
+abbrev pub assignment_bound : UserNames → Surroundings → ChangedTable → Assignment → Receiver
+    → Binding NumberedAssignment
 assignment_bound names a t s receiver = do
   value ← new_value_bound (of_lines (item_at_leaf t ∷ []) a) receiver.kind s.value
   has_found (needed (names.holds t.reference.table (Privilege.update s.column)))
   pure (record { column = receiver.column; value = value })
 
-abbrev pub update_parts : UserNames → Surroundings → NamedCursors → ChangedTable → Update → Binding NumberedUpdate
+abbrev pub update_parts : UserNames → Surroundings → NamedCursors → ChangedTable → Update
+    → Binding NumberedUpdate
 update_parts names a cursors t u = do
   assignments ← each_column t (λ s. s.column) (assignment_bound names a t) [] (listed u.assignments)
   rows ← rows_bound names a cursors t u.target

@@ -36,7 +36,12 @@ pub record UserNames : Type 0 where
 
 -- in no query, and where no set function may stand
 abbrev pub outside : UserNames → List Declared → Surroundings
-outside names parameters = record { names = names.tables; parameters = parameters; scopes = []; functions_allowed = false }
+outside names parameters = record {
+  names = names.tables;
+  parameters = parameters;
+  scopes = [];
+  functions_allowed = false;
+}
 
 -- ---- tables that may be changed
 
@@ -57,7 +62,10 @@ changed_table names t = do
 
 -- the table as an item, each column at its position in the base table
 abbrev pub item_at_leaf : ChangedTable → FromItem
-item_at_leaf t = record { reference = t.reference; columns = map column_over (zip t.under.columns t.table.columns) }
+item_at_leaf t = record {
+  reference = t.reference;
+  columns = map column_over (zip t.under.columns t.table.columns);
+}
 
 -- the rows of the base table that meet a condition, and the conditions of the views in between
 pub record NumberedTarget : Type 0 where
@@ -89,7 +97,8 @@ is_grouped (NumberedGroups.grouped columns functions having) = true
 
 -- each row is one of a table: there are no DISTINCT and no groups
 abbrev pub has_plain_rows : NumberedSelect → Bool
-has_plain_rows (NumberedSelect.select distinct list from filter groups columns can_fail number) = not distinct && not (is_grouped groups)
+has_plain_rows (NumberedSelect.select distinct list from filter groups columns can_fail number) =
+    not distinct && not (is_grouped groups)
 
 abbrev pub from_of : Select Named → List TableReference
 from_of (select distinct list from filter by having) = from
@@ -104,10 +113,12 @@ abbrev pub shown_of : NumberedSelect → List Numbered
 shown_of (NumberedSelect.select distinct list from filter groups columns can_fail number) = list
 
 abbrev pub may_be_changed : UserNames → TableReference → Option ChangedTable
-may_be_changed names r = option_and_then (λ t. option_map (table_over r t) (names.under r.table)) (names.tables r.table)
+may_be_changed names r =
+    option_and_then (λ t. option_map (table_over r t) (names.under r.table)) (names.tables r.table)
 
 abbrev pub only_table : UserNames → Select Named → NumberedSelect → Option ChangedTable
-only_table names q s = if has_plain_rows s then option_and_then (may_be_changed names) (only_one (from_of q)) else None
+only_table names q s =
+    if has_plain_rows s then option_and_then (may_be_changed names) (only_one (from_of q)) else None
 
 -- a select item that is a column reference, and nothing stands around it
 abbrev pub is_reference : Expr Named → Bool
@@ -125,28 +136,41 @@ leaf_column u _ = None
 
 abbrev pub leaf_columns : UnderTable → List Numbered → Option (List ℕ)
 leaf_columns u [] = Some []
-leaf_columns u (e ∷ es) = option_and_then (λ n. option_map (λ ns. n ∷ ns) (leaf_columns u es)) (leaf_column u e)
+leaf_columns u (e ∷ es) =
+    option_and_then (λ n. option_map (λ ns. n ∷ ns) (leaf_columns u es)) (leaf_column u e)
 
 abbrev pub if_distinct : List ℕ → Option (List ℕ)
 if_distinct columns = if are_distinct columns then Some columns else None
 
--- those of the select list, where it has columns alone, each once
+-- the columns that a select list shows, where it has columns alone, each once
 abbrev pub columns_shown : UnderTable → SelectList Named → List Numbered → Option (List ℕ)
-columns_shown u list shown = if is_of_references list then option_and_then if_distinct (leaf_columns u shown) else None
+columns_shown u list shown =
+    if is_of_references list then option_and_then if_distinct (leaf_columns u shown) else None
 
 -- a condition with a subquery is none of an updatable query
 abbrev pub updatable_where : ChangedTable → Option (List ℕ) → Found NumberedClause → Option NumberedUpdatable
 updatable_where t None x = None
-updatable_where t (Some columns) x = if x.findings.has_subquery then None else Some (record { table = t.reference.table; target = target_over t x.part; columns = columns })
+updatable_where t (Some columns) x =
+    if x.findings.has_subquery
+    then None
+    else Some (record { table = t.reference.table; target = target_over t x.part; columns = columns })
 
--- with what is made of it
+-- a part with what is made of it in its place
 abbrev pub made : {A B : Type 0} → (Found A → B) → Found A → Found B
-made f x = record { part = f x; calls = x.calls; calls_can_fail = x.calls_can_fail; findings = x.findings; subqueries = x.subqueries }
+made f x = record {
+  part = f x;
+  calls = x.calls;
+  calls_can_fail = x.calls_can_fail;
+  findings = x.findings;
+  subqueries = x.subqueries;
+}
 
-abbrev pub updatable_over : Surroundings → Select Named → NumberedSelect → Option ChangedTable → Binding (Option NumberedUpdatable)
+abbrev pub updatable_over : Surroundings → Select Named → NumberedSelect → Option ChangedTable
+    → Binding (Option NumberedUpdatable)
 updatable_over a q s None = pure None
 updatable_over a q s (Some t) = λ counts. and_then (condition_bound a t (filter_of q) counts) (λ x. Ok (made (updatable_where t (columns_shown t.under (list_of q) (shown_of s))) x))
 
 -- the updatable query that a bound query specification is, if it is one: its condition is bound once more, on rows of the base table
-abbrev pub updatable_bound : UserNames → Surroundings → Select Named → NumberedSelect → Binding (Option NumberedUpdatable)
+abbrev pub updatable_bound : UserNames → Surroundings → Select Named → NumberedSelect
+    → Binding (Option NumberedUpdatable)
 updatable_bound names a q s = updatable_over a q s (only_table names q s)

@@ -32,14 +32,27 @@ pub record NumberedCursor : Type 0 where
   pub rows : NumberedRows
 
 abbrev pub sorted_cursor : Cursor → NumberedQuery → List SortColumn → NumberedCursor
-sorted_cursor c q order = record { insensitive = c.insensitive; scroll = c.scroll; table = None; columns = columns_of_query q; rows = NumberedRows.sorted q order }
+sorted_cursor c q order = record {
+  insensitive = c.insensitive;
+  scroll = c.scroll;
+  table = None;
+  columns = columns_of_query q;
+  rows = NumberedRows.sorted q order;
+}
 
 abbrev pub updatable_cursor : Cursor → NumberedSelect → NumberedUpdatable → NumberedCursor
-updatable_cursor c s u = record { insensitive = c.insensitive; scroll = c.scroll; table = Some u.table; columns = columns_of s; rows = NumberedRows.updatable u }
+updatable_cursor c s u = record {
+  insensitive = c.insensitive;
+  scroll = c.scroll;
+  table = Some u.table;
+  columns = columns_of s;
+  rows = NumberedRows.updatable u;
+}
 
 -- ---- a query expression, in the order of ORDER BY
 
-abbrev pub sorted_bound : Surroundings → Query Named → List SortSpecification → Binding (NumberedQuery × List SortColumn)
+abbrev pub sorted_bound : Surroundings → Query Named → List SortSpecification
+    → Binding (NumberedQuery × List SortColumn)
 sorted_bound a q order = do
   x ← query_bound a q
   by ← outcome (order_bound (names_of (columns_of_query x)) order)
@@ -54,17 +67,24 @@ cursor_over c s (Some u) = updatable_cursor c s u
 abbrev pub behind : {A : Type 0} → Found A → Counts
 behind x = record { functions = 0; subqueries = x.subqueries }
 
-abbrev pub select_cursor : UserNames → Surroundings → Cursor → Select Named → Found NumberedSelect → Outcome NumberedCursor
-select_cursor names a c q x = and_then (permitted x) (λ s. and_then (updatable_bound names a q s (behind x)) (λ y. Ok (cursor_over c s y.part)))
+abbrev pub select_cursor : UserNames → Surroundings → Cursor → Select Named → Found NumberedSelect
+    → Outcome NumberedCursor
+select_cursor names a c q x =
+    and_then (permitted x)
+    (λ s. and_then (updatable_bound names a q s (behind x)) (λ y. Ok (cursor_over c s y.part)))
 
 abbrev pub plain_specification : Cursor → Query Named → Option (Select Named)
 plain_specification c q = if is_plain c then only_specification q else None
 
-abbrev pub cursor_of : UserNames → Surroundings → Cursor → Query Named → Option (Select Named) → Outcome NumberedCursor
+abbrev pub cursor_of : UserNames → Surroundings → Cursor → Query Named → Option (Select Named)
+    → Outcome NumberedCursor
 cursor_of names a c query (Some q) = and_then (select_bound a q at_first) (select_cursor names a c q)
-cursor_of names a c query None = and_then (whole (sorted_bound a query (listed_if_any c.order_by))) (λ x. Ok (sorted_cursor c x.0 x.1))
+cursor_of names a c query None =
+    and_then (whole (sorted_bound a query (listed_if_any c.order_by))) (λ x. Ok (sorted_cursor c x.0 x.1))
 
 -- a cursor of a user's module, for the parameters of the procedure that opens it
 abbrev pub cursor_bound : UserNames → List Declared → Cursor → Outcome NumberedCursor
 cursor_bound names parameters c =
-    let query = query_of names.user c.query in cursor_of names (outside names parameters) c query (plain_specification c query)
+    let query =
+    query_of names.user c.query in cursor_of names (outside names parameters) c query
+    (plain_specification c query)

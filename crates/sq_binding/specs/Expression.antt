@@ -53,7 +53,8 @@ plain t k findings = record { tree = t; kind = k; calls = []; calls_can_fail = f
 
 -- no text spells the null value, which has no kind
 abbrev pub literal_bound : Value → Outcome Bound
-literal_bound v = or_fault fault.KindMismatch (result_ok (kind_of_value v)) >>= λ k. Ok (plain (Numbered.literal v) k none)
+literal_bound v =
+    or_fault fault.KindMismatch (result_ok (kind_of_value v)) >>= λ k. Ok (plain (Numbered.literal v) k none)
 
 abbrev pub user_findings : Findings
 user_findings = record none { has_user = true }
@@ -73,7 +74,8 @@ indicator_bound parameters None = Ok None
 indicator_bound parameters (Some i) = parameter_named parameters i.name >>= as_indicator
 
 abbrev pub parameter_as : ℕ × Domain → Option ℕ → Bound
-parameter_as at indicator = plain (Numbered.parameter (record { position = at.0; indicator = indicator })) (kind_of at.1) none
+parameter_as at indicator =
+    plain (Numbered.parameter (record { position = at.0; indicator = indicator })) (kind_of at.1) none
 
 abbrev pub parameter_bound : List Declared → Parameter → Outcome Bound
 parameter_bound parameters p = do
@@ -109,7 +111,10 @@ column_bound found = plain (Numbered.column (place_of_found found)) found.column
 
 -- in a query around, a column that is no grouping column is a fault here; in the query itself it is one if the query is grouped
 abbrev pub column_allowed : (in_function : Bool) → FoundColumn → Outcome Bound
-column_allowed inside found = if nat_lt 0 found.depth && not found.is_grouped && not inside then Err fault.UngroupedColumn else Ok (column_bound found)
+column_allowed inside found =
+    if nat_lt 0 found.depth && not found.is_grouped && not inside
+    then Err fault.UngroupedColumn
+    else Ok (column_bound found)
 
 abbrev pub column_value : List Scope → (in_function : Bool) → ColumnReference → Outcome Bound
 column_value scopes inside c = column_meant c scopes >>= column_allowed inside
@@ -138,7 +143,10 @@ operated_kind operator.Over left right = product_kind Over left right
 
 -- both are numbers, and the scale is at most 18
 abbrev pub kind_operated : Operator → Kind → Kind → Outcome Kind
-kind_operated op left right = if is_text left || is_text right then Err fault.KindMismatch else or_fault fault.LimitExceeded (result_ok (operated_kind op left right))
+kind_operated op left right =
+    if is_text left || is_text right
+    then Err fault.KindMismatch
+    else or_fault fault.LimitExceeded (result_ok (operated_kind op left right))
 
 abbrev pub operands : Operator → Bound → Bound → Kind → Bound
 operands op x y k = record {
@@ -156,20 +164,29 @@ operated_as op x y = kind_operated op x.kind y.kind >>= λ k. Ok (operands op x 
 
 -- the set function of this number
 abbrev pub called : ℕ → PlacedExpr → Kind → (can_fail : Bool) → Bound
-called n call k can_fail = record { tree = Numbered.set_function n; kind = k; calls = call ∷ []; calls_can_fail = can_fail; findings = none }
+called n call k can_fail = record {
+  tree = Numbered.set_function n;
+  kind = k;
+  calls = call ∷ [];
+  calls_can_fail = can_fail;
+  findings = none;
+}
 
 abbrev pub count_bound : (allowed : Bool) → ℕ → Outcome Bound
-count_bound allowed n = if allowed then Ok (called n tree.count_rows (Num 0) true) else Err fault.MisplacedSetFunction
+count_bound allowed n =
+    if allowed then Ok (called n tree.count_rows (Num 0) true) else Err fault.MisplacedSetFunction
 
 -- SUM and AVG are of numbers
 abbrev pub kind_of_call : SetFunction → Kind → Outcome Kind
 kind_of_call function k = or_fault fault.KindMismatch (result_ok (function_kind function k))
 
--- its value is one of those that it is over, or a count, a sum or an average, which may be out of range
+-- a set function's value is one of those that it is over, or a count, a sum or an average, which may be out of range
 abbrev pub function_call : ℕ → SetFunction → (distinct : Bool) → Bound → Kind → Bound
-function_call n function distinct x k = called n (tree.set_function function distinct (tree_of [] x.tree)) k (x.findings.can_fail || not (is_extreme function))
+function_call n function distinct x k =
+    called n (tree.set_function function distinct (tree_of [] x.tree)) k
+    (x.findings.can_fail || not (is_extreme function))
 
--- its operand reads columns of its own query alone
+-- the operand of a set function reads columns of its own query alone
 abbrev pub function_over : (allowed : Bool) → ℕ → SetFunction → (distinct : Bool) → Bound → Outcome Bound
 function_over allowed n function distinct x =
     if not allowed || nat_lt 0 x.findings.reach
@@ -187,7 +204,8 @@ module _ (scopes : List Scope) (parameters : List Declared) where
   bound allowed inside user n = Ok (plain Numbered.user (Chars 18) user_findings)
   bound allowed inside (column c) n = column_value scopes inside c
   bound allowed inside count_rows n = count_bound allowed n
-  bound allowed inside (set_function function distinct e) n = bound false true e 0 >>= function_over allowed n function distinct
+  bound allowed inside (set_function function distinct e) n =
+      bound false true e 0 >>= function_over allowed n function distinct
   bound allowed inside (signed sign e) n = bound allowed inside e n >>= signed_as sign
   bound allowed inside (added sign a b) n =
       bound allowed inside a n >>= λ x. bound allowed inside b (n + length x.calls) >>= operated_as (sum_operator sign) x

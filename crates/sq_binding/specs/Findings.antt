@@ -16,7 +16,15 @@ pub record Findings : Type 0 where
   pub has_user : Bool
 
 abbrev pub none : Findings
-none = record { items = 0; outer_items = 0; reach = 0; reads_outermost = false; can_fail = false; has_ungrouped = false; has_user = false }
+none = record {
+  items = 0;
+  outer_items = 0;
+  reach = 0;
+  reads_outermost = false;
+  can_fail = false;
+  has_ungrouped = false;
+  has_user = false;
+}
 
 -- what is found in two parts
 abbrev pub both : Findings → Findings → Findings
@@ -30,6 +38,6 @@ both a b = record {
   has_user = a.has_user || b.has_user;
 }
 
--- the same, where evaluation may answer a status
+-- findings of a part whose evaluation may answer a status
 abbrev pub failing : Findings → Findings
 failing a = record a { can_fail = true }

@@ -59,14 +59,14 @@ refused f = λ counts. Err f
 abbrev pub must : Bool → BindingFault → Binding (Unit {0})
 must test f = if test then pure tt else refused f
 
--- at most so many (own rules)
+-- a part that is refused where it has more than the most that are allowed (own rules)
 abbrev pub at_most : {A : Type 0} → (most many : ℕ) → Binding A → Binding A
 at_most most many b = if nat_lt most many then refused fault.LimitExceeded else b
 
 abbrev pub has_found : QueryFindings → Binding (Unit {0})
 has_found found = λ counts. Ok (record { part = tt; calls = []; calls_can_fail = false; findings = found; subqueries = counts.subqueries })
 
--- what has its outcome by itself
+-- a part that adds nothing, and has its outcome by itself
 abbrev pub outcome : {A : Type 0} → Outcome A → Binding A
 outcome o = λ counts. and_then o (λ x. pure x counts)
 

@@ -34,7 +34,10 @@ abbrev pub column_over : ℕ × ColumnDescriptor → ItemColumn
 column_over c = record { name = c.1.name; position = c.0; kind = c.1.kind }
 
 abbrev pub item_over : TableReference → NamedTable → NamedItem
-item_over r t = record { table = t.place; item = record { reference = r; columns = map column_over (enumerate_from 0 t.columns) } }
+item_over r t = record {
+  table = t.place;
+  item = record { reference = r; columns = map column_over (enumerate_from 0 t.columns) };
+}
 
 abbrev pub items_of : List NamedItem → List FromItem
 items_of from = map (λ i. i.item) from

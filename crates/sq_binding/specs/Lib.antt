@@ -1,5 +1,6 @@
 pub mod Change
 pub mod Changeable
+pub mod ColumnNames
 pub mod Condition
 pub mod Cursor
 pub mod Expression

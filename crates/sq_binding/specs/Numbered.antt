@@ -26,4 +26,5 @@ tree_of functions Numbered.user = tree.user
 tree_of functions (Numbered.column p) = tree.column p
 tree_of functions (Numbered.set_function n) = slice_index_or functions n missing
 tree_of functions (Numbered.signed sign e) = tree.signed sign (tree_of functions e)
-tree_of functions (Numbered.operation operator a b) = operated operator (tree_of functions a) (tree_of functions b)
+tree_of functions (Numbered.operation operator a b) =
+    operated operator (tree_of functions a) (tree_of functions b)

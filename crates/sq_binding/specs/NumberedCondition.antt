@@ -48,7 +48,8 @@ mutual
   -- what groups a query specification: the columns of GROUP BY, the set functions in the order of the text, and HAVING
   pub data NumberedGroups : Type 0 where
     not_grouped : NumberedGroups
-    grouped : (columns : List Place) → (functions : List PlacedExpr) → (having : NumberedClause) → NumberedGroups
+    grouped : (columns : List Place) → (functions : List PlacedExpr) → (having : NumberedClause)
+        → NumberedGroups
 
   pub data NumberedSelect : Type 0 where
     select : (distinct : Bool) → (list : List Numbered) → (from : List TablePlace) → (where_clause : NumberedClause) → NumberedGroups
@@ -60,7 +61,8 @@ abbrev pub columns_of : NumberedSelect → List ResultColumn
 columns_of (select distinct list from filter groups columns can_fail number) = columns
 
 abbrev pub with_number : Option ℕ → NumberedSelect → NumberedSelect
-with_number number (select distinct list from filter groups columns can_fail unnumbered) = select distinct list from filter groups columns can_fail number
+with_number number (select distinct list from filter groups columns can_fail unnumbered) =
+    select distinct list from filter groups columns can_fail number
 
 abbrev pub grouping_columns : NumberedGroups → List Place
 grouping_columns not_grouped = []
@@ -78,11 +80,14 @@ trees_of functions es = map (tree_of functions) es
 abbrev mutual
   pub cond_of : List PlacedExpr → NumberedCond → PlacedCond
   cond_of functions (compare op a b) = tree.compare op (tree_of functions a) (tree_of functions b)
-  cond_of functions (compare_query compared op a q) = compared_with compared op (tree_of functions a) (select_of q)
-  cond_of functions (between a low high) = tree.between (tree_of functions a) (tree_of functions low) (tree_of functions high)
+  cond_of functions (compare_query compared op a q) =
+      compared_with compared op (tree_of functions a) (select_of q)
+  cond_of functions (between a low high) =
+      tree.between (tree_of functions a) (tree_of functions low) (tree_of functions high)
   cond_of functions (in_query a q) = tree.in_subquery (tree_of functions a) (select_of q)
   cond_of functions (in_list a es) = tree.in_list (tree_of functions a) (trees_of functions es)
-  cond_of functions (like text pattern escape) = tree.like (tree_of functions text) (tree_of functions pattern) (option_map (tree_of functions) escape)
+  cond_of functions (like text pattern escape) =
+      tree.like (tree_of functions text) (tree_of functions pattern) (option_map (tree_of functions) escape)
   cond_of functions (is_null a) = tree.is_null (tree_of functions a)
   cond_of functions (exists q) = tree.exists (select_of q)
   cond_of functions (negated c) = tree.negated (cond_of functions c)

@@ -20,4 +20,5 @@ sort_column_bound names s = do
 
 abbrev pub order_bound : List (Option Name) → List SortSpecification → Outcome (List SortColumn)
 order_bound names [] = Ok []
-order_bound names (s ∷ order) = sort_column_bound names s >>= λ column. order_bound names order >>= λ columns. Ok (column ∷ columns)
+order_bound names (s ∷ order) =
+    sort_column_bound names s >>= λ column. order_bound names order >>= λ columns. Ok (column ∷ columns)

@@ -18,7 +18,8 @@ use Rattle.sq_binding.specs.Whole.{must_hold}
 
 -- a number that is written without a point, or a parameter of scale 0
 abbrev pub distance_bound : List Declared → Position → Outcome Distance
-distance_bound parameters (position.Number n) = if has_point n.number then Err fault.BadOrientation else Ok (distance.Number (signed_number n).unscaled)
+distance_bound parameters (position.Number n) =
+    if has_point n.number then Err fault.BadOrientation else Ok (distance.Number (signed_number n).unscaled)
 distance_bound parameters (position.Parameter name) = do
   at ← parameter_named parameters name
   _ ← must_hold (is_whole_domain at.1) fault.BadOrientation
@@ -29,8 +30,10 @@ written_bound parameters written.Next = Ok orientation.Next
 written_bound parameters written.Prior = Ok orientation.Prior
 written_bound parameters written.First = Ok orientation.First
 written_bound parameters written.Last = Ok orientation.Last
-written_bound parameters (written.Absolute p) = distance_bound parameters p >>= λ d. Ok (orientation.Absolute d)
-written_bound parameters (written.Relative p) = distance_bound parameters p >>= λ d. Ok (orientation.Relative d)
+written_bound parameters (written.Absolute p) =
+    distance_bound parameters p >>= λ d. Ok (orientation.Absolute d)
+written_bound parameters (written.Relative p) =
+    distance_bound parameters p >>= λ d. Ok (orientation.Relative d)
 
 -- where no orientation is written, NEXT is implicit
 abbrev pub orientation_bound : List Declared → Option Orientation → Outcome FetchOrientation

@@ -26,14 +26,18 @@ heads_of scopes = map (λ scope. map item_named scope.items) scopes
 
 -- the column at a place
 abbrev pub column_at : List Scope → Place → Option ItemColumn
-column_at scopes at = option_and_then (λ scope. column_numbered scope (at.item, at.column)) (slice_get scopes at.depth)
+column_at scopes at =
+    option_and_then (λ scope. column_numbered scope (at.item, at.column)) (slice_get scopes at.depth)
 
 -- the column that a reference means, at its position in the rows that are read
 abbrev pub placed_column : List Scope → ColumnReference → Outcome Place
-placed_column scopes r = place_of r (heads_of scopes) >>= λ at. well_formed (option_map (λ c. record at { column = c.position }) (column_at scopes at))
+placed_column scopes r =
+    place_of r (heads_of scopes)
+    >>= λ at. well_formed (option_map (λ c. record at { column = c.position }) (column_at scopes at))
 
 abbrev pub column_kind : List Scope → ColumnReference → Outcome Kind
-column_kind scopes r = place_of r (heads_of scopes) >>= λ at. well_formed (option_map (λ c. c.kind) (column_at scopes at))
+column_kind scopes r =
+    place_of r (heads_of scopes) >>= λ at. well_formed (option_map (λ c. c.kind) (column_at scopes at))
 
 abbrev pub position_named : List Declared → Name → Outcome (ℕ × Domain)
 position_named parameters name = well_formed (option_and_then (λ at. option_map (λ p. (at, p.domain)) (slice_get parameters at)) (position (λ p. same_name p.name name) parameters))
@@ -43,7 +47,10 @@ indicator_named parameters None = Ok None
 indicator_named parameters (Some i) = position_named parameters i.name >>= λ p. Ok (Some p.0)
 
 abbrev pub placed_parameter : List Declared → Parameter → Outcome PlacedParameter
-placed_parameter parameters p = position_named parameters p.name >>= λ at. indicator_named parameters p.indicator >>= λ i. Ok (record { position = at.0; indicator = i })
+placed_parameter parameters p =
+    position_named parameters p.name
+    >>= λ at. indicator_named parameters p.indicator
+    >>= λ i. Ok (record { position = at.0; indicator = i })
 
 abbrev pub placed : List Scope → List Declared → Expr Named → Outcome PlacedExpr
 placed scopes parameters (literal v) = Ok (literal v)
@@ -51,10 +58,13 @@ placed scopes parameters (parameter p) = placed_parameter parameters p >>= λ q.
 placed scopes parameters user = Ok user
 placed scopes parameters (column c) = placed_column scopes c >>= λ p. Ok (column p)
 placed scopes parameters count_rows = Ok count_rows
-placed scopes parameters (set_function f distinct e) = placed scopes parameters e >>= λ x. Ok (set_function f distinct x)
+placed scopes parameters (set_function f distinct e) =
+    placed scopes parameters e >>= λ x. Ok (set_function f distinct x)
 placed scopes parameters (signed sign e) = placed scopes parameters e >>= λ x. Ok (signed sign x)
-placed scopes parameters (added sign a b) = placed scopes parameters a >>= λ x. placed scopes parameters b >>= λ y. Ok (added sign x y)
-placed scopes parameters (scaled sign a b) = placed scopes parameters a >>= λ x. placed scopes parameters b >>= λ y. Ok (scaled sign x y)
+placed scopes parameters (added sign a b) =
+    placed scopes parameters a >>= λ x. placed scopes parameters b >>= λ y. Ok (added sign x y)
+placed scopes parameters (scaled sign a b) =
+    placed scopes parameters a >>= λ x. placed scopes parameters b >>= λ y. Ok (scaled sign x y)
 placed scopes parameters (bracketed e) = placed scopes parameters e
 
 -- the kinds of the columns in scope, and of the parameters

@@ -40,12 +40,16 @@ list_placed a items (expressions es) = each (expr_placed a) es
 abbrev mutual
   pub cond_placed : Surroundings → Cond Named → Outcome PlacedCond
   cond_placed a (compare op x y) = expr_placed a x >>= λ p. expr_placed a y >>= λ q. Ok (compare op p q)
-  cond_placed a (compare_subquery op x s) = expr_placed a x >>= λ p. select_placed a s >>= λ q. Ok (compared_with Scalar op p q)
-  cond_placed a (compare_quantified op k x s) = expr_placed a x >>= λ p. select_placed a s >>= λ q. Ok (compared_with (compared_as k) op p q)
-  cond_placed a (between x low high) = expr_placed a x >>= λ p. expr_placed a low >>= λ q. expr_placed a high >>= λ r. Ok (between p q r)
+  cond_placed a (compare_subquery op x s) =
+      expr_placed a x >>= λ p. select_placed a s >>= λ q. Ok (compared_with Scalar op p q)
+  cond_placed a (compare_quantified op k x s) =
+      expr_placed a x >>= λ p. select_placed a s >>= λ q. Ok (compared_with (compared_as k) op p q)
+  cond_placed a (between x low high) =
+      expr_placed a x >>= λ p. expr_placed a low >>= λ q. expr_placed a high >>= λ r. Ok (between p q r)
   cond_placed a (in_subquery x s) = expr_placed a x >>= λ p. select_placed a s >>= λ q. Ok (in_subquery p q)
   cond_placed a (in_list x es) = expr_placed a x >>= λ p. each (expr_placed a) es >>= λ ps. Ok (in_list p ps)
-  cond_placed a (like x pattern escape) = expr_placed a x >>= λ p. expr_placed a pattern >>= λ q. escape_placed a escape >>= λ r. Ok (like p q r)
+  cond_placed a (like x pattern escape) =
+      expr_placed a x >>= λ p. expr_placed a pattern >>= λ q. escape_placed a escape >>= λ r. Ok (like p q r)
   cond_placed a (is_null x) = expr_placed a x >>= λ p. Ok (is_null p)
   cond_placed a (exists s) = select_placed a s >>= λ q. Ok (exists q)
   cond_placed a (negated c) = cond_placed a c >>= λ p. Ok (negated p)

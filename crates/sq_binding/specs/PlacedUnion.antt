@@ -9,4 +9,5 @@ use Rattle.sq_binding.specs.Select.{Surroundings}
 
 abbrev pub query_placed : Surroundings → Query Named → Outcome PlacedQuery
 query_placed a (specification s) = select_placed a s >>= λ x. Ok (specification x)
-query_placed a (union all left right) = query_placed a left >>= λ x. query_placed a right >>= λ y. Ok (union all x y)
+query_placed a (union all left right) =
+    query_placed a left >>= λ x. query_placed a right >>= λ y. Ok (union all x y)

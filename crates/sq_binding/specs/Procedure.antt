@@ -20,11 +20,14 @@ numbered n c = record { number = n; scroll = c.scroll; columns = c.columns; tabl
 
 -- a cursor, if its query has no fault
 abbrev pub cursor_if_sound : UserNames → ℕ → ModuleText → Cursor → Option NamedCursor
-cursor_if_sound names n m c = option_map (numbered n) (result_ok (cursor_bound names (opener_parameters m c.name) c))
+cursor_if_sound names n m c =
+    option_map (numbered n) (result_ok (cursor_bound names (opener_parameters m c.name) c))
 
 -- the cursors of a module, with the numbers that their names have among the cursors of all modules
 abbrev pub module_cursors : UserNames → (Name → ℕ) → ModuleText → NamedCursors
-module_cursors names number m name = option_and_then (cursor_if_sound names (number name) m) (cursor_named m name)
+module_cursors names number m name =
+    option_and_then (cursor_if_sound names (number name) m) (cursor_named m name)
 
 abbrev pub procedure_bound : UserNames → (Name → ℕ) → ModuleText → Procedure → Outcome NumberedStatement
-procedure_bound names number m p = statement_bound names (declared_parameters p) (module_cursors names number m) p.statement
+procedure_bound names number m p =
+    statement_bound names (declared_parameters p) (module_cursors names number m) p.statement

@@ -68,7 +68,8 @@ further_out found = record found { depth = suc found.depth }
 -- the only column that fits in the nearest scope in which one does
 abbrev pub nearest : Scope → (is_outermost : Bool) → List (ℕ × ℕ) → Outcome FoundColumn → Outcome FoundColumn
 nearest scope outermost [] further = further >>= λ found. Ok (further_out found)
-nearest scope outermost (at ∷ []) further = or_fault fault.UnknownColumn (option_map (found_in scope outermost at) (column_numbered scope at))
+nearest scope outermost (at ∷ []) further =
+    or_fault fault.UnknownColumn (option_map (found_in scope outermost at) (column_numbered scope at))
 nearest scope outermost (at ∷ next ∷ others) further = Err fault.AmbiguousName
 
 abbrev pub is_last : List Scope → Bool

@@ -78,11 +78,16 @@ column_of c = record { name = c.name; kind = c.kind }
 
 abbrev predicate_layer : Predicate-F C C C S C G → C
 predicate_layer (layer.Compare op a b) = NumberedCond.compare op (numbered_of a) (numbered_of b)
-predicate_layer (layer.CompareQuery op compared a q) = NumberedCond.compare_query compared op (numbered_of a) q
-predicate_layer (layer.Between written a low high) = not_if written (NumberedCond.between (numbered_of a) (numbered_of low) (numbered_of high))
+predicate_layer (layer.CompareQuery op compared a q) =
+    NumberedCond.compare_query compared op (numbered_of a) q
+predicate_layer (layer.Between written a low high) =
+    not_if written (NumberedCond.between (numbered_of a) (numbered_of low) (numbered_of high))
 predicate_layer (layer.InQuery written a q) = not_if written (NumberedCond.in_query (numbered_of a) q)
-predicate_layer (layer.InList written a es) = not_if written (NumberedCond.in_list (numbered_of a) (map numbered_of es))
-predicate_layer (layer.Like written text pattern escape) = not_if written (NumberedCond.like (numbered_of text) (numbered_of pattern) (option_map numbered_of escape))
+predicate_layer (layer.InList written a es) =
+    not_if written (NumberedCond.in_list (numbered_of a) (map numbered_of es))
+predicate_layer (layer.Like written text pattern escape) =
+    not_if written
+    (NumberedCond.like (numbered_of text) (numbered_of pattern) (option_map numbered_of escape))
 predicate_layer (layer.Null written a) = not_if written (NumberedCond.is_null (numbered_of a))
 predicate_layer (layer.Exists q) = NumberedCond.exists q
 predicate_layer (layer.Bracketed c) = c
@@ -97,26 +102,39 @@ abbrev cond_layer : BoundCond-F C C C S C G → C
 cond_layer c = NumberedCond.disjunction (conds_in c.terms)
 
 abbrev grouping_layer : Grouping-F C C C S C G → G
-grouping_layer g = NumberedGroups.grouped (map place_meant g.columns) (map call_of g.set_functions) (clause_if g.having)
+grouping_layer g =
+    NumberedGroups.grouped (map place_meant g.columns) (map call_of g.set_functions) (clause_if g.having)
 
 abbrev specification_layer : BoundSpecification-F C C C S C G → S
 specification_layer s =
     NumberedSelect.select s.distinct (map numbered_of s.list) s.from.tables (clause_if s.condition) (groups_if s.grouping) (map column_of s.columns) s.can_fail s.number
 
 unfoldable pub cond_seen : BoundCond → NumberedCond
-cond_seen = fold-BoundCond C C C S C G predicate_layer cond_layer conj_layer specification_layer test_layer grouping_layer
+cond_seen =
+    fold-BoundCond C C C S C G predicate_layer cond_layer conj_layer specification_layer test_layer
+    grouping_layer
 
 unfoldable pub conj_seen : BoundConj → NumberedCond
-conj_seen = fold-BoundConj C C C S C G predicate_layer cond_layer conj_layer specification_layer test_layer grouping_layer
+conj_seen =
+    fold-BoundConj C C C S C G predicate_layer cond_layer conj_layer specification_layer test_layer
+    grouping_layer
 
 unfoldable pub test_seen : BoundTest → NumberedCond
-test_seen = fold-BoundTest C C C S C G predicate_layer cond_layer conj_layer specification_layer test_layer grouping_layer
+test_seen =
+    fold-BoundTest C C C S C G predicate_layer cond_layer conj_layer specification_layer test_layer
+    grouping_layer
 
 unfoldable pub predicate_seen : Predicate → NumberedCond
-predicate_seen = fold-Predicate C C C S C G predicate_layer cond_layer conj_layer specification_layer test_layer grouping_layer
+predicate_seen =
+    fold-Predicate C C C S C G predicate_layer cond_layer conj_layer specification_layer test_layer
+    grouping_layer
 
 unfoldable pub select_seen : BoundSpecification → NumberedSelect
-select_seen = fold-BoundSpecification C C C S C G predicate_layer cond_layer conj_layer specification_layer test_layer grouping_layer
+select_seen =
+    fold-BoundSpecification C C C S C G predicate_layer cond_layer conj_layer specification_layer test_layer
+    grouping_layer
 
 unfoldable pub grouping_seen : Grouping → NumberedGroups
-grouping_seen = fold-Grouping C C C S C G predicate_layer cond_layer conj_layer specification_layer test_layer grouping_layer
+grouping_seen =
+    fold-Grouping C C C S C G predicate_layer cond_layer conj_layer specification_layer test_layer
+    grouping_layer

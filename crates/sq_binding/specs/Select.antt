@@ -31,11 +31,17 @@ pub record Surroundings : Type 0 where
 
 -- in WHERE and GROUP BY, which are of lines
 abbrev pub of_lines : List FromItem → Surroundings → Surroundings
-of_lines items a = record a { scopes = record { items = items; grouping = None } ∷ a.scopes; functions_allowed = false }
+of_lines items a = record a {
+  scopes = record { items = items; grouping = None } ∷ a.scopes;
+  functions_allowed = false;
+}
 
 -- in the select list and HAVING, which are of groups by these columns if the query is grouped
 abbrev pub of_groups : List FromItem → List Place → Surroundings → Surroundings
-of_groups items columns a = record a { scopes = record { items = items; grouping = Some columns } ∷ a.scopes; functions_allowed = true }
+of_groups items columns a = record a {
+  scopes = record { items = items; grouping = Some columns } ∷ a.scopes;
+  functions_allowed = true;
+}
 
 -- ---- value expressions
 
@@ -88,14 +94,16 @@ abbrev pub columns_of_items : List FromItem → List ShownColumn
 columns_of_items items = flat_map columns_of_item (enumerate_from 0 items)
 
 abbrev pub shown_column : Surroundings → Expr Named → Binding ShownColumn
-shown_column a e = value a e >>= λ x. pure (record { tree = x.tree; column = record { name = item_name e; kind = x.kind } })
+shown_column a e =
+    value a e >>= λ x. pure (record { tree = x.tree; column = record { name = item_name e; kind = x.kind } })
 
 -- no select list has more columns (own rule)
 abbrev pub most_columns : ℕ
 most_columns = 64
 
 abbrev pub list_bound : Surroundings → List FromItem → SelectList Named → Binding (List ShownColumn)
-list_bound a items all_columns = at_most most_columns (length (columns_of_items items)) (pure (columns_of_items items))
+list_bound a items all_columns =
+    at_most most_columns (length (columns_of_items items)) (pure (columns_of_items items))
 list_bound a items (expressions es) = at_most most_columns (length es) (each (shown_column a) es)
 
 -- ---- the whole
@@ -143,4 +151,5 @@ rightly_grouped star (NumberedGroups.grouped by functions having) x =
 
 -- a query specification of these parts
 abbrev pub specification : (star : Bool) → Binding Parts → Binding NumberedSelect
-specification star parts = λ counts. and_then (from_first parts counts) (λ x. rightly_grouped star (groups_of x) x)
+specification star parts =
+    λ counts. and_then (from_first parts counts) (λ x. rightly_grouped star (groups_of x) x)

@@ -44,12 +44,19 @@ fetch_bound parameters cursors f = do
 -- ---- a statement of a user's procedure with these parameters, in a module with these cursors
 
 abbrev pub statement_bound : UserNames → List Declared → NamedCursors → Statement → Outcome NumberedStatement
-statement_bound names parameters cursors (statement.Open name) = cursor_named cursors name >>= λ c. Ok (NumberedStatement.open_cursor c.number)
-statement_bound names parameters cursors (statement.Fetch f) = fetch_bound parameters cursors f >>= λ x. Ok (NumberedStatement.fetch x)
-statement_bound names parameters cursors (statement.Close name) = cursor_named cursors name >>= λ c. Ok (NumberedStatement.close_cursor c.number)
-statement_bound names parameters cursors (statement.Select s) = whole (row_bound names parameters s) >>= λ x. Ok (NumberedStatement.select_row x)
-statement_bound names parameters cursors (statement.Insert i) = whole (insert_bound names parameters i) >>= λ x. Ok (NumberedStatement.insert x)
-statement_bound names parameters cursors (statement.Update u) = whole (update_bound names parameters cursors u) >>= λ x. Ok (NumberedStatement.update x)
-statement_bound names parameters cursors (statement.Delete d) = whole (delete_bound names parameters cursors d) >>= λ x. Ok (NumberedStatement.delete x)
+statement_bound names parameters cursors (statement.Open name) =
+    cursor_named cursors name >>= λ c. Ok (NumberedStatement.open_cursor c.number)
+statement_bound names parameters cursors (statement.Fetch f) =
+    fetch_bound parameters cursors f >>= λ x. Ok (NumberedStatement.fetch x)
+statement_bound names parameters cursors (statement.Close name) =
+    cursor_named cursors name >>= λ c. Ok (NumberedStatement.close_cursor c.number)
+statement_bound names parameters cursors (statement.Select s) =
+    whole (row_bound names parameters s) >>= λ x. Ok (NumberedStatement.select_row x)
+statement_bound names parameters cursors (statement.Insert i) =
+    whole (insert_bound names parameters i) >>= λ x. Ok (NumberedStatement.insert x)
+statement_bound names parameters cursors (statement.Update u) =
+    whole (update_bound names parameters cursors u) >>= λ x. Ok (NumberedStatement.update x)
+statement_bound names parameters cursors (statement.Delete d) =
+    whole (delete_bound names parameters cursors d) >>= λ x. Ok (NumberedStatement.delete x)
 statement_bound names parameters cursors (statement.Commit work) = Ok NumberedStatement.commit
 statement_bound names parameters cursors (statement.Rollback work) = Ok NumberedStatement.rollback

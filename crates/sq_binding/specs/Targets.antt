@@ -27,7 +27,8 @@ abbrev pub set_by : PlacedParameter → List ℕ
 set_by t = t.position ∷ option_to_list t.indicator
 
 -- each in turn, where those before it set these parameters: no parameter is set twice
-abbrev pub targets_in_turn : List Declared → (before : List ℕ) → List (Parameter × Kind) → Outcome (List PlacedParameter)
+abbrev pub targets_in_turn : List Declared → (before : List ℕ) → List (Parameter × Kind)
+    → Outcome (List PlacedParameter)
 targets_in_turn parameters before [] = Ok []
 targets_in_turn parameters before (t ∷ ts) = do
   target ← target_bound parameters t
@@ -35,7 +36,7 @@ targets_in_turn parameters before (t ∷ ts) = do
   targets ← targets_in_turn parameters (before ++ set_by target) ts
   Ok (target ∷ targets)
 
--- as many as there are columns
+-- there are as many targets as columns
 abbrev pub targets_bound : List Declared → List Parameter → List Kind → Outcome (List PlacedParameter)
 targets_bound parameters targets kinds = do
   _ ← must_hold (length targets == length kinds) fault.CountMismatch

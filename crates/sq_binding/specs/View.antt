@@ -19,7 +19,8 @@ use Rattle.sq_binding.specs.Whole.{at_first}
 
 -- ---- views
 
--- its query, what it is over where it is updatable, and whether its owner holds SELECT on all tables that it names, and with the grant option
+-- a view: its query, what it is over where it is updatable, and whether its owner holds SELECT on all tables that it
+-- names, and with the grant option
 pub record NumberedView : Type 0 where
   pub query : NumberedSelect
   pub updatable : Option NumberedUpdatable
@@ -27,10 +28,17 @@ pub record NumberedView : Type 0 where
   pub may_grant_select : Bool
 
 abbrev pub view_of : Found NumberedSelect → Found (Option NumberedUpdatable) → NumberedView
-view_of x y = record { query = x.part; updatable = y.part; may_select = not x.findings.lacks_privilege; may_grant_select = not x.findings.lacks_grant_option }
+view_of x y = record {
+  query = x.part;
+  updatable = y.part;
+  may_select = not x.findings.lacks_privilege;
+  may_grant_select = not x.findings.lacks_grant_option;
+}
 
 abbrev pub view_over : UserNames → Surroundings → Select Named → Outcome NumberedView
-view_over names a q = and_then (select_bound a q at_first) (λ x. and_then (updatable_bound names a q x.part (behind x)) (λ y. Ok (view_of x y)))
+view_over names a q =
+    and_then (select_bound a q at_first)
+    (λ x. and_then (updatable_bound names a q x.part (behind x)) (λ y. Ok (view_of x y)))
 
 -- a missing privilege is no fault of a view
 abbrev pub view_bound : UserNames → Select Named → Outcome NumberedView
@@ -44,14 +52,20 @@ pub data CheckFault : Type 0 where
   not_in_check : CheckFault
 
 abbrev pub own_item : TableName → List ColumnDescriptor → FromItem
-own_item t columns = record { reference = record { table = t; correlation = None }; columns = map column_over (enumerate_from 0 columns) }
+own_item t columns = record {
+  reference = record { table = t; correlation = None };
+  columns = map column_over (enumerate_from 0 columns);
+}
 
 -- the columns of the table that is defined, and no table, parameter or set function
 abbrev pub beside_columns : TableName → List ColumnDescriptor → Surroundings
-beside_columns t columns = of_lines (own_item t columns ∷ []) (record { names = λ t. None; parameters = []; scopes = []; functions_allowed = false })
+beside_columns t columns =
+    of_lines (own_item t columns ∷ [])
+    (record { names = λ t. None; parameters = []; scopes = []; functions_allowed = false })
 
 abbrev pub checked : Outcome (Found NumberedCond) → Result NumberedCond CheckFault
-checked (Ok x) = if x.findings.values.has_user || x.findings.has_subquery then Err CheckFault.not_in_check else Ok x.part
+checked (Ok x) =
+    if x.findings.values.has_user || x.findings.has_subquery then Err CheckFault.not_in_check else Ok x.part
 checked (Err f) = Err (CheckFault.broken f)
 
 -- a condition on the rows of a table with these columns

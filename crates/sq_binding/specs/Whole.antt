@@ -18,7 +18,12 @@ whole b = and_then (b at_first) permitted
 
 -- what is found where a privilege is needed
 abbrev pub needed : (is_held : Bool) → QueryFindings
-needed is_held = record { values = none; has_subquery = false; lacks_privilege = not is_held; lacks_grant_option = false }
+needed is_held = record {
+  values = none;
+  has_subquery = false;
+  lacks_privilege = not is_held;
+  lacks_grant_option = false;
+}
 
 -- a test that has to hold
 abbrev pub must_hold : Bool → BindingFault → Outcome (Unit {0})

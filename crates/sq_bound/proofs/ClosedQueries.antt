@@ -16,7 +16,7 @@ SameInside zero xs ys = ⊤
 SameInside (suc deep) (s ∷ xs) (t ∷ ys) = (s ≡ t) × SameInside deep xs ys
 SameInside (suc deep) _ _ = ⊥
 
--- and there is one
+-- the scopes up to this depth are the same, and the one at this depth is there
 abbrev SameHere : ℕ → Scopes → Scopes → Type 0
 SameHere zero xs ys = ⊥
 SameHere (suc deep) xs ys = SameInside (suc deep) xs ys

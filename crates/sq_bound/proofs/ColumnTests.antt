@@ -76,7 +76,7 @@ operated_none Minus a b = refl
 operated_none Times a b = refl
 operated_none Over a b = refl
 
--- it is no column
+-- an expression with an operation is no column
 pub operated_column : (e first : BoundExpr) (rest : List Operation) → e ≡ expr.Operations first rest → (rest ≡ [] → ⊥) → column_of e ≡ None
 operated_column = operated_as own_column None operated_none
 

@@ -160,7 +160,7 @@ module _ (a b : ℕ) where
 
 -- ---- query specifications
 
--- one without a number of its own
+-- a query specification without a number of its own is numbered
 unnumbered : (q : BoundSpecification) (a b : ℕ) (named : Named) → number_of q ≡ None → IsNumbered a b named q
 unnumbered q a b named none = record {
   rightly = subst (λ number. IfSome number (λ n. IsClosed (select_of q))) (sym none) tt;
@@ -168,7 +168,7 @@ unnumbered q a b named none = record {
   is_named = subst (λ number. IfSome number (λ n. named n ≡ Some q)) (sym none) tt;
 }
 
--- its clauses have all numbers
+-- a query specification without a number of its own has the numbers of its clauses
 pub clauses_numbered : (q : BoundSpecification) (a b c : ℕ) → number_of q ≡ None → AreNumbered ClauseWith a b (out-BoundSpecification q).condition → AreNumbered GroupsWith b c (out-BoundSpecification q).grouping
     → AreNumbered SelectWith a c q
 clauses_numbered q a b c none h k =

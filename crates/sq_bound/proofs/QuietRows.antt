@@ -14,7 +14,7 @@ use Rattle.sq_meaning.specs.WellFormed.{Has, HasValue, Fits, IsRowOf, AreRowsOf,
 use Rattle.sq_meaning.proofs.ReadingKinds.{places_agree, env_by_place}
 use Rattle.sq_bound.specs.Condition.{PlacedCond, cond_of}
 use Rattle.sq_bound.specs.Names.{option_all}
-use Rattle.sq_bound.specs.Quiet.{is_sure, are_sure}
+use Rattle.sq_bound.specs.Quiet.{is_quiet_cond, are_quiet_conds}
 use Rattle.sq_bound.specs.WellFormed.{TableKinds, IsCond, IsCondOn, IsTarget, base_kinds, of_base, of_base_at}
 use Rattle.sq_bound.specs.declared.condition.BoundCond.{BoundCond}
 use Rattle.sq_bound.specs.declared.condition.TablePlace.{TablePlace}
@@ -40,7 +40,7 @@ abbrev pub HasTruthOnRow : Row → List Input → Name → BoundCond → Type 0
 HasTruthOnRow row inputs user c = HasValue (truth (by_place no_tables) (cond_of [] c) (on_row row inputs user))
 
 module _ (columns : TableKinds) (parameters : List Kind) (row : Row) (inputs : List Input) (user : Name) (given : AreInputsOf parameters inputs) where
-  pub truth_on_row : (place : ℕ) (kinds : List Kind) (c : BoundCond) → columns (Base place) ≡ Ok kinds → IsRowOf kinds row → IsCond columns parameters (of_base_at place) [] c → is_sure c ≡ true → HasTruthOnRow row inputs user c
+  pub truth_on_row : (place : ℕ) (kinds : List Kind) (c : BoundCond) → columns (Base place) ≡ Ok kinds → IsRowOf kinds row → IsCond columns parameters (of_base_at place) [] c → is_quiet_cond c ≡ true → HasTruthOnRow row inputs user c
   truth_on_row place kinds c there is_row h sure =
       let line : Has (λ ks. IsRowOf ks row) (columns (Base place)) = subst (Has (λ ks. IsRowOf ks row)) (sym there) is_row in
       subst (λ (t : PlacedCond). HasValue (truth (by_place no_tables) t (on_row row inputs user))) (sym (h.is_tree []))
@@ -49,18 +49,18 @@ module _ (columns : TableKinds) (parameters : List Kind) (row : Row) (inputs : L
       (env_by_place no_tables columns parameters (of_base_at place) (alone [] (row ∷ []) ∷ []) inputs user (record { line = (line, tt); group = tt }, tt) given)
       (subst (λ (t : PlacedCond). is_quiet t ≡ true) (h.is_tree []) sure))
 
-  all_on_row : (place : ℕ) (kinds : List Kind) (cs : List BoundCond) → columns (Base place) ≡ Ok kinds → IsRowOf kinds row → AllByRecursion (IsCond columns parameters (of_base_at place) []) cs → are_sure cs ≡ true
+  all_on_row : (place : ℕ) (kinds : List Kind) (cs : List BoundCond) → columns (Base place) ≡ Ok kinds → IsRowOf kinds row → AllByRecursion (IsCond columns parameters (of_base_at place) []) cs → are_quiet_conds cs ≡ true
       → AllByRecursion (HasTruthOnRow row inputs user) cs
   all_on_row place kinds [] there is_row h sure = tt
   all_on_row place kinds (c ∷ cs) there is_row h sure =
-      (truth_on_row place kinds c there is_row h.0 (both_left (is_sure c) (are_sure cs) sure), all_on_row place kinds cs there is_row h.1 (both_right (is_sure c) (are_sure cs) sure))
+      (truth_on_row place kinds c there is_row h.0 (both_left (is_quiet_cond c) (are_quiet_conds cs) sure), all_on_row place kinds cs there is_row h.1 (both_right (is_quiet_cond c) (are_quiet_conds cs) sure))
 
   -- the conditions of views read no parameter
   wider : (b : BaseTable) (cs : List BoundCond) → AllByRecursion (IsCondOn columns b) cs → AllByRecursion (IsCond columns parameters (of_base b) []) cs
   wider b [] h = tt
   wider b (c ∷ cs) h = (is_cond_wider columns columns [] parameters (λ t kinds e. e) (λ n k e. cc) (of_base b) [] c h.0, wider b cs h.1)
 
-  own_on_row : (place : ℕ) (kinds : List Kind) (own : Option BoundCond) → columns (Base place) ≡ Ok kinds → IsRowOf kinds row → IfSome own (IsCond columns parameters (of_base_at place) []) → option_all is_sure own ≡ true
+  own_on_row : (place : ℕ) (kinds : List Kind) (own : Option BoundCond) → columns (Base place) ≡ Ok kinds → IsRowOf kinds row → IfSome own (IsCond columns parameters (of_base_at place) []) → option_all is_quiet_cond own ≡ true
       → IfSome own (HasTruthOnRow row inputs user)
   own_on_row place kinds None there is_row h sure = tt
   own_on_row place kinds (Some c) there is_row h sure = truth_on_row place kinds c there is_row h sure
@@ -69,7 +69,7 @@ module _ (columns : TableKinds) (parameters : List Kind) (row : Row) (inputs : L
   pub target_on_row : (t : Target) → t.is_quiet ≡ true → IsTarget columns parameters t → IsRowOf (base_kinds t.leaf.table) row
       → AllByRecursion (HasTruthOnRow row inputs user) t.leaf.conditions × IfSome t.condition (HasTruthOnRow row inputs user)
   target_on_row t quiet h is_row =
-      let sure : (are_sure t.leaf.conditions && option_all is_sure t.condition) ≡ true = sym t.quiet ∙ quiet in (
-        all_on_row t.leaf.table.place (base_kinds t.leaf.table) t.leaf.conditions h.leaf.kinds_are is_row (wider t.leaf.table t.leaf.conditions h.leaf.conditions) (both_left (are_sure t.leaf.conditions) (option_all is_sure t.condition) sure),
-        own_on_row t.leaf.table.place (base_kinds t.leaf.table) t.condition h.leaf.kinds_are is_row h.condition (both_right (are_sure t.leaf.conditions) (option_all is_sure t.condition) sure),
+      let sure : (are_quiet_conds t.leaf.conditions && option_all is_quiet_cond t.condition) ≡ true = sym t.quiet ∙ quiet in (
+        all_on_row t.leaf.table.place (base_kinds t.leaf.table) t.leaf.conditions h.leaf.kinds_are is_row (wider t.leaf.table t.leaf.conditions h.leaf.conditions) (both_left (are_quiet_conds t.leaf.conditions) (option_all is_quiet_cond t.condition) sure),
+        own_on_row t.leaf.table.place (base_kinds t.leaf.table) t.condition h.leaf.kinds_are is_row h.condition (both_right (are_quiet_conds t.leaf.conditions) (option_all is_quiet_cond t.condition) sure),
       )

@@ -9,7 +9,7 @@ use Rattle.sq_meaning.specs.Kind.{Kinds}
 use Rattle.sq_meaning.specs.Placed.{Placed, PlacedParameter, by_place}
 use Rattle.sq_meaning.specs.Query.{truth}
 use Rattle.sq_meaning.specs.Quiet.{has_no_escape, is_quiet, are_quiet, is_quiet_expr}
-use Rattle.sq_meaning.specs.Sure.{IsNoFault, is_sure, are_sure, is_sure_expr}
+use Rattle.sq_meaning.specs.Sure.{IsSureOutcome, is_sure, are_sure, is_sure_expr}
 use Rattle.sq_meaning.specs.Target.{has_subquery, have_subquery}
 use Rattle.sq_meaning.specs.WellFormed.{Answers, HasValue, Level, Agrees, WellFormedCond, IsEnvOf}
 use Rattle.sq_meaning.proofs.QueryKinds.{truth_of_kinds}
@@ -62,12 +62,12 @@ module _ {N : Naming} (may_fail : N.Table → Bool) where
 -- ---- a well-formed condition that is quiet has a truth
 
 -- what ends with a value or with 42000, and not with 42000, has a value
-pub valued_so : {A : Type 0} (o : Outcome A) → IsNoFault o → Answers (λ x. ⊤) o → HasValue o
+pub valued_so : {A : Type 0} (o : Outcome A) → IsSureOutcome o → Answers (λ x. ⊤) o → HasValue o
 valued_so o (inl h) answers = h
 valued_so o (inr e) answers = absurd (subst (Answers (λ x. ⊤)) e answers)
 
 module _ {T : Type 0} (rows_of : T → Outcome (List Row)) where
-  no_reading : (t : T) → true ≡ false → IsNoFault (rows_of t)
+  no_reading : (t : T) → true ≡ false → IsSureOutcome (rows_of t)
   no_reading t e = absurd cc
 
   pub has_truth : (k : Kinds (Placed T)) (IsDeclared : PlacedParameter → Type 0) → Agrees (by_place rows_of) k → (c : Cond (Placed T)) (levels : List (Level (Placed T))) (env : Env (Unit {0}))

@@ -65,11 +65,16 @@ clause functions (Some c) = present (c functions)
 
 abbrev pub predicate_layer : Predicate-F C C C PlacedSelect C Groups → C
 predicate_layer (layer.Compare op a b) functions = compare op (expr_of functions a) (expr_of functions b)
-predicate_layer (layer.CompareQuery op quantifier a q) functions = compared_with quantifier op (expr_of functions a) q
-predicate_layer (layer.Between written a low high) functions = not_if written (between (expr_of functions a) (expr_of functions low) (expr_of functions high))
+predicate_layer (layer.CompareQuery op quantifier a q) functions =
+    compared_with quantifier op (expr_of functions a) q
+predicate_layer (layer.Between written a low high) functions =
+    not_if written (between (expr_of functions a) (expr_of functions low) (expr_of functions high))
 predicate_layer (layer.InQuery written a q) functions = not_if written (in_subquery (expr_of functions a) q)
-predicate_layer (layer.InList written a es) functions = not_if written (in_list (expr_of functions a) (map (expr_of functions) es))
-predicate_layer (layer.Like written text pattern escape) functions = not_if written (like (expr_of functions text) (expr_of functions pattern) (option_map (expr_of functions) escape))
+predicate_layer (layer.InList written a es) functions =
+    not_if written (in_list (expr_of functions a) (map (expr_of functions) es))
+predicate_layer (layer.Like written text pattern escape) functions =
+    not_if written
+    (like (expr_of functions text) (expr_of functions pattern) (option_map (expr_of functions) escape))
 predicate_layer (layer.Null written a) functions = not_if written (is_null (expr_of functions a))
 predicate_layer (layer.Exists q) functions = exists q
 predicate_layer (layer.Bracketed c) functions = c functions
@@ -85,38 +90,58 @@ cond_layer c functions = disjunction (conds (map (λ term. term functions) c.ter
 
 -- groups by their parts
 abbrev pub groups_by : List Place → List PlacedExpr → PlacedClause → Groups
-groups_by columns functions having = record { functions = functions; columns = map place_meant columns; having = having }
+groups_by columns functions having = record {
+  functions = functions;
+  columns = map place_meant columns;
+  having = having;
+}
 
 -- HAVING is of the groups: it sees their set functions
 abbrev pub grouping_layer : Grouping-F C C C PlacedSelect C Groups → Groups
-grouping_layer g = groups_by g.columns (map call_of g.set_functions) (clause (map call_of g.set_functions) g.having)
+grouping_layer g =
+    groups_by g.columns (map call_of g.set_functions) (clause (map call_of g.set_functions) g.having)
 
 -- a query specification by its parts; WHERE is of lines, which have no set function
 abbrev pub select_by : Bool → List BoundExpr → List TablePlace → PlacedClause → Groups → PlacedSelect
-select_by distinct list from filter groups = select distinct (expressions (map (expr_of groups.functions) list)) from filter groups.columns groups.having
+select_by distinct list from filter groups =
+    select distinct (expressions (map (expr_of groups.functions) list)) from filter groups.columns
+    groups.having
 
 abbrev pub specification_layer : BoundSpecification-F C C C PlacedSelect C Groups → PlacedSelect
-specification_layer s = select_by s.distinct s.list s.from.tables (clause [] s.condition) (groups_if s.grouping)
+specification_layer s =
+    select_by s.distinct s.list s.from.tables (clause [] s.condition) (groups_if s.grouping)
 
 -- the search condition that a bound one is where the set functions of the group are these, and its parts
 unfoldable pub cond_of : List PlacedExpr → BoundCond → PlacedCond
-cond_of functions c = fold-BoundCond C C C PlacedSelect C Groups predicate_layer cond_layer conj_layer specification_layer test_layer grouping_layer c functions
+cond_of functions c =
+    fold-BoundCond C C C PlacedSelect C Groups predicate_layer cond_layer conj_layer specification_layer
+    test_layer grouping_layer c functions
 
 unfoldable pub conj_of : List PlacedExpr → BoundConj → PlacedCond
-conj_of functions c = fold-BoundConj C C C PlacedSelect C Groups predicate_layer cond_layer conj_layer specification_layer test_layer grouping_layer c functions
+conj_of functions c =
+    fold-BoundConj C C C PlacedSelect C Groups predicate_layer cond_layer conj_layer specification_layer
+    test_layer grouping_layer c functions
 
 unfoldable pub test_of : List PlacedExpr → BoundTest → PlacedCond
-test_of functions t = fold-BoundTest C C C PlacedSelect C Groups predicate_layer cond_layer conj_layer specification_layer test_layer grouping_layer t functions
+test_of functions t =
+    fold-BoundTest C C C PlacedSelect C Groups predicate_layer cond_layer conj_layer specification_layer
+    test_layer grouping_layer t functions
 
 unfoldable pub predicate_of : List PlacedExpr → Predicate → PlacedCond
-predicate_of functions p = fold-Predicate C C C PlacedSelect C Groups predicate_layer cond_layer conj_layer specification_layer test_layer grouping_layer p functions
+predicate_of functions p =
+    fold-Predicate C C C PlacedSelect C Groups predicate_layer cond_layer conj_layer specification_layer
+    test_layer grouping_layer p functions
 
 -- the query specification that a bound one is, and its groups
 unfoldable pub select_of : BoundSpecification → PlacedSelect
-select_of = fold-BoundSpecification C C C PlacedSelect C Groups predicate_layer cond_layer conj_layer specification_layer test_layer grouping_layer
+select_of =
+    fold-BoundSpecification C C C PlacedSelect C Groups predicate_layer cond_layer conj_layer
+    specification_layer test_layer grouping_layer
 
 unfoldable pub groups_of : Grouping → Groups
-groups_of = fold-Grouping C C C PlacedSelect C Groups predicate_layer cond_layer conj_layer specification_layer test_layer grouping_layer
+groups_of =
+    fold-Grouping C C C PlacedSelect C Groups predicate_layer cond_layer conj_layer specification_layer
+    test_layer grouping_layer
 
 -- a clause that may be written
 abbrev pub clause_of : List PlacedExpr → Option BoundCond → PlacedClause

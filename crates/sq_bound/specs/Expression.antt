@@ -53,4 +53,5 @@ unfoldable pub expr_of : List PlacedExpr → BoundExpr → PlacedExpr
 expr_of functions = fold-BoundExpr PlacedExpr (PlacedExpr → PlacedExpr) (expr_layer functions) operation_layer
 
 unfoldable pub operation_of : List PlacedExpr → Operation → PlacedExpr → PlacedExpr
-operation_of functions = fold-Operation PlacedExpr (PlacedExpr → PlacedExpr) (expr_layer functions) operation_layer
+operation_of functions =
+    fold-Operation PlacedExpr (PlacedExpr → PlacedExpr) (expr_layer functions) operation_layer

@@ -28,11 +28,11 @@ use Rattle.sq_bound.specs.declared.statement.Output.{Output}
 
 -- ---- base tables
 
--- the base table stands at its place
+-- a base table stands at its place
 abbrev pub IsBase : List BaseTable → BaseTable → Type 0
 IsBase bases b = slice_get bases b.place ≡ Some b
 
--- so does the one under a base table or an updatable view
+-- the base table under a base table or an updatable view stands at its place
 abbrev pub IsOver : List BaseTable → TableDesc → Type 0
 IsOver bases t = IfSome t.leaf (λ l. IsBase bases l.table)
 
@@ -82,12 +82,15 @@ has_its_values t row = not (list_any lacks_value (zip t.columns row))
 
 -- no row of any table is null where it may not be
 abbrev pub not_nulls_hold : List BaseTable → Content → Bool
-not_nulls_hold bases content = list_all (λ p. list_all (λ n. has_its_values p.1 n.row) (table_at content p.0).rows) (enumerate_from 0 bases)
+not_nulls_hold bases content =
+    list_all (λ p. list_all (λ n. has_its_values p.1 n.row) (table_at content p.0).rows)
+    (enumerate_from 0 bases)
 
 -- ---- cursors
 
 abbrev pub FitsQuery : List BaseTable → UpdatableQuery → Type 0
-FitsQuery bases q = IsBase bases q.target.leaf.table × (are_positions (length q.target.leaf.table.columns) q.columns ≡ true)
+FitsQuery bases q =
+    IsBase bases q.target.leaf.table × (are_positions (length q.target.leaf.table.columns) q.columns ≡ true)
 
 abbrev pub FitsBody : List BaseTable → CursorBody → Type 0
 FitsBody bases (body.Rows q order) = ⊤
@@ -100,7 +103,8 @@ FitsCursor bases c = FitsBody bases c.body
 
 -- targets are parameters of the procedure
 abbrev pub are_parameters : ℕ → List Output → Bool
-are_parameters count outputs = list_all (λ o. nat_lt o.parameter count && option_all (λ p. nat_lt p count) o.indicator) outputs
+are_parameters count outputs =
+    list_all (λ o. nat_lt o.parameter count && option_all (λ p. nat_lt p count) o.indicator) outputs
 
 abbrev pub under : ChangeTarget → Leaf
 under (target.Searched t) = t.leaf
@@ -124,10 +128,12 @@ IsColumnOf b c = slice_get (map (λ column. column.domain) b.columns) c.position
 -- a statement fits base tables, so many cursors, and so many parameters of its procedure
 abbrev pub FitsStatement : List BaseTable → ℕ → ℕ → BoundStatement → Type 0
 FitsStatement bases cursors parameters (statement.Open n) = n < cursors
-FitsStatement bases cursors parameters (statement.Fetch f) = (f.cursor < cursors) × (are_parameters parameters f.outputs ≡ true)
+FitsStatement bases cursors parameters (statement.Fetch f) =
+    (f.cursor < cursors) × (are_parameters parameters f.outputs ≡ true)
 FitsStatement bases cursors parameters (statement.Close n) = n < cursors
 FitsStatement bases cursors parameters (statement.Select s) = are_parameters parameters s.outputs ≡ true
-FitsStatement bases cursors parameters (statement.Insert i) = IsBase bases i.leaf.table × AllByRecursion (IsColumnOf i.leaf.table) i.columns
+FitsStatement bases cursors parameters (statement.Insert i) =
+    IsBase bases i.leaf.table × AllByRecursion (IsColumnOf i.leaf.table) i.columns
 FitsStatement bases cursors parameters (statement.Update u) =
     FitsTarget bases cursors u.target
     × (are_columns (length (under u.target).table.columns) u.assignments ≡ true)

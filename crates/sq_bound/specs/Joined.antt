@@ -30,13 +30,16 @@ abbrev pub specifications_in_union : BoundUnion-F S S S → S
 specifications_in_union u = u.term
 
 unfoldable pub specifications_of : BoundQuery → S
-specifications_of = fold-BoundQuery S S S specifications_in_term specifications_in_query specifications_in_union
+specifications_of =
+    fold-BoundQuery S S S specifications_in_term specifications_in_query specifications_in_union
 
 unfoldable pub term_specifications : BoundTerm → S
-term_specifications = fold-BoundTerm S S S specifications_in_term specifications_in_query specifications_in_union
+term_specifications =
+    fold-BoundTerm S S S specifications_in_term specifications_in_query specifications_in_union
 
 unfoldable pub union_specifications : BoundUnion → S
-union_specifications = fold-BoundUnion S S S specifications_in_term specifications_in_query specifications_in_union
+union_specifications =
+    fold-BoundUnion S S S specifications_in_term specifications_in_query specifications_in_union
 
 -- ---- the kinds of its columns
 
@@ -45,7 +48,8 @@ Kinds = Outcome (List Kind)
 
 -- the kinds, where they are those that were noted with the columns
 abbrev pub kept_kinds : List ResultColumn → List Kind → Kinds
-kept_kinds columns kinds = if pointwise same_kind kinds (map (λ c. c.kind) columns) then Ok kinds else not_well_formed
+kept_kinds columns kinds =
+    if pointwise same_kind kinds (map (λ c. c.kind) columns) then Ok kinds else not_well_formed
 
 abbrev pub are_bounded : List Kind → Bool
 are_bounded kinds = list_all is_bounded kinds

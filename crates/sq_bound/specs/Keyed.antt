@@ -41,11 +41,11 @@ abbrev pub column_named : PlacedCond → Option ℕ
 column_named (compare Equal (column p) x) = if nat_eq p.depth 0 && is_constant x then Some p.column else None
 column_named _ = None
 
--- it names this one
+-- the test names this column
 abbrev pub names_column : ℕ → PlacedCond → Bool
 names_column n c = list_any (nat_eq n) (option_to_list (column_named c))
 
--- it names one of these
+-- the test names one of these columns
 abbrev pub names_one_of : List ℕ → PlacedCond → Bool
 names_one_of key c = list_any (λ n. names_column n c) key
 
@@ -79,7 +79,9 @@ has_no_fewer fits key other = not (fits other) || nat_le (length key) (length ot
 -- for the longer one too.
 abbrev pub IsShortest : (List ℕ → Bool) → List (List ℕ) → Option ℕ → Type 0
 IsShortest fits keys None = list_any fits keys ≡ false
-IsShortest fits keys (Some k) = (key : List ℕ) × (slice_get keys k ≡ Some key) × (fits key ≡ true) × (list_all (has_no_fewer fits key) keys ≡ true)
+IsShortest fits keys (Some k) =
+    (key : List ℕ) × (slice_get keys k ≡ Some key) × (fits key ≡ true)
+    × (list_all (has_no_fewer fits key) keys ≡ true)
 
 -- the number of the shortest of these keys by which the condition names a row
 abbrev pub IsShortestKey : List (List ℕ) → BoundCond → Option ℕ → Type 0

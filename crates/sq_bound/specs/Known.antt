@@ -1,5 +1,5 @@
 -- What a name of a table or view means: where its rows are, its columns, and what is under it (ISO/IEC 9075:1992, 5.4, 6.3 and 7.9).
-use Rattle.std.specs.Prelude.{ℕ, List, Option}
+use Rattle.std.specs.Prelude.{◌≡◌, ℕ, List, Option, Some}
 use Rattle.std.specs.Option.{option_map}
 use Rattle.sq_lex.specs.declared.name.Name.{Name}
 use Rattle.sq_bound.specs.WellFormed.{place_of}
@@ -31,3 +31,7 @@ known_by t = record { place = place_of t.body; columns = t.columns; under = opti
 -- the table or view of each owner and name, where there is one
 abbrev pub KnownTables : Type 0
 KnownTables = (user name : Name) → Option KnownTable
+
+-- each name that is known to the first still means the same to the second
+abbrev pub StillKnown : KnownTables → KnownTables → Type 0
+StillKnown less more = (user name : Name) (t : KnownTable) → less user name ≡ Some t → more user name ≡ Some t

@@ -1,6 +1,7 @@
 pub mod Columns
 pub mod Condition
 pub mod Default
+pub mod Domain
 pub mod Expression
 pub mod Fits
 pub mod Groups

@@ -1,14 +1,8 @@
 -- Positions and kinds of columns.
 use Rattle.std.specs.Prelude.{ℕ, zero, suc, nat_eq, nat_le, nat_lt, Bool, true, false, List, [], ◌∷◌, Option, None, Some}
 use Rattle.std.specs.List.{list_all}
-use Rattle.std.specs.Cmp.Lexicographic.{pointwise}
-use Rattle.sq_lex.specs.declared.name.Name.{Name}
 use Rattle.sq_value.specs.declared.domain.Kind.{Kind}
 use Rattle.sq_value.specs.declared.domain.Kind.TheVariants.{Num, Chars, Vary}
-
--- two names are the same
-abbrev pub is_name : Name → Name → Bool
-is_name a b = pointwise nat_eq a b
 
 -- positions of this many columns
 abbrev pub are_positions : ℕ → List ℕ → Bool

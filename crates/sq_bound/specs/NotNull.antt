@@ -8,6 +8,6 @@ is_not_null [] n = false
 is_not_null (written ∷ columns) zero = written
 is_not_null (written ∷ columns) (suc n) = is_not_null columns n
 
--- so it is for each of these columns
+-- NOT NULL is written for each of these columns
 abbrev pub are_not_null : List Bool → List ℕ → Bool
 are_not_null columns key = list_all (is_not_null columns) key

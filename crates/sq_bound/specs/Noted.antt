@@ -29,7 +29,7 @@ AreSure functions = AllByRecursion (λ f. is_sure_expr f ≡ true) functions
 abbrev pub IsSureExpr : BoundExpr → Type 0
 IsSureExpr e = (functions : List PlacedExpr) → AreSure functions → is_sure_expr (expr_of functions e) ≡ true
 
--- nor does a condition
+-- a condition never ends with a status where none of the query's set functions does
 abbrev pub IsSureTree : (List PlacedExpr → PlacedCond) → Type 0
 IsSureTree tree = (functions : List PlacedExpr) → AreSure functions → is_sure may_fail (tree functions) ≡ true
 
@@ -37,7 +37,7 @@ IsSureTree tree = (functions : List PlacedExpr) → AreSure functions → is_sur
 abbrev pub IsReadExpr : (items : ℕ) → BoundExpr → Type 0
 IsReadExpr items e = ExprReadsItems items (expr_of [] e)
 
--- nor does a condition, its subqueries included
+-- a condition on a row, its subqueries included, reads no more than so many items of FROM
 abbrev pub IsReadTree : (items : ℕ) → PlacedCond → Type 0
 IsReadTree items tree = ReadsItems items tree
 
@@ -50,7 +50,7 @@ pub record IsNotedTest (t : BoundTest) : Type 0 where
 abbrev pub AreNotedTests : BoundConj → Type 0
 AreNotedTests c = AllByRecursion IsNotedTest (out-BoundConj c).tests
 
--- so is each test of each term
+-- each test of each term of a condition is noted as it is
 abbrev pub HasNotes : BoundCond → Type 0
 HasNotes c = AllByRecursion AreNotedTests (out-BoundCond c).terms
 
@@ -61,10 +61,10 @@ pub record IsNoted (q : BoundSpecification) : Type 0 where
   pub sure : (out-BoundSpecification q).can_fail ≡ false → is_sure_select may_fail (select_of q) ≡ true
   pub groups : HasGroups q
 
--- so are it and all that are nested in it
+-- a query specification and all that are nested in it are noted as they are
 abbrev pub SelectIsNoted : BoundSpecification → Type 0
 SelectIsNoted q = SelectWith IsNoted q
 
--- all that are nested in a condition
+-- the query specifications that are nested in a condition are noted as they are
 abbrev pub CondIsNoted : BoundCond → Type 0
 CondIsNoted c = CondWith IsNoted c

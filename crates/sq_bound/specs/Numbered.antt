@@ -15,7 +15,8 @@ use Rattle.sq_bound.specs.declared.condition.Predicate.{Predicate, every-Predica
 
 module _ (P : BoundSpecification → Type 0) where
   abbrev pub PredicateWith : Predicate → Type 0
-  PredicateWith = every-Predicate (λ y. ⊤) (λ y. ⊤) (λ y. ⊤) (λ y. P (roll-BoundSpecification y)) (λ y. ⊤) (λ y. ⊤)
+  PredicateWith =
+      every-Predicate (λ y. ⊤) (λ y. ⊤) (λ y. ⊤) (λ y. P (roll-BoundSpecification y)) (λ y. ⊤) (λ y. ⊤)
 
   abbrev pub CondWith : BoundCond → Type 0
   CondWith = every-BoundCond (λ y. ⊤) (λ y. ⊤) (λ y. ⊤) (λ y. P (roll-BoundSpecification y)) (λ y. ⊤) (λ y. ⊤)
@@ -25,13 +26,16 @@ module _ (P : BoundSpecification → Type 0) where
 
   -- the query specification itself is among them
   abbrev pub SelectWith : BoundSpecification → Type 0
-  SelectWith = every-BoundSpecification (λ y. ⊤) (λ y. ⊤) (λ y. ⊤) (λ y. P (roll-BoundSpecification y)) (λ y. ⊤) (λ y. ⊤)
+  SelectWith =
+      every-BoundSpecification (λ y. ⊤) (λ y. ⊤) (λ y. ⊤) (λ y. P (roll-BoundSpecification y)) (λ y. ⊤)
+      (λ y. ⊤)
 
   abbrev pub TestWith : BoundTest → Type 0
   TestWith = every-BoundTest (λ y. ⊤) (λ y. ⊤) (λ y. ⊤) (λ y. P (roll-BoundSpecification y)) (λ y. ⊤) (λ y. ⊤)
 
   abbrev pub GroupingWith : Grouping → Type 0
-  GroupingWith = every-Grouping (λ y. ⊤) (λ y. ⊤) (λ y. ⊤) (λ y. P (roll-BoundSpecification y)) (λ y. ⊤) (λ y. ⊤)
+  GroupingWith =
+      every-Grouping (λ y. ⊤) (λ y. ⊤) (λ y. ⊤) (λ y. P (roll-BoundSpecification y)) (λ y. ⊤) (λ y. ⊤)
 
   -- a clause that may be written
   abbrev pub ClauseWith : Option BoundCond → Type 0
@@ -41,7 +45,8 @@ module _ (P : BoundSpecification → Type 0) where
   GroupsWith groups = IfSome groups GroupingWith
 
 -- in each tree of a list
-abbrev pub EachWith : {T : Type 0} → ((BoundSpecification → Type 0) → T → Type 0) → (BoundSpecification → Type 0) → List T → Type 0
+abbrev pub EachWith : {T : Type 0} → ((BoundSpecification → Type 0) → T → Type 0)
+    → (BoundSpecification → Type 0) → List T → Type 0
 EachWith With P trees = AllByRecursion (With P) trees
 
 -- ---- numbers
@@ -61,14 +66,17 @@ IsNamed named q = IfSome (number_of q) (λ n. named n ≡ Some q)
 abbrev pub IsBetween : (first next : ℕ) → BoundSpecification → Type 0
 IsBetween first next q = IfSome (number_of q) (λ n. (first ≤ n) × (n < next))
 
-pub record IsNumbered (first next : ℕ) (named : ℕ → Option BoundSpecification) (q : BoundSpecification) : Type 0 where
+pub record IsNumbered (first next : ℕ) (named : ℕ → Option BoundSpecification)
+    (q : BoundSpecification) : Type 0 where
   pub rightly : IsRightlyNumbered q
   pub between : IsBetween first next q
   pub is_named : IsNamed named q
 
 -- the query specifications in a tree have numbers from the first up to the next one, each at most once: a number names one
-abbrev pub AreNumbered : {T : Type 0} → ((BoundSpecification → Type 0) → T → Type 0) → (first next : ℕ) → T → Type 0
-AreNumbered With first next t = (first ≤ next) × ((named : ℕ → Option BoundSpecification) × With (IsNumbered first next named) t)
+abbrev pub AreNumbered : {T : Type 0} → ((BoundSpecification → Type 0) → T → Type 0) → (first next : ℕ) → T
+    → Type 0
+AreNumbered With first next t =
+    (first ≤ next) × ((named : ℕ → Option BoundSpecification) × With (IsNumbered first next named) t)
 
 -- each number in a tree names one query specification, which reads no column of a query around it
 abbrev pub HaveNumbers : {T : Type 0} → ((BoundSpecification → Type 0) → T → Type 0) → T → Type 0

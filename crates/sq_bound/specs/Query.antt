@@ -21,14 +21,18 @@ term_layer (layer.Bracketed q) = q
 abbrev pub query_layer : BoundQuery-F PlacedQuery PlacedQuery (PlacedQuery → PlacedQuery) → PlacedQuery
 query_layer q = fold (λ left u. u left) q.first q.rest
 
-abbrev pub union_layer : BoundUnion-F PlacedQuery PlacedQuery (PlacedQuery → PlacedQuery) → PlacedQuery → PlacedQuery
+abbrev pub union_layer : BoundUnion-F PlacedQuery PlacedQuery (PlacedQuery → PlacedQuery) → PlacedQuery
+    → PlacedQuery
 union_layer u left = union u.all left u.term
 
 unfoldable pub term_of : BoundTerm → PlacedQuery
-term_of = fold-BoundTerm PlacedQuery PlacedQuery (PlacedQuery → PlacedQuery) term_layer query_layer union_layer
+term_of =
+    fold-BoundTerm PlacedQuery PlacedQuery (PlacedQuery → PlacedQuery) term_layer query_layer union_layer
 
 unfoldable pub query_of : BoundQuery → PlacedQuery
-query_of = fold-BoundQuery PlacedQuery PlacedQuery (PlacedQuery → PlacedQuery) term_layer query_layer union_layer
+query_of =
+    fold-BoundQuery PlacedQuery PlacedQuery (PlacedQuery → PlacedQuery) term_layer query_layer union_layer
 
 unfoldable pub union_of : BoundUnion → PlacedQuery → PlacedQuery
-union_of = fold-BoundUnion PlacedQuery PlacedQuery (PlacedQuery → PlacedQuery) term_layer query_layer union_layer
+union_of =
+    fold-BoundUnion PlacedQuery PlacedQuery (PlacedQuery → PlacedQuery) term_layer query_layer union_layer

@@ -6,8 +6,8 @@ use Rattle.sq_bound.specs.Condition.{cond_of}
 use Rattle.sq_bound.specs.declared.condition.BoundCond.{BoundCond}
 
 -- a condition on rows: no set function is around it
-abbrev pub is_sure : BoundCond → Bool
-is_sure c = is_quiet (cond_of [] c)
+abbrev pub is_quiet_cond : BoundCond → Bool
+is_quiet_cond c = is_quiet (cond_of [] c)
 
-abbrev pub are_sure : List BoundCond → Bool
-are_sure cs = list_all is_sure cs
+abbrev pub are_quiet_conds : List BoundCond → Bool
+are_quiet_conds cs = list_all is_quiet_cond cs

@@ -111,14 +111,17 @@ of_base b = of_base_at b.place
 
 -- A bound expression of a kind: its tree, where the query has these set functions and maybe more behind them, has the
 -- kind, and may stand at these levels.
-pub record IsExpr (columns : TableKinds) (parameters : List Kind) (levels : Levels) (calls : List SetFunctionCall) (k : Kind) (e : BoundExpr) : Type 0 where
+pub record IsExpr (columns : TableKinds) (parameters : List Kind) (levels : Levels)
+    (calls : List SetFunctionCall) (k : Kind) (e : BoundExpr) : Type 0 where
   pub tree : PlacedExpr
   pub is_tree : (later : List SetFunctionCall) → expr_of (map call_of (calls ++ later)) e ≡ tree
   pub kind_is : kind (kinds_by_place columns parameters) (froms levels) tree ≡ Ok k
-  pub stands : (rows_of : TablePlace → Outcome (List Row)) → MayStand (by_place rows_of) (kinds_by_place columns parameters) (IsDeclaredAt parameters) levels tree
+  pub stands : (rows_of : TablePlace → Outcome (List Row))
+      → MayStand (by_place rows_of) (kinds_by_place columns parameters) (IsDeclaredAt parameters) levels tree
 
 -- a bound search condition, likewise
-pub record IsCond (columns : TableKinds) (parameters : List Kind) (levels : Levels) (calls : List SetFunctionCall) (c : BoundCond) : Type 0 where
+pub record IsCond (columns : TableKinds) (parameters : List Kind) (levels : Levels)
+    (calls : List SetFunctionCall) (c : BoundCond) : Type 0 where
   pub tree : PlacedCond
   pub is_tree : (later : List SetFunctionCall) → cond_of (map call_of (calls ++ later)) c ≡ tree
   pub stands : (rows_of : TablePlace → Outcome (List Row)) → WellFormedCond (by_place rows_of) (kinds_by_place columns parameters) (IsDeclaredAt parameters) levels tree
@@ -127,9 +130,11 @@ pub record IsCond (columns : TableKinds) (parameters : List Kind) (levels : Leve
 
 -- a bound query specification, whose columns are known beforehand: with all that is noted of it, and each number names one
 -- closed subquery
-pub record IsSelect (columns : TableKinds) (parameters : List Kind) (levels : Levels) (q : BoundSpecification) : Type 0 where
+pub record IsSelect (columns : TableKinds) (parameters : List Kind) (levels : Levels)
+    (q : BoundSpecification) : Type 0 where
   pub stands : (rows_of : TablePlace → Outcome (List Row)) → WellFormedSelect (by_place rows_of) (kinds_by_place columns parameters) (IsDeclaredAt parameters) levels (select_of q)
-  pub kinds_are : select_kinds (kinds_by_place columns parameters) (froms levels) (select_of q) ≡ Ok (kinds_of_select q)
+  pub kinds_are : select_kinds (kinds_by_place columns parameters) (froms levels) (select_of q)
+      ≡ Ok (kinds_of_select q)
   pub notes : SelectIsNoted q
   pub numbers : HaveNumbers SelectWith q
 
@@ -157,7 +162,8 @@ pub record IsLeaf (columns : TableKinds) (l : Leaf) : Type 0 where
 -- a view has the columns of its query, which reads earlier views alone (11.19)
 abbrev pub IsBody : TableKinds → List Kind → TableBody → Type 0
 IsBody columns kinds (body.Base b) = ⊤
-IsBody columns kinds (body.View v) = IsSelect (before_view v.place columns) [] [] v.query × (kinds ≡ kinds_of_select v.query)
+IsBody columns kinds (body.View v) =
+    IsSelect (before_view v.place columns) [] [] v.query × (kinds ≡ kinds_of_select v.query)
 
 -- a view has the query at its place
 abbrev pub IsViewAmong : List BoundSpecification → TableBody → Type 0
@@ -166,7 +172,9 @@ IsViewAmong queries (body.View v) = slice_get queries v.place ≡ Some v.query
 
 -- the query at a view's place is well formed over the tables that were there before, and its columns are of these kinds
 abbrev pub IsViewQuery : TableKinds → List BoundSpecification → ℕ → List Kind → Type 0
-IsViewQuery columns queries place kinds = ∥ Has (λ q. IsSelect (before_view place columns) [] [] q × (kinds ≡ kinds_of_select q)) (well_formed (slice_get queries place)) ∥₁
+IsViewQuery columns queries place kinds =
+    ∥ Has (λ q. IsSelect (before_view place columns) [] [] q × (kinds ≡ kinds_of_select q))
+    (well_formed (slice_get queries place)) ∥₁
 
 -- a base table or a view: its columns, what is under it, and the query of a view
 pub record IsTable (columns : TableKinds) (t : TableDesc) : Type 0 where
@@ -184,10 +192,13 @@ pub record IsTarget (columns : TableKinds) (parameters : List Kind) (t : Target)
 
 -- an updatable query, whose columns have these kinds
 abbrev pub IsUpdatable : TableKinds → List Kind → List Kind → UpdatableQuery → Type 0
-IsUpdatable columns parameters kinds u = IsTarget columns parameters u.target × AllZip (λ p k. slice_get (base_kinds u.target.leaf.table) p ≡ Some k) u.columns kinds
+IsUpdatable columns parameters kinds u =
+    IsTarget columns parameters u.target
+    × AllZip (λ p k. slice_get (base_kinds u.target.leaf.table) p ≡ Some k) u.columns kinds
 
 abbrev pub IsCursorBody : TableKinds → List Kind → List Kind → CursorBody → Type 0
-IsCursorBody columns parameters kinds (cursor.Rows q order) = IsQuery columns parameters q × (kinds ≡ kinds_of_query q)
+IsCursorBody columns parameters kinds (cursor.Rows q order) =
+    IsQuery columns parameters q × (kinds ≡ kinds_of_query q)
 IsCursorBody columns parameters kinds (cursor.Updatable u) = IsUpdatable columns parameters kinds u
 
 -- a cursor that a procedure with these parameters opens
@@ -199,9 +210,11 @@ IsCursor columns parameters c = IsCursorBody columns parameters (kinds_of_result
 -- a target gets values of a kind: its parameter is of numbers where they are, and its indicator parameter is of whole
 -- numbers (9.1)
 abbrev pub TakesKind : List Kind → Output → Kind → Type 0
-TakesKind parameters o k = Has (λ p. IsTrue (is_comparable p k)) (well_formed (slice_get parameters o.parameter)) × IfSome o.indicator (λ i. slice_get parameters i ≡ Some (Num 0))
+TakesKind parameters o k =
+    Has (λ p. IsTrue (is_comparable p k)) (well_formed (slice_get parameters o.parameter))
+    × IfSome o.indicator (λ i. slice_get parameters i ≡ Some (Num 0))
 
--- as many targets as there are columns, one for each
+-- there are as many targets as columns, and each takes the kind of its column
 abbrev pub TakeKinds : List Kind → List Output → List Kind → Type 0
 TakeKinds parameters = AllZip (TakesKind parameters)
 
@@ -211,11 +224,14 @@ MayStore c k = IsTrue (is_comparable k (kind_of c.domain))
 
 -- what a column gets: NULL, or the value of an expression that may be stored there (13.8, 13.9)
 abbrev pub IsNewValue : TableKinds → List Kind → Levels → ObjectColumn → BoundExpr → Type 0
-IsNewValue columns parameters levels c e = (e ≡ Literal Null) ⊎ ((k : Kind) × IsExpr columns parameters levels [] k e × MayStore c k)
+IsNewValue columns parameters levels c e =
+    (e ≡ Literal Null) ⊎ ((k : Kind) × IsExpr columns parameters levels [] k e × MayStore c k)
 
 abbrev pub IsSource : TableKinds → List Kind → List ObjectColumn → InsertedRows → Type 0
-IsSource columns parameters objects (inserted.Values es) = AllZip (IsNewValue columns parameters []) objects es
-IsSource columns parameters objects (inserted.Query q) = IsSelect columns parameters [] q × AllZip MayStore objects (kinds_of_select q)
+IsSource columns parameters objects (inserted.Values es) =
+    AllZip (IsNewValue columns parameters []) objects es
+IsSource columns parameters objects (inserted.Query q) =
+    IsSelect columns parameters [] q × AllZip MayStore objects (kinds_of_select q)
 
 -- the conditions on the rows that are changed
 abbrev pub IsChangeTarget : TableKinds → List Kind → ChangeTarget → Type 0
@@ -223,7 +239,8 @@ IsChangeTarget columns parameters (target.Searched t) = IsTarget columns paramet
 IsChangeTarget columns parameters (target.Positioned p) = IsLeaf columns p.leaf
 
 abbrev pub IsAssignment : TableKinds → List Kind → BaseTable → BoundAssignment → Type 0
-IsAssignment columns parameters b a = IsColumnOf b a.column × IsNewValue columns parameters (of_base b) a.column a.value
+IsAssignment columns parameters b a =
+    IsColumnOf b a.column × IsNewValue columns parameters (of_base b) a.column a.value
 
 -- the number of an orientation is a whole one (13.3)
 abbrev pub IsDistance : List Kind → Distance → Type 0
@@ -238,11 +255,18 @@ IsOrientation parameters _ = ⊤
 -- a statement of a procedure with these parameters, where the cursors have columns of these kinds
 abbrev pub IsStatement : TableKinds → List (List Kind) → List Kind → BoundStatement → Type 0
 IsStatement columns cursors parameters (statement.Open n) = ⊤
-IsStatement columns cursors parameters (statement.Fetch f) = IsOrientation parameters f.orientation × Has (TakeKinds parameters f.outputs) (well_formed (slice_get cursors f.cursor))
+IsStatement columns cursors parameters (statement.Fetch f) =
+    IsOrientation parameters f.orientation
+    × Has (TakeKinds parameters f.outputs) (well_formed (slice_get cursors f.cursor))
 IsStatement columns cursors parameters (statement.Close n) = ⊤
-IsStatement columns cursors parameters (statement.Select s) = IsSelect columns parameters [] s.query × TakeKinds parameters s.outputs (kinds_of_select s.query)
-IsStatement columns cursors parameters (statement.Insert i) = IsLeaf columns i.leaf × AllByRecursion (IsColumnOf i.leaf.table) i.columns × IsSource columns parameters i.columns i.source
-IsStatement columns cursors parameters (statement.Update u) = IsChangeTarget columns parameters u.target × AllByRecursion (IsAssignment columns parameters (under u.target).table) u.assignments
+IsStatement columns cursors parameters (statement.Select s) =
+    IsSelect columns parameters [] s.query × TakeKinds parameters s.outputs (kinds_of_select s.query)
+IsStatement columns cursors parameters (statement.Insert i) =
+    IsLeaf columns i.leaf × AllByRecursion (IsColumnOf i.leaf.table) i.columns
+    × IsSource columns parameters i.columns i.source
+IsStatement columns cursors parameters (statement.Update u) =
+    IsChangeTarget columns parameters u.target
+    × AllByRecursion (IsAssignment columns parameters (under u.target).table) u.assignments
 IsStatement columns cursors parameters (statement.Delete t) = IsChangeTarget columns parameters t
 IsStatement columns cursors parameters statement.Commit = ⊤
 IsStatement columns cursors parameters statement.Rollback = ⊤

@@ -101,7 +101,7 @@ pub struct BoundFrom {
 pub struct Grouping {
     /// The grouping columns, none without GROUP BY.
     pub columns: Items<Place>,
-    /// Its set functions in the order of the text.
+    /// The set functions of the query, in the order of the text.
     pub set_functions: Items<SetFunctionCall>,
     pub having: Option<BoundCond>,
 }

@@ -118,7 +118,8 @@ fn column_named(test: &BoundTest) -> Option<usize>
 
 /// The two sides of a test that says that they are equal.
 pub fn equal_sides(test: &BoundTest) -> Option<(&BoundExpr, &BoundExpr)>
-    ensures { MatchOption result (column_named (test_of [] test.now) ≡ None) (λ sides. AreEqualled test.now sides.0.now sides.1.now) }
+    ensures { MatchOption result (column_named (test_of [] test.now) ≡ None)
+        (λ sides. AreEqualled test.now sides.0.now sides.1.now) }
 {
     let Predicate::Compare(comparison, left, right) = &test.predicate else {
         return None;

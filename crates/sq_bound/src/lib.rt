@@ -3,6 +3,8 @@
 #![tactic(auto)]
 
 mod condition;
+mod distinct;
+mod domain;
 mod expression;
 mod keyed;
 mod names;
@@ -16,6 +18,8 @@ pub use condition::{
     BoundCond, BoundConj, BoundFrom, BoundSpecification, BoundTest, Compared, Grouping, Predicate,
     ResultColumn, TablePlace,
 };
+pub use distinct::are_distinct;
+pub use domain::fits_kind;
 pub use expression::{Aggregate, BoundExpr, Input, Operation, Operator, Place, SetFunctionCall};
 pub use keyed::{equal_sides, own_column, shortest_key};
 pub use names::{
@@ -26,7 +30,7 @@ pub use parts::{pair_of, value_if};
 pub use query::{
     BoundCursor, BoundQuery, BoundTerm, BoundUnion, CursorBody, SortColumn, Target, UpdatableQuery,
 };
-pub use quiet::is_sure;
+pub use quiet::is_quiet_cond;
 pub use shared::Shared;
 pub use statement::{
     BoundAssignment, BoundFetch, BoundInsert, BoundSelect, BoundStatement, BoundUpdate,

@@ -7,7 +7,7 @@ ghost use Rattle.sq_bound.specs.Default.{DefaultIsIn, DefaultIsIn-prop};
 ghost use Rattle.sq_bound.specs.Names.{are_positions, is_bounded, is_kind_at, option_all};
 ghost use Rattle.sq_bound.specs.NotNull.{are_not_null};
 ghost use Rattle.sq_bound.specs.Parameter.{IsDomain-prop};
-ghost use Rattle.sq_bound.specs.Quiet.{are_sure};
+ghost use Rattle.sq_bound.specs.Quiet.{are_quiet_conds};
 
 use crate::condition::{BoundCond, BoundSpecification, TablePlace};
 use crate::query::BoundCursor;
@@ -58,7 +58,8 @@ pub trait Names {
         ensures view { IfSome result (λ t. IsViewAmong (view_queries self.now) t.now.body) }
         ensures well_formed { IfSome result (λ t. IsTable (column_kinds self.now) t.now) }
         ensures place { IfSome result (λ t. place_of t.now.body ≡ place) }
-        ensures there { BasesAreThere (base_tables self.now) (column_kinds self.now) → HasValue (column_kinds self.now place) → IsSome result };
+        ensures there { BasesAreThere (base_tables self.now) (column_kinds self.now)
+            → HasValue (column_kinds self.now place) → IsSome result };
 
     ghost references: { (names : Self) → all_refer (base_tables names) ≡ true };
 
@@ -115,12 +116,12 @@ pub enum TableBody {
 /// A base table: what its rows hold and obey (11.3 to 11.9).
 #[derive(Drop)]
 pub struct BaseTable {
-    /// Its place in the store.
+    /// The place of the table in the store.
     pub place: usize,
     pub columns: Items<BaseColumn>,
-    /// The column positions of each of its keys.
+    /// The column positions of each key.
     pub keys: Items<Items<usize>>,
-    /// Which of the keys is the primary one.
+    /// The index of the primary key among the keys.
     pub primary_key: Option<usize>,
     pub references: Items<Reference>,
     pub checks: Items<BoundCond>,
@@ -162,7 +163,7 @@ pub struct Reference {
     pub columns: Items<usize>,
     /// The place of the referenced table in the store.
     pub table: usize,
-    /// Its key that is referenced.
+    /// The index of the referenced key among the keys of that table.
     pub key: usize,
     /// For each column of that key, in its order, the position of the referencing column.
     pub by_key: Items<usize>,
@@ -171,7 +172,7 @@ pub struct Reference {
 /// A view (11.19).
 #[derive(Drop)]
 pub struct View {
-    /// Its place among the views.
+    /// The place of the view among the views.
     pub place: usize,
     pub query: BoundSpecification,
 }
@@ -188,7 +189,7 @@ pub struct Leaf {
     /// Whether the truth of none of them is ever a fault.
     pub is_quiet: bool,
     ghost are_conditions: { demanded ≤ length conditions },
-    ghost quiet: { is_quiet ≡ are_sure conditions },
+    ghost quiet: { is_quiet ≡ are_quiet_conds conditions },
 }
 
 impl BaseTable {
@@ -196,7 +197,8 @@ impl BaseTable {
     pub fn object_column(&self, position: usize) -> ObjectColumn
         requires { position < length self.now.columns }
         ensures position { result.position ≡ position }
-        ensures domain { slice_get (map (λ column. column.domain) self.now.columns) position ≡ Some result.domain }
+        ensures domain { slice_get (map (λ column. column.domain) self.now.columns) position
+            ≡ Some result.domain }
     {
         ObjectColumn {
             position,
@@ -207,7 +209,7 @@ impl BaseTable {
 
 impl TableDesc {
     ghost use Rattle.std.specs.Prelude.{◌&&◌, position};
-    ghost use Rattle.sq_bound.specs.Names.{is_name};
+    ghost use Rattle.sq_meaning.specs.Environment.{same_name};
     ghost use Rattle.sq_bound.specs.Noted.{may_fail};
     ghost use Rattle.sq_bound.specs.WellFormed.{place_of};
 
@@ -231,16 +233,16 @@ impl TableDesc {
         }
     }
 
-    /// Its owner and its name.
+    /// The owner and the name of the table.
     pub fn full_name(&self) -> (Name, Name)
         ensures { result ≡ (self.now.user, self.now.name) }
     {
         (self.user, self.name)
     }
 
-    /// Whether it has this owner and this name.
+    /// Whether the table has this owner and this name.
     pub fn is(&self, user: Name, name: Name) -> bool
-        ensures { result ≡ (is_name user self.now.user && is_name name self.now.name) }
+        ensures { result ≡ (same_name user self.now.user && same_name name self.now.name) }
     {
         self.user == user && self.name == name
     }
@@ -248,7 +250,7 @@ impl TableDesc {
     /// The position of the column of this name.
     pub fn column(&self, name: Name) -> Option<usize>
         ensures there { IfSome result (λ position. position < length self.now.columns) }
-        ensures first { result ≡ position (λ column. is_name name column.name) self.now.columns }
+        ensures first { result ≡ position (λ column. same_name name column.name) self.now.columns }
     {
         self.columns
             .as_slice()

@@ -3,7 +3,7 @@
 ghost use Rattle.std.specs.Prelude.{◌≡◌, ◌&&◌, true};
 ghost use Rattle.sq_bound.specs.Keyed.{is_named_by, is_shortest_of};
 ghost use Rattle.sq_bound.specs.Names.{option_all};
-ghost use Rattle.sq_bound.specs.Quiet.{are_sure, is_sure};
+ghost use Rattle.sq_bound.specs.Quiet.{are_quiet_conds, is_quiet_cond};
 
 use crate::condition::{BoundCond, BoundSpecification, ResultColumn, TablePlace};
 use crate::names::Leaf;
@@ -63,7 +63,7 @@ pub struct Target {
     ghost is_under: { base ≡ leaf.table.place },
     ghost keyed: { option_all (is_named_by leaf condition) key ≡ true },
     ghost shortest: { option_all (is_shortest_of leaf condition) key ≡ true },
-    ghost quiet: { is_quiet ≡ (are_sure leaf.conditions && option_all is_sure condition) },
+    ghost quiet: { is_quiet ≡ (are_quiet_conds leaf.conditions && option_all is_quiet_cond condition) },
 }
 
 /// What an updatable query is over, and the columns of the base table that its select list names.

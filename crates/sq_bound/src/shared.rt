@@ -1,3 +1,5 @@
+//! A value with several owners: base tables, and what stands under views, are held by several descriptions.
+
 ghost use Rattle.std.specs.Prelude.{◌≡◌, IfOk};
 
 use std::alloc::{AllocError, Global};

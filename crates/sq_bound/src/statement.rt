@@ -85,7 +85,7 @@ pub enum InsertedRows {
     Query(BoundSpecification),
 }
 
-/// Which rows an update or delete statement changes.
+/// The rows that an update or delete statement changes.
 #[derive(Drop)]
 pub enum ChangeTarget {
     Searched(Target),

@@ -70,7 +70,7 @@ described_long [] (x ∷ es) h = absurd h
 described_long (b ∷ bs) [] h = absurd h
 described_long (b ∷ bs) (x ∷ es) h = ap suc (described_long bs es h.1)
 
--- and as many as names
+-- there are as many base tables as names
 pub counted_all : (bs : List BaseTable) (es : List (FullName × TableDesc)) → AreDescribed bs es → nat_eq (length bs) (length (keys_of es)) ≡ true
 counted_all bs es h = eq-eqb (length bs) (length (keys_of es)) (described_long bs es h ∙ sym (length-map es (λ (e : FullName × TableDesc). e.0)))
 

@@ -20,7 +20,7 @@ use Rattle.sq_catalog.specs.declared.typed.TypedColumn.{TypedColumn}
 typed_last : (typed : List TypedColumn) (t : TypedColumn) → typed_definitions (typed ++ t ∷ []) ≡ typed_definitions typed ++ t.definition.now ∷ []
 typed_last typed t = map-append (λ (x : TypedColumn). x.definition.now) typed (t ∷ [])
 
--- those that were read, and one more
+-- one more column is read
 typed_next : (typed : List TypedColumn) (i : ℕ) (t : TypedColumn) → i < length typed → t ≡ get_or typed i t → typed_definitions (take (i + 1) typed) ≡ typed_definitions (take i typed) ++ t.definition.now ∷ []
 typed_next typed i t lt e = ap typed_definitions (take_more typed i t lt ∙ ap (λ x. take i typed ++ x ∷ []) (sym e)) ∙ typed_last (take i typed) t
 

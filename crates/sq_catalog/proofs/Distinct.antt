@@ -42,7 +42,7 @@ none_seen : (xs : List Name) → list_any (λ y. is_among [] y) xs ≡ false
 none_seen [] = refl
 none_seen (x ∷ xs) = none_seen xs
 
--- at first none is seen
+-- at first no name is seen
 pub begun : (seen names : List Name) → seen ≡ [] → has_name_twice names ≡ twice_behind seen names
 begun seen names none = sym (ap (λ b. b || has_name_twice names) (none_seen names)) ∙ seen_or_twice [] names ∙ ap (λ l. twice_behind l names) (sym none)
 

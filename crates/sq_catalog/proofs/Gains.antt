@@ -112,7 +112,7 @@ gains_more a b c names more_names definitions more p q = record {
   count = length-append p.bases q.bases ∙ (λ i. p.count i + q.count i) ∙ sym (length-append names more_names);
 }
 
--- of the parts before one, and its own
+-- what comes of the parts before one, and of that one
 pub parts_next : {X Y : Type 0} (f : X → List Y) (before : List Y) (parts : List X) (i : ℕ) (x : X) → i < length parts → x ≡ get_or parts i x → before ++ flat_map f (take (i + 1) parts) ≡ (before ++ flat_map f (take i parts)) ++ f x
 parts_next f before parts i x lt e =
     let all : flat_map f (take (i + 1) parts) ≡ flat_map f (take i parts) ++ f x = grind (arith, take_more parts i x lt, e, flat_map-append f (take i parts) (x ∷ []), append-nil (f x)) in

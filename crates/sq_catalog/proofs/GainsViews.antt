@@ -10,7 +10,7 @@ use Rattle.sq_value.specs.declared.domain.Kind.{Kind}
 use Rattle.sq_tree.specs.declared.list.CommaList.{CommaList}
 use Rattle.sq_meaning.specs.Spelled.{select_of}
 use Rattle.sq_bound.specs.Condition as tree
-use Rattle.sq_bound.specs.Known.{KnownTables, Under}
+use Rattle.sq_bound.specs.Known.{KnownTables, StillKnown, Under}
 use Rattle.sq_bound.specs.WellFormed.{TableKinds, kinds_of_columns, kinds_of_select}
 use Rattle.sq_bound.specs.declared.condition.BoundSpecification.{BoundSpecification}
 use Rattle.sq_bound.specs.declared.names.Column.{Column}
@@ -22,7 +22,7 @@ use Rattle.sq_promises.specs.Names.{outside}
 use Rattle.sq_promises.proofs.MoreKnown.{names_stay, select_stays, updatable_stays}
 use Rattle.sq_catalog.specs.Catalog.{Catalog, IsNewName, SeenView, column_kinds, known, meant}
 use Rattle.sq_catalog.specs.Stored.{IsNextView, IsViewOver, columns_of, queries_of, query_in, seen, seen_of}
-use Rattle.sq_catalog.specs.Views.{AddsViews, GainsViews, HasNamesOf, HasQueryKinds, HasQueryOf, IsSeenAs, IsUnderView, IsViewOf, StillKnown, WrittenView, column_names, names_written, view_name}
+use Rattle.sq_catalog.specs.Views.{AddsViews, GainsViews, HasNamesOf, HasQueryKinds, HasQueryOf, IsSeenAs, IsUnderView, IsViewOf, WrittenView, column_names, names_written, view_name}
 use Rattle.sq_catalog.specs.declared.catalog.FullName.{FullName}
 use Rattle.sq_catalog.proofs.Gains.{keys_append, parts_next, zip_append}
 use Rattle.sq_catalog.proofs.StillKnown.{base_still, view_still}

@@ -60,7 +60,7 @@ all_among (x ∷ xs) =
 pub position_read : (n : ℕ) (ps : List ℕ) (i p : ℕ) → are_positions n ps ≡ true → i < length ps → p ≡ get_or ps i p → p < n
 position_read n ps i p h lt e = is_below p n (all_read (λ q. nat_lt q n) ps i p lt e h)
 
--- positions of so many columns and of as many
+-- positions of columns, where two numbers of columns are equal
 pub positions_of : (n m : ℕ) (ps : List ℕ) → n ≡ m → are_positions n ps ≡ true → are_positions m ps ≡ true
 positions_of n m ps e h = ap (λ k. are_positions k ps) (sym e) ∙ h
 

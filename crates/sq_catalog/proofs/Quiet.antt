@@ -2,7 +2,7 @@
 use Rattle.std.proofs.Common.{◌≡◌, ◌∙◌, Bool, true, false, ◌&&◌, List, [], ◌∷◌, Option, Some, None, refl, ap, sym}
 use Rattle.std.proofs.lemmas.List.Folds.{list_all-append}
 use Rattle.sq_bound.specs.Names.{option_all}
-use Rattle.sq_bound.specs.Quiet.{are_sure, is_sure}
+use Rattle.sq_bound.specs.Quiet.{are_quiet_conds, is_quiet_cond}
 use Rattle.sq_bound.specs.declared.condition.BoundCond.{BoundCond}
 use Rattle.sq_catalog.specs.View.{conditions_with}
 
@@ -10,6 +10,6 @@ and_true : (a : Bool) → (a && true) ≡ a
 and_true true = refl
 and_true false = refl
 
-pub sure_with : (below : List BoundCond) (own : Option BoundCond) → are_sure (conditions_with below own) ≡ (are_sure below && option_all is_sure own)
-sure_with below None = sym (and_true (are_sure below))
-sure_with below (Some c) = list_all-append is_sure below (c ∷ []) ∙ ap (λ b. are_sure below && b) (and_true (is_sure c))
+pub sure_with : (below : List BoundCond) (own : Option BoundCond) → are_quiet_conds (conditions_with below own) ≡ (are_quiet_conds below && option_all is_quiet_cond own)
+sure_with below None = sym (and_true (are_quiet_conds below))
+sure_with below (Some c) = list_all-append is_quiet_cond below (c ∷ []) ∙ ap (λ b. are_quiet_conds below && b) (and_true (is_quiet_cond c))

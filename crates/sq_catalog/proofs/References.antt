@@ -241,7 +241,7 @@ module _ (tables more_tables : List FullName) (columns more_columns : List (List
     have_kept names ts bs h.1,
   )
 
--- those of a catalog, in one with more
+-- references of a catalog are still references in one with more tables
 pub have_still : (a b : Catalog) (added : List FullName) (columns : List (List Column)) (bases : List BaseTable) → Adds a b added columns bases → (names : List FullName) (ts : List TableDefinition) (bs : List BaseTable)
     → HaveReferences a.tables a.columns a.bases names ts bs → HaveReferences b.tables b.columns b.bases names ts bs
 have_still a b added columns bases adds names ts bs h =

@@ -8,7 +8,7 @@ use Rattle.sq_value.specs.Domain.{kind_of}
 use Rattle.sq_value.specs.declared.domain.Kind.{Kind}
 use Rattle.sq_value.specs.declared.domain.Kind.TheVariants.{Num, Chars, Vary}
 use Rattle.sq_bound.specs.Names.{is_kind_at, same_kind}
-use Rattle.sq_bound.specs.WellFormed.{base_kinds}
+use Rattle.sq_bound.specs.WellFormed.{base_kinds, kinds_of_columns}
 use Rattle.sq_bound.specs.declared.names.BaseColumn.{BaseColumn}
 use Rattle.sq_bound.specs.declared.names.BaseTable.{BaseTable}
 use Rattle.sq_bound.specs.declared.names.Column.{Column}
@@ -16,6 +16,8 @@ use Rattle.sq_bound.specs.declared.names.Leaf.{Leaf}
 use Rattle.sq_bound.specs.declared.query.UpdatableQuery.{UpdatableQuery}
 use Rattle.sq_catalog.proofs.Zips.{on_value}
 use Rattle.sq_catalog.specs.Stored.{AreColumnsOver}
+use Rattle.sq_catalog.specs.Table.{typed_kinds}
+use Rattle.sq_catalog.specs.declared.typed.TypedColumn.{TypedColumn}
 use Rattle.sq_catalog.specs.View.{IsAbove, conditions_with}
 use Rattle.sq_catalog.proofs.Listed.{all_push, all_weaker, below, is_below}
 
@@ -39,7 +41,7 @@ kind_read [] i k h = absurd (no_place i (slice_get_within [] i k h))
 kind_read (l ∷ kinds) zero k h = subst (λ x. same_kind l x ≡ true) (some_same l k h) (same_itself l)
 kind_read (l ∷ kinds) (suc i) k h = kind_read kinds i k h
 
--- a kind that stands at a position is one of so many
+-- a position at which a kind stands is within the list
 within : (kinds : List Kind) (i : ℕ) (k : Kind) → is_kind_at kinds i k ≡ true → nat_lt i (length kinds) ≡ true
 within [] i k h = absurd (true≢false (sym h))
 within (l ∷ kinds) zero k h = below 0 (length (l ∷ kinds)) (omega arith)
@@ -52,6 +54,10 @@ pub columns_seen : (b : BaseTable) {kinds : List Kind} (columns : List Column) �
 columns_seen b columns e h =
     all_weaker (λ (c : Column). is_kind_at (base_kinds b) c.leaf_column c.kind) (λ (c : Column). nat_lt c.leaf_column (length b.columns))
     (λ c there. subst (λ n. nat_lt c.leaf_column n ≡ true) (length-map b.columns (λ (x : BaseColumn). kind_of x.domain)) (within (base_kinds b) c.leaf_column c.kind there)) columns (kinds_seen b columns e h)
+
+-- columns of the kinds of others are as many
+pub columns_counted : (columns : List Column) (typed : List TypedColumn) → kinds_of_columns columns ≡ typed_kinds typed → length columns ≡ length typed
+columns_counted columns typed is = sym (length-map columns (λ (c : Column). c.kind)) ∙ ap length is ∙ length-map typed (λ (c : TypedColumn). kind_of c.domain)
 
 -- a column more
 pub over_next : (base kinds : List Kind) (columns : List Column) (i : ℕ) (k : Kind) (c : Column) → i < length kinds → k ≡ get_or kinds i k → c.kind ≡ k → is_kind_at base c.leaf_column k ≡ true

@@ -9,10 +9,9 @@ use Rattle.std.specs.List.{position, position_or_len}
 use Rattle.std.specs.Option.{option_map}
 use Rattle.std.specs.Prelude.{cond, nat_eq, nat_lt, slice_get}
 use Rattle.sq_lex.specs.declared.name.Name.{Name}
-use Rattle.sq_bound.specs.Known.{KnownTable, KnownTables}
+use Rattle.sq_bound.specs.Known.{KnownTable, KnownTables, StillKnown}
 use Rattle.sq_bound.specs.declared.names.Column.{Column}
 use Rattle.sq_catalog.specs.Catalog.{Catalog, IsNewName, SeenView, base_meant, is_table, known, known_at, known_first, table_number, view_meant}
-use Rattle.sq_catalog.specs.Views.{StillKnown}
 use Rattle.sq_catalog.specs.declared.catalog.FullName.{FullName}
 
 -- ---- lists that get longer

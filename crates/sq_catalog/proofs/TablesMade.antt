@@ -1,5 +1,5 @@
 -- CREATE TABLE in the steps in which it is made (ISO/IEC 9075:1992, 11.3 to 11.9).
-use Rattle.std.proofs.Common.{◌≡◌, ℕ, Bool, not, ◌||◌, List, length, map, nat_lt, Ok, Err, refl, ap, sym, ◌∙◌}
+use Rattle.std.proofs.Common.{◌≡◌, ℕ, Bool, not, ◌||◌, List, length, map, nat_lt, Ok, Err, refl, ap, subst, sym, ◌∙◌}
 use Rattle.std.proofs.lemmas.Simd.{map-map}
 use Rattle.std.specs.List.{list_all, list_any, zip}
 use Rattle.std.specs.Prelude.{Result}
@@ -35,7 +35,7 @@ use Rattle.sq_declaring.specs.Table.{create_table, drafted, drafted_table, has_b
 use Rattle.sq_promises.specs.Names.{descriptor_of}
 use Rattle.sq_catalog.specs.Checks.{check_over, checks_written}
 use Rattle.sq_catalog.specs.Columns.{columns_written}
-use Rattle.sq_catalog.specs.Draft.{IsDraftOf, draft_seen}
+use Rattle.sq_catalog.specs.Draft.{IsBaseFor, IsDraftOf, draft_seen}
 use Rattle.sq_catalog.specs.Exact.{base_declared, column_declared, name_in, names_in}
 use Rattle.sq_catalog.specs.Fault.{Makes, Stops}
 use Rattle.sq_catalog.specs.Keys.{keys_written, primaries, primary_among}
@@ -297,6 +297,18 @@ module _ (c : Catalog) (user : Name) (t : TableDefinition) where
 
   pub table_created : (b : DeclaredBase) → asked ≡ Ok tt → new_base ≡ Ok b → create_table c user t ≡ Ok (with_base c b)
   table_created b new is = create_is ∙ (λ i. and_then (new i) (λ u. and_then (is i) (λ b. Ok (with_base c b))))
+
+-- a fact of a success gives another
+pub if_ok_more : {X E : Type 0} {P Q : X → Type 0} (r : Result X E) → ((x : X) → P x → Q x) → IfOk r P → IfOk r Q
+if_ok_more (Ok x) more h = more x h
+if_ok_more (Err e) more h = tt
+
+-- a base table with its description is that of a draft
+pub described_base : (r : Result (TableDesc × BaseTable) ElementFault) (bases : List BaseTable) (d : Draft) (name : FullName) (columns : List Column) (b : BaseTable) → IfOk r (λ new. new.1 ≡ b)
+    → IfOk r (λ new. IsDescribed name b columns new.0) → IsBaseFor bases d columns b → IfOk r (λ new. IsBaseFor bases d new.0.columns new.1)
+described_base (Err f) bases d name columns b same described base = tt
+described_base (Ok new) bases d name columns b same described base =
+    subst (λ (cs : List Column). IsBaseFor bases d cs new.1) (sym described.columns) (subst (λ (x : BaseTable). IsBaseFor bases d columns x) (sym same) base)
 
 -- a base table with its description is the one that is computed
 pub described_makes : (o : Outcome DeclaredBase) (r : Result (TableDesc × BaseTable) ElementFault) (name : FullName) (columns : List Column) (b : BaseTable) → o ≡ Ok (base_declared name columns b) → IfOk r (λ new. new.1 ≡ b)

@@ -1,5 +1,5 @@
 -- Lists that have an element twice.
-use Rattle.std.proofs.Common.{◌≡◌, ℕ, ◌+◌, ◌<◌, Bool, true, false, ◌||◌, List, [], ◌∷◌, ◌++◌, get_or, length, drop, map, nat_eq, take, Ok, Err, refl, sym, ap, subst, ◌∙◌}
+use Rattle.std.proofs.Common.{◌≡◌, ℕ, ◌+◌, ◌<◌, Bool, true, false, not, ◌&&◌, ◌||◌, List, [], ◌∷◌, ◌++◌, get_or, length, drop, map, nat_eq, take, Ok, Err, refl, sym, ap, subst, ◌∙◌}
 use Rattle.std.proofs.Common.{arith}
 use Rattle.std.proofs.lemmas.Grind.{common_steps}
 use Rattle.std.proofs.lemmas.List.Folds.{list_any-append}
@@ -10,7 +10,9 @@ use Rattle.std.proofs.lemmas.Cmp.{nat_list_eq_equiv}
 use Rattle.sq_lex.specs.declared.name.Name.{Name}
 use Rattle.sq_tree.specs.declared.schema.ColumnDefinition.{ColumnDefinition}
 use Rattle.sq_meaning.specs.Environment.{same_name}
+use Rattle.sq_meaning.specs.Target.{are_distinct}
 use Rattle.sq_rules.specs.Schema.{has_name_twice, is_among}
+use Rattle.sq_rules.specs.Words.{has_twice}
 use Rattle.sq_rules.specs.declared.refusal.SchemaFault.TheVariants.{NameTwice}
 use Rattle.sq_declaring.specs.Outcome.{and_then, refused_if}
 use Rattle.sq_catalog.specs.Exact.{name_added}
@@ -95,3 +97,12 @@ eq_turned n m = grind (arith, common_steps)
 
 pub any_turned : (n : ℕ) → (λ m. nat_eq m n) ≡ nat_eq n
 any_turned n = λ i m. eq_turned m n i
+
+-- a list of numbers has one twice exactly where they are not distinct
+pub twice_is : (ns : List ℕ) → not (are_distinct ns) ≡ has_twice nat_eq ns
+twice_is [] = refl
+twice_is (n ∷ ns) = by (list_any (nat_eq n) ns) (are_distinct ns) (twice_is ns)
+  where
+    by : (among distinct : Bool) → not distinct ≡ has_twice nat_eq ns → not (not among && distinct) ≡ (among || has_twice nat_eq ns)
+    by true distinct h = refl
+    by false distinct h = h

@@ -41,7 +41,7 @@ full_of t = record { user = t.user; name = t.name }
 same_leaf : (k l : Leaf) → Some k ≡ Some l → k ≡ l
 same_leaf k l e = cc
 
--- of a base table it is itself, and of a view what was found under its table
+-- a base table is under itself; under a view is what was found under its table
 body_under : (name : FullName) (t : TableDesc) (l : Leaf) (b : TableBody) → IsUnderItself b (Some l) → t.leaf ≡ Some l → (columns : List ℕ) × (entry_under (entry_with name t b) ≡ Some (leaf_declared columns l))
 body_under name t l (body.View v) own is = (map (λ c. c.leaf_column) t.columns, ap (option_map (under_declared t.columns)) is)
 body_under name t l (body.Base b) own is =

@@ -58,7 +58,7 @@ more_one old new g is = ap (map grant_seen) is ∙ map-append grant_seen old (g 
 pub more_then : (a b c : List Grant) (xs ys : List definition.Grant) → HoldsMore a b xs → HoldsMore b c ys → HoldsMore a c (xs ++ ys)
 more_then a b c xs ys f g = g ∙ ap (λ l. l ++ ys) f ∙ append_assoc (map grant_seen a) xs ys
 
--- at first there is none
+-- at first there is no grant
 pub more_begun : (old new : List Grant) (xs : List definition.Grant) → old ≡ [] → HoldsMore old new xs → map grant_seen new ≡ xs
 more_begun old new xs none h = h ∙ ap (λ l. map grant_seen l ++ xs) none
 
@@ -93,7 +93,7 @@ module _ (c : definition.Catalog) (owner : Name) (over : ViewOver) where
   update_none underneath name e old is =
       subst (λ (o : Option Name). HoldsMore old old (all_followed c owner over (option_to_list (option_map (λ (n : Name). (Privilege.update name, Privilege.update n)) o)))) is (more_none old)
 
-  -- those of the columns that are left
+  -- the grants of the columns that are left
   abbrev pub left : List Name → List Name → List BoundExpr → List definition.Grant
   left underneath names shown = updates_over c owner over underneath (zip names (map numbered_of shown))
 
@@ -120,7 +120,7 @@ module _ (c : definition.Catalog) (owner : Name) (over : ViewOver) where
   none_left underneath [] shown = refl
   none_left underneath (n ∷ names) shown = refl
 
-  -- and none is left at the end of either
+  -- no column is left at the end of either list
   pub left_all : (underneath names : List Name) (shown : List BoundExpr) (i : ℕ) (old now : List Grant) → i ≡ min (length names) (length shown)
       → map grant_seen old ++ left underneath names shown ≡ map grant_seen now ++ left underneath (drop i names) (drop i shown) → HoldsMore old now (left underneath names shown)
   left_all underneath names shown i old now end so_far = sym (so_far ∙ ap (λ l. map grant_seen now ++ l) (by (nat_lt (length names) (length shown)) refl) ∙ append-nil (map grant_seen now))

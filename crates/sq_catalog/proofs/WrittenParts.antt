@@ -15,7 +15,7 @@ use Rattle.sq_catalog.specs.declared.written.WrittenKey.{WrittenKey}
 
 -- ---- two lists, place by place
 
--- those that were read, and one more
+-- one more element is read
 pub zip_read : {A B : Type 0} (R : A → B → Type 0) (xs : List A) (i : ℕ) (x : A) (ys new : List B) (y : B) → i < length xs → x ≡ get_or xs i x → new ≡ ys ++ y ∷ [] → AllZip R (take i xs) ys → R x y
     → AllZip R (take (i + 1) xs) new
 zip_read R xs i x ys new y lt e grown h r =
@@ -45,7 +45,7 @@ primary_next keys key before now e so_far =
     by true false at = refl
     by false false at = refl
 
--- of those that were read, and one more
+-- one more key is read
 pub primary_read : (written : List WrittenKey) (i : ℕ) (key : WrittenKey) (count : ℕ) (before now : Option ℕ) → i < length written → key ≡ get_or written i key → count ≡ i
     → now ≡ option_or before (if key.is_primary then Some count else None) → before ≡ primary_among (take i written) → now ≡ primary_among (take (i + 1) written)
 primary_read written i key count before now lt is here e so_far =

@@ -139,6 +139,6 @@ each_reference (element.Check condition ∷ es) = each_reference es
 pub references_are_written : (t : TableDefinition) → map reference_of (references_written t) ≡ table_references t
 references_are_written t = each_reference (listed t.elements)
 
--- those that are lent
+-- the references that are lent
 pub references_lent : (ws : List WrittenReference) (rs : List ReferentialConstraint) → constraints_lent ws ≡ rs → map reference_seen ws ≡ map reference_of rs
 references_lent ws rs is = sym (map-map reference_of constraint_lent ws) ∙ ap (map reference_of) is

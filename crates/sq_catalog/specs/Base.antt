@@ -17,5 +17,6 @@ pub record IsBaseOf (name : FullName) (t : TableDefinition) (b : BaseTable) : Ty
 -- each base table is of the name and the definition at the same place of the lists
 abbrev pub AreBasesOf : List FullName → List TableDefinition → List BaseTable → Type 0
 AreBasesOf [] [] [] = ⊤
-AreBasesOf (name ∷ names) (t ∷ definitions) (b ∷ bases) = IsBaseOf name t b × AreBasesOf names definitions bases
+AreBasesOf (name ∷ names) (t ∷ definitions) (b ∷ bases) =
+    IsBaseOf name t b × AreBasesOf names definitions bases
 AreBasesOf _ _ _ = ⊥

@@ -37,9 +37,12 @@ kinds_at bases views (View n) = well_formed (option_map kinds_of_select (slice_g
 
 -- each view's query is well formed over the tables that were there before
 abbrev pub AreViewQueries : List BaseTable → List BoundSpecification → Type 0
-AreViewQueries bases views = (place : ℕ) (kinds : List Kind) → kinds_at bases views (View place) ≡ Ok kinds → IsViewQuery (kinds_at bases views) views place kinds
+AreViewQueries bases views =
+    (place : ℕ) (kinds : List Kind) → kinds_at bases views (View place) ≡ Ok kinds
+    → IsViewQuery (kinds_at bases views) views place kinds
 
-pub AreViewQueries-prop : (bases : List BaseTable) (views : List BoundSpecification) → IsProp (AreViewQueries bases views)
+pub AreViewQueries-prop : (bases : List BaseTable) (views : List BoundSpecification)
+    → IsProp (AreViewQueries bases views)
 AreViewQueries-prop bases views = Π_prop λ place. Π_prop λ kinds. Π_prop λ known. ∥∥₁_prop
 
 -- a view as names see it: its columns, and what is under it, if it may be changed
@@ -66,21 +69,24 @@ pub record Catalog : Type 0 where
   pub refer : all_refer bases ≡ true
   pub stand : AreViewQueries bases views
 
--- those of a base table are of its columns' domains
-pub base_there : (c : Catalog) (place : ℕ) (b : BaseTable) → slice_get c.bases place ≡ Some b → kinds_at c.bases c.views (Base place) ≡ Ok (base_kinds b)
+-- the kinds at the place of a base table are those of its columns
+pub base_there : (c : Catalog) (place : ℕ) (b : BaseTable) → slice_get c.bases place ≡ Some b
+    → kinds_at c.bases c.views (Base place) ≡ Ok (base_kinds b)
 base_there c place b there = ap (λ found. well_formed (option_map base_kinds found)) there
 
 -- the kinds of the columns of each table and view
 abbrev pub column_kinds : Catalog → TableKinds
 column_kinds c = kinds_at c.bases c.views
 
--- what is there at a place is one of so many
-pub there_within : {A : Type 0} (xs : List A) (place : ℕ) → HasValue (well_formed (slice_get xs place)) → place < length xs
+-- a place at which something stands is within the list
+pub there_within : {A : Type 0} (xs : List A) (place : ℕ) → HasValue (well_formed (slice_get xs place))
+    → place < length xs
 there_within [] place h = absurd h
 there_within (x ∷ xs) zero h = omega arith
 there_within (x ∷ xs) (suc place) h = omega (arith, there_within xs place h)
 
-pub known_there : {A : Type 0} (f : A → List Kind) (o : Option A) → HasValue (well_formed (option_map f o)) → HasValue (well_formed o)
+pub known_there : {A : Type 0} (f : A → List Kind) (o : Option A) → HasValue (well_formed (option_map f o))
+    → HasValue (well_formed o)
 known_there f None h = absurd h
 known_there f (Some x) h = tt
 
@@ -106,7 +112,7 @@ base_meant place columns = record { place = Base place; columns = columns; under
 abbrev pub view_meant : ℕ → SeenView → KnownTable
 view_meant place v = record { place = View place; columns = v.columns; under = v.under }
 
--- what the one at a number means
+-- what the name of the table at a number means
 abbrev pub known_at : {A : Type 0} → (ℕ → A → KnownTable) → List A → Option ℕ → Option KnownTable
 known_at meant all number = option_and_then (λ n. option_map (meant n) (slice_get all n)) number
 
@@ -117,14 +123,17 @@ known_first (Some t) other = Some t
 -- what an owner and a name mean, where these are the base tables with their columns, and the views: a base table, or a view
 abbrev pub meant : List FullName → List (List Column) → List FullName → List SeenView → KnownTables
 meant tables columns views seen user name =
-    known_first (known_at base_meant columns (table_number tables user name)) (known_at view_meant seen (table_number views user name))
+    known_first (known_at base_meant columns (table_number tables user name))
+    (known_at view_meant seen (table_number views user name))
 
 abbrev pub known : Catalog → KnownTables
 known c = meant c.tables c.columns c.view_names c.seen_views
 
 -- no table and no view has the name (11.3, 11.19)
 abbrev pub IsNewName : Catalog → FullName → Type 0
-IsNewName c name = (table_number c.tables name.user name.name ≡ None) × (table_number c.view_names name.user name.name ≡ None)
+IsNewName c name =
+    (table_number c.tables name.user name.name ≡ None)
+    × (table_number c.view_names name.user name.name ≡ None)
 
 -- ---- the base tables of schema texts, in the order of the texts
 
@@ -168,27 +177,32 @@ declared_definitions texts = flat_map text_definitions texts
 
 -- the number of the base table that a name in a text of a user means
 abbrev pub number_meant : List FullName → Name → TableName → Option ℕ
-number_meant tables user written = table_number tables (named_by user written).user (named_by user written).name
+number_meant tables user written =
+    table_number tables (named_by user written).user (named_by user written).name
 
 -- Base tables of these names have the references of these definitions, to base tables among all. (An unqualified name is in the schema in
 -- which the table stands.)
-abbrev pub HaveReferences : List FullName → List (List Column) → List BaseTable → List FullName → List TableDefinition → List BaseTable
+abbrev pub HaveReferences : List FullName → List (List Column) → List BaseTable → List FullName
+    → List TableDefinition → List BaseTable
     → Type 0
 HaveReferences tables columns all [] [] [] = ⊤
 HaveReferences tables columns all (name ∷ names) (t ∷ definitions) (b ∷ bases) =
-    HasReferencesOf (number_meant tables name.user) columns all t b × HaveReferences tables columns all names definitions bases
+    HasReferencesOf (number_meant tables name.user) columns all t b
+    × HaveReferences tables columns all names definitions bases
 HaveReferences _ _ _ _ _ _ = ⊥
 
 -- ---- a catalog that grows
 
 -- base tables of these names, with these columns as names see them, are added behind the others
-pub record Adds (old new : Catalog) (names : List FullName) (described : List (List Column)) (added : List BaseTable) : Type 0 where
+pub record Adds (old new : Catalog) (names : List FullName) (described : List (List Column))
+    (added : List BaseTable) : Type 0 where
   pub tables : new.tables ≡ old.tables ++ names
   pub columns : new.columns ≡ old.columns ++ described
   pub bases : new.bases ≡ old.bases ++ added
 
 -- base tables of these names are added, each that of its definition, with its references
-pub record Gains (old new : Catalog) (names : List FullName) (definitions : List TableDefinition) : Type 0 where
+pub record Gains (old new : Catalog) (names : List FullName)
+    (definitions : List TableDefinition) : Type 0 where
   pub columns : List (List Column)
   pub bases : List BaseTable
   pub added : Adds old new names columns bases

@@ -47,7 +47,8 @@ checks_written t = flat_map checks_in (listed t.elements)
 
 -- a condition on a row of the table of this name with these columns, and what is bound is the one that is written
 abbrev pub IsCheckOf : FullName → List Column → Cond → BoundCond → Type 0
-IsCheckOf name columns written cond = CondIs (check_placed (record { user = name.user; name = name.name }) columns written) cond
+IsCheckOf name columns written cond =
+    CondIs (check_placed (record { user = name.user; name = name.name }) columns written) cond
 
 -- each condition is the one that is written at its place
 abbrev pub AreChecksOf : FullName → List Column → List Cond → List BoundCond → Type 0

@@ -1,5 +1,5 @@
 -- The columns of a base table are those of its CREATE TABLE text (ISO/IEC 9075:1992, 11.3 to 11.5).
-use Rattle.std.specs.Prelude.{◌≡◌, ◌≤◌, ℕ, Bool, not, true, List, [], ◌∷◌, flat_map, Option, None, Some, Ok}
+use Rattle.std.specs.Prelude.{◌≡◌, ◌≤◌, ℕ, List, [], ◌∷◌, flat_map, Option, None, Some, Ok}
 use Rattle.std.specs.List.{AllZip, enumerate_from}
 use Rattle.std.specs.Option.{option_map}
 use Rattle.sq_tree.specs.declared.schema.ColumnDefinition.{ColumnDefinition}
@@ -8,7 +8,7 @@ use Rattle.sq_tree.specs.declared.schema.DefaultValue.TheVariants as written
 use Rattle.sq_tree.specs.declared.schema.TableDefinition.{TableDefinition}
 use Rattle.sq_tree.specs.declared.schema.TableElement.{TableElement}
 use Rattle.sq_tree.specs.declared.schema.TableElement.TheVariants as element
-use Rattle.sq_value.specs.Domain.{domain_length, is_of_numbers, kind_of}
+use Rattle.sq_value.specs.Domain.{domain_length, kind_of}
 use Rattle.sq_value.specs.Storing.{stored}
 use Rattle.sq_value.specs.declared.domain.Domain.{Domain}
 use Rattle.sq_value.specs.declared.value.Value.{Value}
@@ -55,12 +55,6 @@ HasColumnsOf t columns = AreColumnsOf (columns_written t) columns
 abbrev pub IsStoredAs : Domain → Value → ColumnDefault → Type 0
 IsStoredAs d v (default.Value s) = stored d v ≡ Ok s
 IsStoredAs d v default.User = ⊥
-
--- a value that is null, a number in a domain of numbers, or a text in one of texts
-abbrev pub fits : Domain → Value → Bool
-fits d Null = true
-fits d (Num n) = is_of_numbers d
-fits d (Chars t) = not (is_of_numbers d)
 
 -- the default that is written for a column of a domain; without one it is null (11.5). USER needs 18 characters (own rule)
 abbrev pub IsDefaultOf : Domain → Option DefaultValue → ColumnDefault → Type 0

@@ -15,11 +15,13 @@ use Rattle.sq_catalog.specs.Views.{HasQueryKinds, HasQueryOf, IsSeenAs, declared
 -- The base tables of these texts are those that are written, with their references. The views have the queries that are written, and are
 -- seen as they are written, where names of tables mean this: the base tables by their names, each at its place with its columns, and then
 -- the views by theirs; no other name means anything. The queries are well formed, and the views' columns are of their kinds.
-pub record Declares (texts : List SchemaText) (known : KnownTables) (bases : List BaseTable) (views : List BoundSpecification) : Type 0 where
+pub record Declares (texts : List SchemaText) (known : KnownTables) (bases : List BaseTable)
+    (views : List BoundSpecification) : Type 0 where
   pub columns : List (List Column)
   pub columns_are : AllZip HasColumnsOf (declared_definitions texts) columns
   pub bases_are : AreBasesOf (declared_tables texts) (declared_definitions texts) bases
-  pub references_are : HaveReferences (declared_tables texts) columns bases (declared_tables texts) (declared_definitions texts) bases
+  pub references_are : HaveReferences (declared_tables texts) columns bases (declared_tables texts)
+      (declared_definitions texts) bases
   pub seen : List SeenView
   pub seen_are : AllZip (IsSeenAs known) (declared_views texts) seen
   pub views_are : AllZip (HasQueryOf known) (declared_views texts) views

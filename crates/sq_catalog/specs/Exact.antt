@@ -38,7 +38,12 @@ names_in columns = map (λ c. c.name) columns
 
 -- a column of this name
 abbrev pub column_declared : Name × BaseColumn → DeclaredColumn
-column_declared c = record { name = c.0; domain = (c.1).domain; not_null = (c.1).not_null; default = (c.1).default }
+column_declared c = record {
+  name = c.0;
+  domain = (c.1).domain;
+  not_null = (c.1).not_null;
+  default = (c.1).default;
+}
 
 -- a base table of this name, with columns of their names
 abbrev pub base_declared : FullName → List Column → BaseTable → DeclaredBase
@@ -96,16 +101,28 @@ views_declared entries = flat_map (λ e. view_in e (e.1).body) entries
 
 -- the table or view of a name
 abbrev pub described : Catalog → TableName → Option TableDesc
-described c t = option_or (lookup (is_table t.user t.name) c.base_entries) (lookup (is_table t.user t.name) c.view_entries)
+described c t =
+    option_or (lookup (is_table t.user t.name) c.base_entries)
+    (lookup (is_table t.user t.name) c.view_entries)
 
 -- ---- the catalog
 
 abbrev pub declared : Catalog → definition.Catalog
-declared c = record { users = c.users; bases = bases_declared c.base_entries; views = views_declared c.view_entries; grants = c.grants }
+declared c = record {
+  users = c.users;
+  bases = bases_declared c.base_entries;
+  views = views_declared c.view_entries;
+  grants = c.grants;
+}
 
 -- a table or view of this name behind the others
 abbrev pub with_view_entry : definition.Catalog → FullName → TableDesc → definition.Catalog
-with_view_entry c name t = record { users = c.users; bases = c.bases; views = c.views ++ view_in (name, t) t.body; grants = c.grants }
+with_view_entry c name t = record {
+  users = c.users;
+  bases = c.bases;
+  views = c.views ++ view_in (name, t) t.body;
+  grants = c.grants;
+}
 
 -- a name behind others, among which it is not
 abbrev pub name_added : List Name → Name → Outcome (List Name)

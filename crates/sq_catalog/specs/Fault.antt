@@ -13,7 +13,7 @@ abbrev pub Stops : {B : Type 0} → Outcome B → ElementFault → Type 0
 Stops outcome (element.Refused fault) = outcome ≡ Err fault
 Stops outcome element.NoMemory = ⊤
 
--- what is answered is what is computed, seen by an image, or the refusal is
+-- the answer, seen by an image, is what is computed, or is the refusal that is
 abbrev pub Makes : {A B : Type 0} → (A → B) → Outcome B → Result A ElementFault → Type 0
 Makes image outcome (Ok x) = outcome ≡ Ok (image x)
 Makes image outcome (Err fault) = Stops outcome fault
@@ -28,7 +28,8 @@ refusal_seen r = record { text = r.text; schema = r.schema; element = r.element;
 
 -- a fault of an element with the element's place
 abbrev pub placed : ElementFault → ℕ → ℕ → Option ℕ → CatalogFault
-placed (element.Refused f) text schema number = Refused (record { name = record { fault = f }; text = text; schema = schema; element = number })
+placed (element.Refused f) text schema number =
+    Refused (record { name = record { fault = f }; text = text; schema = schema; element = number })
 placed element.NoMemory text schema number = NoMemory
 
 -- the text of this number is refused
@@ -36,7 +37,7 @@ abbrev pub IsOfText : ℕ → CatalogFault → Type 0
 IsOfText text NoMemory = ⊤
 IsOfText text (Refused refusal) = refusal.text ≡ text
 
--- one of so many texts is refused
+-- the text that is refused is one of this many
 abbrev pub IsOfSomeText : ℕ → CatalogFault → Type 0
 IsOfSomeText count NoMemory = ⊤
 IsOfSomeText count (Refused refusal) = refusal.text < count

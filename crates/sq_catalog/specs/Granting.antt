@@ -13,10 +13,13 @@ use Rattle.sq_declaring.specs.Outcome.{Outcome, ◌>>=◌, ◌>>◌, refused_if}
 
 -- the grants of these privileges; no list of columns has one twice
 abbrev pub grants_of : TableName → List Privilege → GrantStatement → Outcome (List Grant)
-grants_of t ps g = refused_if fault.OtherSchema (list_any action_repeats (actions_of g.privileges)) >> Ok (grants_made t ps g)
+grants_of t ps g =
+    refused_if fault.OtherSchema (list_any action_repeats (actions_of g.privileges))
+    >> Ok (grants_made t ps g)
 
 -- the grants of what is named, where all columns are there
-abbrev pub grants_if_held : (held : Privilege → Bool) → List Name → TableName → GrantStatement → Outcome (List Grant)
+abbrev pub grants_if_held : (held : Privilege → Bool) → List Name → TableName → GrantStatement
+    → Outcome (List Grant)
 grants_if_held held columns t g = privileges_granted held columns g.privileges >>= λ ps. grants_of t ps g
 
 -- privileges, of which there must be one

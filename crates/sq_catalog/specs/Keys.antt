@@ -8,7 +8,7 @@ use Rattle.sq_tree.specs.declared.schema.TableDefinition.{TableDefinition}
 use Rattle.sq_tree.specs.declared.schema.TableElement.{TableElement}
 use Rattle.sq_tree.specs.declared.schema.TableElement.TheVariants as element
 use Rattle.sq_meaning.specs.Spelled.{listed}
-use Rattle.sq_bound.specs.Names.{is_name}
+use Rattle.sq_meaning.specs.Environment.{same_name}
 use Rattle.sq_catalog.specs.Columns.{columns_written}
 use Rattle.sq_catalog.specs.declared.written.WrittenKey.{WrittenKey}
 
@@ -42,7 +42,7 @@ names_written t = map (λ w. w.name) (columns_written t)
 
 -- where a table has columns of the first names, those of the others stand at these positions
 abbrev pub StandAt : List Name → List Name → List ℕ → Type 0
-StandAt columns = AllZip (λ name place. position (is_name name) columns ≡ Some place)
+StandAt columns = AllZip (λ name place. position (same_name name) columns ≡ Some place)
 
 -- the columns of each key stand at its positions
 abbrev pub KeysStandAt : List Name → List WrittenKey → List (List ℕ) → Type 0
@@ -52,7 +52,7 @@ KeysStandAt columns = AllZip (λ key places. StandAt columns key.columns places)
 abbrev pub primary_among : List WrittenKey → Option ℕ
 primary_among keys = position (λ key. key.is_primary) keys
 
--- the columns of those that are written PRIMARY KEY
+-- the columns of a key that is written PRIMARY KEY
 abbrev pub primary_columns : WrittenKey → Option (List Name)
 primary_columns key = if key.is_primary then Some key.columns else None
 

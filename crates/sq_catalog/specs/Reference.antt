@@ -59,7 +59,7 @@ HasKinds kinds (body.View v) = ⊤
 abbrev pub HasOwnKinds : TableDesc → Type 0
 HasOwnKinds t = HasKinds (kinds_of_columns t.columns) t.body
 
--- its columns are columns of the two tables, and the earlier one is stored, with columns of its kinds
+-- a reference's columns are columns of the two tables, and the earlier one is stored, with columns of its kinds
 pub record IsFound (bases : List BaseTable) (columns : ℕ) (f : FoundReference) : Type 0 where
   pub own : are_positions columns f.columns ≡ true
   pub stored : IfSome f.earlier (λ t. IsStored bases t.now)
@@ -76,8 +76,9 @@ abbrev pub names_in : List Name → Option (Bor TableDesc) → List Name
 names_in own None = own
 names_in own (Some t) = map (λ c. c.name) t.now.columns
 
--- its columns and its table are those that a user's constraint names, in a table of this name with columns of these names
-pub record IsFoundAs (c : Catalog) (user : Name) (name : FullName) (own : List Name) (w : ReferentialConstraint) (f : FoundReference)
+-- a reference has the columns and the table that a user's constraint names, in a table of this name with columns of these names
+pub record IsFoundAs (c : Catalog) (user : Name) (name : FullName) (own : List Name)
+    (w : ReferentialConstraint) (f : FoundReference)
     : Type 0 where
   pub columns : StandAt own w.columns f.columns
   pub table : IsMeant c name (named_by user w.to.table) f.earlier
@@ -87,16 +88,19 @@ pub record IsFoundAs (c : Catalog) (user : Name) (name : FullName) (own : List N
 
 -- a base table is at this place, with these keys, and this one is its primary key
 abbrev pub IsTargetBody : TableBody → ℕ → Keys → Option ℕ → Type 0
-IsTargetBody (body.Base b) place keys primary = (place ≡ b.place) × (keys ≡ b.keys) × (primary ≡ b.primary_key)
+IsTargetBody (body.Base b) place keys primary =
+    (place ≡ b.place) × (keys ≡ b.keys) × (primary ≡ b.primary_key)
 IsTargetBody (body.View v) place keys primary = ⊥
 
 -- what a reference refers to has this place, these keys and this primary key: an earlier table, or the one that is being defined behind others
 abbrev pub IsTarget : List BaseTable → Keys → Option ℕ → Option (Bor TableDesc) → ℕ → Keys → Option ℕ → Type 0
-IsTarget before own own_primary None place keys primary = (place ≡ length before) × (keys ≡ own) × (primary ≡ own_primary)
+IsTarget before own own_primary None place keys primary =
+    (place ≡ length before) × (keys ≡ own) × (primary ≡ own_primary)
 IsTarget before own own_primary (Some t) place keys primary = IsTargetBody t.now.body place keys primary
 
 -- the key that is referenced, and its columns in the order in which they are paired
-pub record IsKeyReferenced (keys : Keys) (primary : Option ℕ) (listed : Option (List ℕ)) (key : ReferencedKey) : Type 0 where
+pub record IsKeyReferenced (keys : Keys) (primary : Option ℕ) (listed : Option (List ℕ))
+    (key : ReferencedKey) : Type 0 where
   pub chosen : key_referenced keys primary listed ≡ Some key.place
   pub there : slice_get keys key.place ≡ Some key.columns.now
   pub order : key.listed.now ≡ unwrap_or listed key.columns.now
@@ -105,29 +109,34 @@ pub record IsKeyReferenced (keys : Keys) (primary : Option ℕ) (listed : Option
 abbrev pub IsPairAdded : Option ℕ → List ℕ → List ℕ → Type 0
 IsPairAdded paired old new = map (λ own. Some own) new ≡ map (λ own. Some own) old ++ paired ∷ []
 
--- a reference to a key of a base table
+-- a reference is to the listed key of a table's body, which is a base table
 abbrev pub IsToBody : TableBody → Option (List ℕ) → Reference → Type 0
 IsToBody (body.Base b) listed r = (r.table ≡ b.place) × IsToKey b.keys b.primary_key listed r
 IsToBody (body.View v) listed r = ⊥
 
--- to a key of an earlier table, or of the one that is being defined
-abbrev pub IsTo : List BaseTable → Keys → Option ℕ → Option (Bor TableDesc) → Option (List ℕ) → Reference → Type 0
+-- a reference is to a key of an earlier table, or of the one that is being defined
+abbrev pub IsTo : List BaseTable → Keys → Option ℕ → Option (Bor TableDesc) → Option (List ℕ) → Reference
+    → Type 0
 IsTo before keys primary None listed r = (r.table ≡ length before) × IsToKey keys primary listed r
 IsTo before keys primary (Some t) listed r = IsToBody t.now.body listed r
 
 -- a reference whose table and columns are found, in a table with these keys behind others
-pub record IsBound (before : List BaseTable) (keys : Keys) (primary : Option ℕ) (f : FoundReference) (r : Reference) : Type 0 where
+pub record IsBound (before : List BaseTable) (keys : Keys) (primary : Option ℕ) (f : FoundReference)
+    (r : Reference) : Type 0 where
   pub columns : r.columns ≡ f.columns
   pub to : IsTo before keys primary f.earlier f.listed r
 
--- a reference that is bound so is added behind the others
-abbrev pub AddsBound : List BaseTable → Keys → Option ℕ → FoundReference → List Reference → List Reference → Type 0
-AddsBound before keys primary f old new = (r : Reference) × (new ≡ old ++ r ∷ []) × IsBound before keys primary f r
+-- a reference is bound and added behind the others
+abbrev pub AddsBound : List BaseTable → Keys → Option ℕ → FoundReference → List Reference → List Reference
+    → Type 0
+AddsBound before keys primary f old new =
+    (r : Reference) × (new ≡ old ++ r ∷ []) × IsBound before keys primary f r
 
 -- a table of this name with these columns, behind those of a catalog, has the references of its definition
 abbrev pub MakesReferences : Catalog → FullName → TableDefinition → List Column → BaseTable → Type 0
 MakesReferences c name t columns b =
-    HasReferencesOf (number_meant (c.tables ++ name ∷ []) name.user) (c.columns ++ columns ∷ []) (c.bases ++ b ∷ []) t b
+    HasReferencesOf (number_meant (c.tables ++ name ∷ []) name.user) (c.columns ++ columns ∷ [])
+    (c.bases ++ b ∷ []) t b
 
 -- ---- the keys of all
 
@@ -135,7 +144,7 @@ MakesReferences c name t columns b =
 abbrev pub keys_with : List BaseTable → Keys → List Keys
 keys_with bases own = keys_of_bases bases ++ own ∷ []
 
--- a reference to one of the keys, by columns of a table of so many
+-- a reference is to one of the keys, by columns of a table with this many
 abbrev pub is_to : List Keys → ℕ → Reference → Bool
 is_to keys columns r = nat_lt r.key (length (keys_at keys r.table)) && are_positions columns r.by_key
 
@@ -180,8 +189,10 @@ abbrev pub reference_with : Reference × Bool → BoundReference
 reference_with made = record { reference = made.0; is_permitted = made.1 }
 
 -- references, and whether a user may make all of them
-abbrev pub references_made : {A : Type 0} → (A → Outcome BoundReference) → List A → Outcome (List Reference × Bool)
-references_made bound found = each bound found >>= λ made. Ok (map (λ r. r.reference) made, list_all (λ r. r.is_permitted) made)
+abbrev pub references_made : {A : Type 0} → (A → Outcome BoundReference) → List A
+    → Outcome (List Reference × Bool)
+references_made bound found =
+    each bound found >>= λ made. Ok (map (λ r. r.reference) made, list_all (λ r. r.is_permitted) made)
 
 -- a reference is added, if it is made
 pub record IsReferenceMade (o : Outcome BoundReference) (old new : BoundReferences) : Type 0 where
@@ -193,4 +204,5 @@ pub record IsReferenceMade (o : Outcome BoundReference) (old new : BoundReferenc
 -- the user holds REFERENCES on the column at a position, if there is one
 abbrev pub may_reference_at : declaring.Catalog → Name → TableDesc → ℕ → Bool
 may_reference_at c user t n =
-    is_none_or (λ name. may c false user (record { user = t.user; name = t.name }) (Privilege.references name)) (slice_get (column_names t.columns) n)
+    is_none_or (λ name. may c false user (record { user = t.user; name = t.name })
+    (Privilege.references name)) (slice_get (column_names t.columns) n)

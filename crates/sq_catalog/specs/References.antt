@@ -41,7 +41,7 @@ references_in (element.PrimaryKey columns) = []
 references_in (element.ForeignKey key) = record { columns = listed key.columns; to = key.references } ∷ []
 references_in (element.Check condition) = []
 
--- those of a table definition, in the order of the text
+-- the referential constraints of a table definition, in the order of the text
 abbrev pub references_written : TableDefinition → List ReferentialConstraint
 references_written t = flat_map references_in (listed t.elements)
 
@@ -72,11 +72,13 @@ key_referenced keys primary (Some listed) = position (is_key_of listed) keys
 -- the referencing column that has the place of a referenced one
 abbrev pub paired_with : List ℕ → List ℕ → ℕ → Option ℕ
 paired_with referenced referencing column =
-    option_and_then (λ place. slice_get referencing place) (position (λ other. nat_eq other column) referenced)
+    option_and_then (λ place. slice_get referencing place)
+    (position (λ other. nat_eq other column) referenced)
 
 -- A reference is to that key of a table with these keys. Its columns as they are listed, or else in their own order, are paired with as
 -- many referencing columns, each with the one that has its place.
-pub record IsToKey (keys : Keys) (primary : Option ℕ) (listed : Option (List ℕ)) (r : Reference) : Type 0 where
+pub record IsToKey (keys : Keys) (primary : Option ℕ) (listed : Option (List ℕ))
+    (r : Reference) : Type 0 where
   pub key_is : key_referenced keys primary listed ≡ Some r.key
   pub key : List ℕ
   pub there : slice_get keys r.key ≡ Some key
@@ -87,7 +89,8 @@ pub record IsToKey (keys : Keys) (primary : Option ℕ) (listed : Option (List �
 
 -- A reference is the one that a constraint writes, in a table with columns of these names: to the base table of the number that the name
 -- means, of which the columns as names see them have the names that are listed.
-pub record IsReferenceOf (number : TableName → Option ℕ) (columns : List (List Column)) (bases : List BaseTable)
+pub record IsReferenceOf (number : TableName → Option ℕ) (columns : List (List Column))
+    (bases : List BaseTable)
     (own : List Name) (w : ReferentialConstraint) (r : Reference) : Type 0 where
   pub referencing : StandAt own w.columns r.columns
   pub table : number w.to.table ≡ Some r.table
@@ -100,5 +103,7 @@ pub record IsReferenceOf (number : TableName → Option ℕ) (columns : List (Li
   pub to_key : IsToKey referenced.keys referenced.primary_key listed r
 
 -- a base table has the references of a table definition, in the order of the text, where names of tables mean these numbers
-abbrev pub HasReferencesOf : (TableName → Option ℕ) → List (List Column) → List BaseTable → TableDefinition → BaseTable → Type 0
-HasReferencesOf number columns bases t b = AllZip (IsReferenceOf number columns bases (names_written t)) (references_written t) b.references
+abbrev pub HasReferencesOf : (TableName → Option ℕ) → List (List Column) → List BaseTable → TableDefinition
+    → BaseTable → Type 0
+HasReferencesOf number columns bases t b =
+    AllZip (IsReferenceOf number columns bases (names_written t)) (references_written t) b.references

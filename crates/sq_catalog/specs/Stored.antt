@@ -1,5 +1,5 @@
 -- Tables and views over the base tables of a catalog. (Own notion: they are found by places.)
-use Rattle.std.specs.Prelude.{⊤, ◌≡◌, ℕ, suc, true, List, [], ◌∷◌, ◌++◌, flat_map, length, map, nat_eq, slice_get, Option, Some, IfSome}
+use Rattle.std.specs.Prelude.{⊤, ◌≡◌, ℕ, suc, true, List, [], ◌∷◌, ◌++◌, flat_map, length, map, nat_eq, nat_lt, slice_get, Option, Some, IfSome}
 use Rattle.std.proofs.Common.{◌∙◌, eq-eqb, sym}
 use Rattle.std.proofs.lemmas.List.{length-map}
 use Rattle.std.specs.Map.{keys_of}
@@ -26,7 +26,7 @@ use Rattle.sq_bound.specs.declared.names.TableDesc.{TableDesc}
 use Rattle.sq_catalog.specs.Catalog.{Catalog, SeenView, column_kinds, itself, kinds_at, table_number}
 use Rattle.sq_catalog.specs.declared.catalog.FullName.{FullName}
 
--- a base table stands at its place and has so many columns
+-- a base table stands at its place and has this many columns
 abbrev pub IsBody : List BaseTable → ℕ → TableBody → Type 0
 IsBody bases columns (body.Base b) = IsBase bases b × (columns ≡ length b.columns)
 IsBody bases columns (body.View v) = ⊤
@@ -52,9 +52,9 @@ pub record IsStored (bases : List BaseTable) (t : TableDesc) : Type 0 where
 abbrev pub AreStored : List BaseTable → List (FullName × TableDesc) → Type 0
 AreStored bases entries = All (λ e. IsStored bases e.1) entries
 
--- each is well formed, where tables and views have columns of these kinds
+-- each table is well formed, where tables and views have columns of these kinds
 abbrev pub AreTables : TableKinds → List (FullName × TableDesc) → Type 0
-AreTables columns entries = All (λ e. IsTable columns e.1) entries
+AreTables table_kinds entries = All (λ e. IsTable table_kinds e.1) entries
 
 -- a table has this owner and name
 abbrev pub IsNamed : FullName → TableDesc → Type 0
@@ -66,7 +66,7 @@ IsNumbered tables columns name described (body.Base b) =
     (table_number tables name.user name.name ≡ Some b.place) × (slice_get columns b.place ≡ Some described)
 IsNumbered tables columns name described (body.View v) = ⊤
 
--- each has the name under which it stands
+-- each table has the name under which it stands
 abbrev pub AreNamed : List (FullName × TableDesc) → Type 0
 AreNamed entries = All (λ e. IsNamed e.0 e.1) entries
 
@@ -83,16 +83,18 @@ StandFrom at place (e ∷ entries) = (place_of e.1.body ≡ at place) × StandFr
 abbrev pub StandsAt : List (FullName × TableDesc) → ℕ → TableDesc → Type 0
 StandsAt entries place t = (name : FullName) × (slice_get entries place ≡ Some (name, t))
 
--- the columns of each
+-- the columns of each table
 abbrev pub columns_of : List (FullName × TableDesc) → List (List Column)
 columns_of entries = map (λ e. e.1.columns) entries
 
-pub all_described : (entries : List (FullName × TableDesc)) → nat_eq (length (columns_of entries)) (length (keys_of entries)) ≡ true
+pub all_described : (entries : List (FullName × TableDesc))
+    → nat_eq (length (columns_of entries)) (length (keys_of entries)) ≡ true
 all_described entries =
     eq-eqb (length (columns_of entries)) (length (keys_of entries))
-    (length-map entries (λ (e : FullName × TableDesc). e.1.columns) ∙ sym (length-map entries (λ (e : FullName × TableDesc). e.0)))
+    (length-map entries (λ (e : FullName × TableDesc). e.1.columns)
+    ∙ sym (length-map entries (λ (e : FullName × TableDesc). e.0)))
 
--- each as a view, as names see it
+-- a table as a view, as names see it
 abbrev pub seen : TableDesc → SeenView
 seen t = record { columns = t.columns; under = option_map under_of t.leaf }
 
@@ -115,6 +117,11 @@ pub record AreColumnsOver (base kinds : List Kind) (columns : List Column) : Typ
   pub kinds_are : kinds_of_columns columns ≡ kinds
   pub places : list_all (λ c. is_kind_at base c.leaf_column c.kind) columns ≡ true
 
+-- each of the columns is over a column of a base table, and of its kind
+pub record AreOverBase (b : BaseTable) (columns : List Column) : Type 0 where
+  pub places : list_all (λ c. nat_lt c.leaf_column (length b.columns)) columns ≡ true
+  pub kinds : list_all (λ c. is_kind_at (base_kinds b) c.leaf_column c.kind) columns ≡ true
+
 -- conditions on a row of the base table at a place, whose columns have these kinds
 abbrev pub AreChecksAt : ℕ → List Kind → List BoundCond → Type 0
 AreChecksAt place kinds = AllByRecursion (IsCond (only place kinds) [] (of_base_at place) [])
@@ -125,7 +132,8 @@ IsTableOf b (body.Base own) = own ≡ b
 IsTableOf b (body.View v) = ⊥
 
 -- a table described so stands under this name
-pub record IsDescribed (name : FullName) (b : BaseTable) (described : List Column) (t : TableDesc) : Type 0 where
+pub record IsDescribed (name : FullName) (b : BaseTable) (described : List Column)
+    (t : TableDesc) : Type 0 where
   pub named : IsNamed name t
   pub columns : t.columns ≡ described
   pub body : IsTableOf b t.body
@@ -143,8 +151,9 @@ pub record IsNext (bases : List BaseTable) (name : FullName) (t : TableDesc) (b 
 
 -- a view has the columns of its query, which reads tables and views that are there
 abbrev pub IsViewOver : TableKinds → List Kind → TableBody → Type 0
-IsViewOver columns kinds (body.Base b) = ⊥
-IsViewOver columns kinds (body.View v) = IsSelect columns [] [] v.query × (kinds ≡ kinds_of_select v.query)
+IsViewOver table_kinds kinds (body.Base b) = ⊥
+IsViewOver table_kinds kinds (body.View v) =
+    IsSelect table_kinds [] [] v.query × (kinds ≡ kinds_of_select v.query)
 
 -- a view of this name that can be stored behind those of a catalog
 pub record IsNextView (c : Catalog) (name : FullName) (t : TableDesc) : Type 0 where
@@ -155,7 +164,8 @@ pub record IsNextView (c : Catalog) (name : FullName) (t : TableDesc) : Type 0 w
   pub body : IsViewOver (column_kinds c) (kinds_of_columns t.columns) t.body
 
 -- a view's query, bound over the tables and views of a catalog, and what it is where it is updatable
-pub record IsBoundOver (c : Catalog) (q : BoundSpecification) (updatable : Option ((Name × Name) × UpdatableQuery)) : Type 0 where
+pub record IsBoundOver (c : Catalog) (q : BoundSpecification)
+    (updatable : Option ((Name × Name) × UpdatableQuery)) : Type 0 where
   pub fits : IfSome updatable (λ over. FitsQuery c.bases over.1)
   pub query : IsSelect (column_kinds c) [] [] q
   pub target : IfSome updatable (λ over. IsUpdatable (column_kinds c) [] (kinds_of_select q) over.1)

@@ -32,15 +32,15 @@ use Rattle.sq_catalog.specs.Exact.{column_declared, name_in}
 use Rattle.sq_catalog.specs.declared.catalog.FullName.{FullName}
 use Rattle.sq_catalog.specs.declared.typed.TypedColumn.{TypedColumn}
 
--- the definitions
+-- the definitions of columns
 abbrev pub typed_definitions : List TypedColumn → List ColumnDefinition
 typed_definitions columns = map (λ c. c.definition.now) columns
 
--- their kinds
+-- the kinds of columns
 abbrev pub typed_kinds : List TypedColumn → List Kind
 typed_kinds columns = map (λ c. kind_of c.domain) columns
 
--- of each column whether NOT NULL is written for it (11.4)
+-- whether NOT NULL is written, column by column (11.4)
 abbrev pub written_not_null : List TypedColumn → List Bool
 written_not_null columns = map (λ c. is_written_not_null c.definition.now) columns
 
@@ -55,14 +55,16 @@ held_declared typed columns = map column_declared (zip (map (λ c. c.definition.
 -- ---- steps of CREATE TABLE
 
 -- the keys and the references of a table with columns of these names, with their names found
-abbrev pub names_found : Catalog → Name → TableName → List Name → List (List Name) → List rules.Reference → Outcome (List (List ℕ) × List FoundReference)
+abbrev pub names_found : Catalog → Name → TableName → List Name → List (List Name) → List rules.Reference
+    → Outcome (List (List ℕ) × List FoundReference)
 names_found c user own names written references = do
   keys ← each (positions_of names) written
   found ← each (found_reference c user own names) references
   Ok (keys, found)
 
 -- the conditions and the columns of a table
-abbrev pub parts_made : Name → TableName → List ColumnDescriptor → List Cond → List definition.TypedColumn → Outcome (List NumberedCond × List DeclaredColumn)
+abbrev pub parts_made : Name → TableName → List ColumnDescriptor → List Cond → List definition.TypedColumn
+    → Outcome (List NumberedCond × List DeclaredColumn)
 parts_made user own descriptors conditions typed = do
   checks ← each (check_over user own descriptors) conditions
   columns ← each declared_column typed
@@ -87,7 +89,7 @@ base_made c user t d = do
     list_all (λ r. r.is_permitted) references,
   )
 
--- the privileges, the number of columns, the place of the table, and how many there are
+-- what is asked last of a table: its privileges, how many columns it has, and room for one more table
 abbrev pub rest_asked : Catalog → Name → TableName → ℕ → Bool → Outcome (Unit {0})
 rest_asked c user own width permitted = do
   refused_if fault.PrivilegeMissing (not permitted)
@@ -95,12 +97,15 @@ rest_asked c user own width permitted = do
   has_place c user own
 
 -- the keys and the references with their names found, where no two columns have one name, and the columns with their domains
-abbrev pub draft_made : Catalog → Name → TableName → List ColumnDefinition → List (List Name) → List rules.Reference → Outcome ((List (List ℕ) × List FoundReference) × List definition.TypedColumn)
+abbrev pub draft_made : Catalog → Name → TableName → List ColumnDefinition → List (List Name)
+    → List rules.Reference → Outcome ((List (List ℕ) × List FoundReference) × List definition.TypedColumn)
 draft_made c user own definitions written references = do
-  found ← refused_if fault.NameTwice (rules.has_name_twice (map (λ w. w.name) definitions)) >> names_found c user own (map (λ w. w.name) definitions) written references
+  found ← refused_if fault.NameTwice (rules.has_name_twice (map (λ w. w.name) definitions))
+      >> names_found c user own (map (λ w. w.name) definitions) written references
   columns ← each typed_column definitions
   Ok (found, columns)
 
 -- the conditions that a user writes on a table of this name with these columns, as they are bound
 abbrev pub AreChecksMade : Name → FullName → List Column → List Cond → List BoundCond → Type 0
-AreChecksMade user name columns conditions bound = each (check_over user (name_in name) (map descriptor_of columns)) conditions ≡ Ok (map cond_seen bound)
+AreChecksMade user name columns conditions bound =
+    each (check_over user (name_in name) (map descriptor_of columns)) conditions ≡ Ok (map cond_seen bound)

@@ -22,7 +22,8 @@ names_or (Some names) own = map (λ n. Some n) names
 
 -- the names of a query's columns: none twice, and none missing
 abbrev pub names_of_query : List ResultColumn → Outcome (List Name)
-names_of_query columns = refused_if fault.NameTwice (has_name_twice (own_names columns)) >> as_many columns (own_names columns)
+names_of_query columns =
+    refused_if fault.NameTwice (has_name_twice (own_names columns)) >> as_many columns (own_names columns)
 
 -- the names that are listed, or else those of the query's columns: as many as columns
 abbrev pub names_for : Option (List Name) → List ResultColumn → Outcome (List Name)
@@ -42,7 +43,8 @@ conditions_with below (Some c) = below ++ c ∷ []
 -- What is under a view over an updatable query: the base table under the query's table, the conditions below and the query's own, of
 -- which new and changed rows have to meet all with the check option, and else those that they have to meet below. Each column of the
 -- view is the one of the base table that the query shows.
-pub record IsAbove (check_option : Bool) (over : UpdatableQuery) (columns : List Column) (l : Leaf) : Type 0 where
+pub record IsAbove (check_option : Bool) (over : UpdatableQuery) (columns : List Column)
+    (l : Leaf) : Type 0 where
   pub table : l.table ≡ over.target.leaf.table
   pub conditions : l.conditions ≡ conditions_with over.target.leaf.conditions over.target.condition
   pub demanded : l.demanded ≡ (if check_option then length l.conditions else over.target.leaf.demanded)

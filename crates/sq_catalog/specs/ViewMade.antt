@@ -44,27 +44,43 @@ under_alone u = record { base = u.base; conditions = []; demanded = u.demanded }
 abbrev pub over_alone : NumberedUpdatable → NumberedUpdatable
 over_alone u = record {
   table = u.table;
-  target = record { table = (u.target).table; leaf = under_alone (u.target).leaf; condition = (u.target).condition };
+  target = record {
+    table = (u.target).table;
+    leaf = under_alone (u.target).leaf;
+    condition = (u.target).condition;
+  };
   columns = u.columns;
 }
 
 abbrev pub view_alone : NumberedView → NumberedView
-view_alone v = record { query = v.query; updatable = option_map over_alone v.updatable; may_select = v.may_select; may_grant_select = v.may_grant_select }
+view_alone v = record {
+  query = v.query;
+  updatable = option_map over_alone v.updatable;
+  may_select = v.may_select;
+  may_grant_select = v.may_grant_select;
+}
 
 abbrev pub view_found : BoundView → NumberedView
 view_found v = view_alone (view_seen v)
 
 -- rows of a base table under a table with these columns
 abbrev pub leaf_declared : List ℕ → Leaf → DeclaredUnder
-leaf_declared columns l = record { base = l.table.place; conditions = map cond_seen l.conditions; demanded = l.demanded; columns = columns }
+leaf_declared columns l = record {
+  base = l.table.place;
+  conditions = map cond_seen l.conditions;
+  demanded = l.demanded;
+  columns = columns;
+}
 
--- these are the rows under the table of a name
+-- these rows of a base table are under the table of a name
 abbrev pub IsLeafUnder : definition.Catalog → TableName → Leaf → Type 0
-IsLeafUnder c t l = (columns : List ℕ) × (option_and_then entry_under (entry c t) ≡ Some (leaf_declared columns l))
+IsLeafUnder c t l =
+    (columns : List ℕ) × (option_and_then entry_under (entry c t) ≡ Some (leaf_declared columns l))
 
 -- A view's query that is bound is the text's, over tables and views that are there, and so is what it is over where it is updatable; that
 -- has the rows under the table that is named.
-pub record IsBoundView (c : Catalog) (w : WrittenView) (q : BoundSpecification) (updatable : Option ((Name × Name) × UpdatableQuery)) : Type 0 where
+pub record IsBoundView (c : Catalog) (w : WrittenView) (q : BoundSpecification)
+    (updatable : Option ((Name × Name) × UpdatableQuery)) : Type 0 where
   pub stands : IsBoundOver c q updatable
   pub is_written : HasQueryOf (known c) w q
   pub names : NamesAre (names_written (known c) w) q
@@ -74,13 +90,17 @@ pub record IsBoundView (c : Catalog) (w : WrittenView) (q : BoundSpecification) 
 -- ---- the rules, in their order
 
 -- the check option, SELECT on what the query names, and the place of the view
-abbrev pub checked_view : definition.Catalog → Name → TableName → (check_option : Bool) → NumberedView → Outcome (Unit {0})
+abbrev pub checked_view : definition.Catalog → Name → TableName → (check_option : Bool) → NumberedView
+    → Outcome (Unit {0})
 checked_view c user t check_option v =
-    refused_if fault.BadCheckOption (check_option && is_none v.updatable) >> (refused_if fault.PrivilegeMissing (not v.may_select) >> has_place c user t)
+    refused_if fault.BadCheckOption (check_option && is_none v.updatable)
+    >> (refused_if fault.PrivilegeMissing (not v.may_select) >> has_place c user t)
 
 -- the view of a definition, with columns of these names
-abbrev pub placed_view : definition.Catalog → Name → ViewDefinition → NumberedView → List Name → Outcome NewView
-placed_view c user v bound names = checked_view c user (table_of user v.name) v.check_option bound >> Ok (new_view c user v bound names)
+abbrev pub placed_view : definition.Catalog → Name → ViewDefinition → NumberedView → List Name
+    → Outcome NewView
+placed_view c user v bound names =
+    checked_view c user (table_of user v.name) v.check_option bound >> Ok (new_view c user v bound names)
 
 -- the view of a definition whose query is bound
 abbrev pub named_view : definition.Catalog → Name → ViewDefinition → NumberedView → Outcome NewView

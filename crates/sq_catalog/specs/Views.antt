@@ -10,14 +10,14 @@ use Rattle.sq_tree.specs.declared.schema.SchemaText.{SchemaText}
 use Rattle.sq_tree.specs.declared.schema.ViewDefinition.{ViewDefinition}
 use Rattle.sq_meaning.specs.Spelled.{listed, select_of}
 use Rattle.sq_meaning.specs.Status.{Outcome}
-use Rattle.sq_bound.specs.Known.{KnownTable, KnownTables, Under}
+use Rattle.sq_bound.specs.Known.{KnownTables, StillKnown, Under}
 use Rattle.sq_bound.specs.WellFormed.{kinds_of_columns, kinds_of_select}
 use Rattle.sq_bound.specs.declared.condition.BoundSpecification.{BoundSpecification}
 use Rattle.sq_bound.specs.declared.names.Column.{Column}
 use Rattle.sq_bound.specs.declared.names.TableDesc.{TableDesc}
 use Rattle.sq_bound.specs.declared.query.UpdatableQuery.{UpdatableQuery}
 use Rattle.sq_binding.specs.PlacedQuery.{select_placed}
-use Rattle.sq_binding.proofs.ColumnNames.{names_placed}
+use Rattle.sq_binding.specs.ColumnNames.{names_placed}
 use Rattle.sq_promises.specs.Names.{outside, tables_of}
 use Rattle.sq_promises.specs.Written.{IsUpdatableOf, SelectIs}
 use Rattle.sq_catalog.specs.Catalog.{Catalog, SeenView, known, named_by}
@@ -51,30 +51,34 @@ declared_views texts = flat_map text_views texts
 
 -- ---- what a view is
 
--- its query is the text's, where names of tables mean this: it has no parameters, and is in no query
+-- a view's query is the text's, where names of tables mean this: it has no parameters, and is in no query
 abbrev pub HasQueryOf : KnownTables → WrittenView → BoundSpecification → Type 0
 HasQueryOf known w q = SelectIs (select_placed (outside known []) (select_of w.user w.view.query)) q
 
 abbrev pub names_written : KnownTables → WrittenView → Outcome (List (Option Name))
 names_written known w = names_placed (tables_of known) (select_of w.user w.view.query)
 
--- its columns have the names that are listed, or those of the query's columns
-abbrev pub column_names : Option (CommaList Name) → Outcome (List (Option Name)) → Outcome (List (Option Name))
+-- a view's columns have the names that are listed, or those of the query's columns
+abbrev pub column_names : Option (CommaList Name) → Outcome (List (Option Name))
+    → Outcome (List (Option Name))
 column_names None names = names
 column_names (Some list) names = Ok (map (λ n. Some n) (listed list))
 
 abbrev pub HasNamesOf : KnownTables → WrittenView → List Column → Type 0
-HasNamesOf known w columns = column_names w.view.columns (names_written known w) ≡ Ok (map (λ c. Some c.name) columns)
+HasNamesOf known w columns =
+    column_names w.view.columns (names_written known w) ≡ Ok (map (λ c. Some c.name) columns)
 
 -- What is under a view that may be changed: the base table under the table of its query, and behind the conditions in between its own.
 -- New and changed rows have to meet all of them where the check option is written, and else those that they have to meet below. Each
 -- column is the one of the base table that the query shows (7.9, 11.19).
-pub record IsUnderView (known : KnownTables) (w : WrittenView) (columns : List Column) (under : Under) : Type 0 where
+pub record IsUnderView (known : KnownTables) (w : WrittenView) (columns : List Column)
+    (under : Under) : Type 0 where
   pub over : UpdatableQuery
   pub is_over : IsUpdatableOf known [] (select_of w.user w.view.query) over
   pub base : under.base ≡ over.target.leaf.table.place
   pub conditions : under.conditions ≡ conditions_with over.target.leaf.conditions over.target.condition
-  pub demanded : under.demanded ≡ (if w.view.check_option then length under.conditions else over.target.leaf.demanded)
+  pub demanded : under.demanded
+      ≡ (if w.view.check_option then length under.conditions else over.target.leaf.demanded)
   pub shows : map (λ c. c.leaf_column) columns ≡ over.columns
 
 -- a view is seen as it is written: the names of its columns, and what is under it, if it may be changed
@@ -82,7 +86,7 @@ pub record IsSeenAs (known : KnownTables) (w : WrittenView) (v : SeenView) : Typ
   pub names : HasNamesOf known w v.columns
   pub under : IfSome v.under (IsUnderView known w v.columns)
 
--- its columns are of the kinds of its query's columns
+-- a view's columns are of the kinds of its query's columns
 abbrev pub HasQueryKinds : SeenView → BoundSpecification → Type 0
 HasQueryKinds v q = kinds_of_columns v.columns ≡ kinds_of_select q
 
@@ -95,17 +99,14 @@ pub record IsViewOf (known : KnownTables) (w : WrittenView) (t : TableDesc) : Ty
 
 -- ---- a catalog that grows
 
--- what was known still is
-abbrev pub StillKnown : KnownTables → KnownTables → Type 0
-StillKnown less more = (user name : Name) (t : KnownTable) → less user name ≡ Some t → more user name ≡ Some t
-
 -- views of these names, seen as these, with these queries, are added behind the others
-pub record AddsViews (old new : Catalog) (names : List FullName) (seen : List SeenView) (added : List BoundSpecification) : Type 0 where
+pub record AddsViews (old new : Catalog) (names : List FullName) (seen : List SeenView)
+    (added : List BoundSpecification) : Type 0 where
   pub view_names : new.view_names ≡ old.view_names ++ names
   pub seen_views : new.seen_views ≡ old.seen_views ++ seen
   pub views : new.views ≡ old.views ++ added
 
--- these views are added
+-- these views are added behind the others
 pub record GainsViews (old new : Catalog) (views : List WrittenView) : Type 0 where
   pub seen : List SeenView
   pub queries : List BoundSpecification

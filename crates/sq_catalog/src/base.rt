@@ -1,26 +1,24 @@
 //! The base table of a table definition (ISO/IEC 9075:1992, 11.3 to 11.9).
 
 ghost use Rattle.std.specs.Prelude.{◌≡◌, ◌||◌, IfOk, OnOk, length, map, nat_lt, true, vec_len};
-ghost use Rattle.std.specs.List.{All, AllZip, list_all, list_any};
+ghost use Rattle.std.specs.List.{list_all, list_any};
 ghost use Rattle.sq_value.specs.Domain.{kind_of};
-ghost use Rattle.sq_meaning.specs.Spelled.{table_of};
 ghost use Rattle.sq_rules.specs.declared.refusal.SchemaFault.TheVariants as refusal;
 ghost use Rattle.sq_bound.specs.Names.{are_positions, option_all};
 ghost use Rattle.sq_bound.specs.NotNull.{are_not_null};
-ghost use Rattle.sq_bound.specs.WellFormed.{base_kinds, kinds_of_columns};
+ghost use Rattle.sq_bound.specs.WellFormed.{kinds_of_columns};
 ghost use Rattle.sq_binding.specs.Seen.{cond_seen};
 ghost use Rattle.sq_declaring.specs.Key.{has_nullable, is_bad_list, is_nullable_at};
 ghost use Rattle.sq_declaring.specs.Outcome.{and_then, refused_if as asked};
 ghost use Rattle.sq_declaring.specs.Reference as reference;
 ghost use Rattle.sq_declaring.specs.Table as spec;
-ghost use Rattle.sq_declaring.specs.Table.{typed_descriptor};
 ghost use Rattle.sq_promises.specs.Names.{descriptor_of};
 ghost use Rattle.sq_catalog.specs.Checks.{AreChecksOf};
 ghost use Rattle.sq_catalog.specs.Columns.{AreBaseColumnsOf, AreColumnsOf};
-ghost use Rattle.sq_catalog.specs.Draft.{IsDraftOf, draft_seen};
+ghost use Rattle.sq_catalog.specs.Draft.{AreDraftColumns, IsBaseFor, IsDraftFor, IsDraftOf, draft_seen};
 ghost use Rattle.sq_catalog.specs.Exact.{base_declared, declared, name_in};
 ghost use Rattle.sq_catalog.specs.Fault.{Makes, Passes};
-ghost use Rattle.sq_catalog.specs.Reference.{IsBound, IsFound, found_seen, is_to, keys_with};
+ghost use Rattle.sq_catalog.specs.Reference.{found_seen};
 ghost use Rattle.sq_catalog.specs.Stored.{AreChecksAt, IsNext};
 ghost use Rattle.sq_catalog.specs.Table.{AreChecksMade, base_made, held_declared, parts_made, rest_asked, typed_definitions, typed_kinds, typed_seen, written_not_null};
 ghost use Rattle.sq_catalog.specs.Written.{conditions_lent};
@@ -53,24 +51,16 @@ impl Catalog {
         name: &FullName,
         draft: &Draft<'_>,
     ) -> Result<(TableDesc, Shared<BaseTable>), ElementFault>
-        requires named { name_in name.now ≡ table_of user draft.now.definition.now.name }
-        requires of { IsDraftOf draft.now }
-        requires found { All (IsFound self.now.bases
-            (vec_len draft.now.written.columns)) draft.now.references.items }
+        requires draft { IsDraftFor self.now.bases user name.now draft.now }
         ensures own { OnOk result (name.now.user ≡ user) }
         ensures next { IfOk result (λ new. IsNext self.now.bases name.now new.0 new.1) }
         ensures columns { IfOk result
             (λ new. AreColumnsOf (typed_definitions draft.now.columns.items) new.0.columns) }
-        ensures base_columns { IfOk result
-            (λ new. AreBaseColumnsOf (typed_definitions draft.now.columns.items) new.1.columns) }
-        ensures keys { IfOk result (λ new. new.1.keys ≡ draft.now.keys.columns) }
-        ensures primary { IfOk result (λ new. new.1.primary_key ≡ draft.now.keys.primary) }
+        ensures base { IfOk result
+            (λ new. IsBaseFor self.now.bases draft.now new.0.columns new.1) }
         ensures checks { IfOk result
             (λ new. AreChecksOf name.now new.0.columns (conditions_lent draft.now.written.checks.items)
             new.1.checks) }
-        ensures references { IfOk result
-            (λ new. AllZip (IsBound self.now.bases draft.now.keys.columns draft.now.keys.primary)
-            draft.now.references.items new.1.references) }
         ensures exact { Makes (λ new. base_declared name.now new.0.columns new.1) (spec.drafted_table
             (declared self.now) user draft.now.definition.now (draft_seen draft.now)) result }
     {
@@ -92,32 +82,15 @@ impl Catalog {
         columns: &'x [Column],
         draft: &'x Draft<'_>,
     ) -> Result<BaseTable, ElementFault>
-        requires named { name_in name.now ≡ table_of user draft.now.definition.now.name }
-        requires of { IsDraftOf draft.now }
-        requires seen { map descriptor_of columns.now
-            ≡ map (λ c. typed_descriptor (typed_seen c)) draft.now.columns.items }
-        requires width { length columns.now ≡ vec_len draft.now.written.columns }
-        requires kinds { kinds_of_columns columns.now ≡ typed_kinds draft.now.columns.items }
-        requires found { All
-            (IsFound self.now.bases (vec_len draft.now.written.columns)) draft.now.references.items }
+        requires draft { IsDraftFor self.now.bases user name.now draft.now }
+        requires columns { AreDraftColumns draft.now columns.now }
         ensures own { OnOk result (name.now.user ≡ user) }
-        ensures columns { IfOk result
-            (λ base. AreBaseColumnsOf (typed_definitions draft.now.columns.items) base.columns) }
-        ensures kinds { IfOk result (λ base. base_kinds base ≡ kinds_of_columns columns.now) }
-        ensures place { IfOk result (λ base. base.place ≡ length self.now.bases) }
-        ensures keys { IfOk result (λ base. base.keys ≡ draft.now.keys.columns) }
-        ensures primary { IfOk result (λ base. base.primary_key ≡ draft.now.keys.primary) }
-        ensures references { IfOk result
-            (λ base. AllZip (IsBound self.now.bases draft.now.keys.columns draft.now.keys.primary)
-            draft.now.references.items base.references) }
+        ensures base { IfOk result (IsBaseFor self.now.bases draft.now columns.now) }
         ensures checks { IfOk result
             (λ base. AreChecksAt (length self.now.bases) (kinds_of_columns columns.now) base.checks) }
         ensures checks_are { IfOk result
             (λ base. AreChecksOf name.now columns.now (conditions_lent draft.now.written.checks.items)
             base.checks) }
-        ensures refer { IfOk result
-            (λ base. list_all (is_to (keys_with self.now.bases base.keys) (length columns.now))
-            base.references ≡ true) }
         ensures exact { Makes (base_declared name.now columns.now) (spec.drafted_table
             (declared self.now) user draft.now.definition.now (draft_seen draft.now)) result }
     {
@@ -140,31 +113,14 @@ impl Catalog {
         columns: &'x [Column],
         draft: &'x Draft<'_>,
     ) -> Result<(BaseTable, bool), ElementFault>
-        requires named { name_in name.now ≡ table_of user draft.now.definition.now.name }
-        requires of { IsDraftOf draft.now }
-        requires seen { map descriptor_of columns.now
-            ≡ map (λ c. typed_descriptor (typed_seen c)) draft.now.columns.items }
-        requires width { length columns.now ≡ vec_len draft.now.written.columns }
-        requires kinds { kinds_of_columns columns.now ≡ typed_kinds draft.now.columns.items }
+        requires draft { IsDraftFor self.now.bases user name.now draft.now }
+        requires columns { AreDraftColumns draft.now columns.now }
         requires known_keys { list_all
             (are_not_null (written_not_null draft.now.columns.items)) draft.now.keys.columns ≡ true }
-        requires found { All
-            (IsFound self.now.bases (vec_len draft.now.written.columns)) draft.now.references.items }
-        ensures columns { IfOk result
-            (λ made. AreBaseColumnsOf (typed_definitions draft.now.columns.items) made.0.columns) }
-        ensures kinds { IfOk result (λ made. base_kinds made.0 ≡ kinds_of_columns columns.now) }
-        ensures place { IfOk result (λ made. made.0.place ≡ length self.now.bases) }
-        ensures keys { IfOk result (λ made. made.0.keys ≡ draft.now.keys.columns) }
-        ensures primary { IfOk result (λ made. made.0.primary_key ≡ draft.now.keys.primary) }
-        ensures references { IfOk result
-            (λ made. AllZip (IsBound self.now.bases draft.now.keys.columns draft.now.keys.primary)
-            draft.now.references.items made.0.references) }
+        ensures base { IfOk result (λ made. IsBaseFor self.now.bases draft.now columns.now made.0) }
         ensures checks { IfOk result
             (λ made. AreChecksMade user name.now columns.now
             (conditions_lent draft.now.written.checks.items) made.0.checks) }
-        ensures refer { IfOk result
-            (λ made. list_all (is_to (keys_with self.now.bases made.0.keys) (length columns.now))
-            made.0.references ≡ true) }
         ensures exact { Makes (λ made. (base_declared name.now columns.now made.0, made.1)) (base_made
             (declared self.now) user draft.now.definition.now (draft_seen draft.now)) result }
     {

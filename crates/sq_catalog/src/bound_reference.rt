@@ -110,10 +110,12 @@ impl BoundReferences {
             (AddsBound own.entry.before.now own.entry.keys.now.columns own.entry.keys.now.primary
             reference.now self.old.references self.new.references) }
         ensures made { OnOk result (IsReferenceMade
-            (definition.bound_reference (declared catalog.now) user (own_seen own.entry) (found_seen reference.now))
+            (definition.bound_reference (declared catalog.now) user (own_seen own.entry)
+            (found_seen reference.now))
             self.old self.new) }
         ensures stops { IfErr result (Stops
-            (definition.bound_reference (declared catalog.now) user (own_seen own.entry) (found_seen reference.now))) }
+            (definition.bound_reference (declared catalog.now) user (own_seen own.entry)
+            (found_seen reference.now))) }
     {
         let (bound, is_permitted) = checked_reference(catalog, user, own, reference)?;
         self.references.push(bound)?;
@@ -230,7 +232,8 @@ fn reference_to<'a>(
     ensures positions { IfOk result
         (λ bound. (width : ℕ) → are_positions width columns.now ≡ true → are_positions width bound.by_key
         ≡ true) }
-    ensures by_key { IfOk result (λ bound. map (paired_with key.entry.listed.now columns.now) key.entry.columns.now
+    ensures by_key { IfOk result
+        (λ bound. map (paired_with key.entry.listed.now columns.now) key.entry.columns.now
         ≡ map (λ own. Some own) bound.by_key) }
     ensures memory { IfErr result (λ fault. fault ≡ NoMemory) }
 {
@@ -255,7 +258,8 @@ fn pair_well(own: &[Column], columns: &[usize], target: &[Column], listed: &[usi
 /// Whether each two paired columns are both numbers or both texts.
 fn kinds_agree(own: &[Column], columns: &[usize], target: &[Column], listed: &[usize]) -> bool
     requires pairs { length columns.now ≡ length listed.now }
-    ensures { result ≡ list_all (definition.are_paired (kinds_of_columns own.now) (kinds_of_columns target.now))
+    ensures { result ≡ list_all
+        (definition.are_paired (kinds_of_columns own.now) (kinds_of_columns target.now))
         (zip columns.now listed.now) }
 {
     for (pair, column) in columns.iter().enumerate() {

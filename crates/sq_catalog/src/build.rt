@@ -39,7 +39,8 @@ impl Catalog {
             (Gains self.old self.new (declared_tables texts.now) (declared_definitions texts.now)) }
         ensures views { OnOk result (GainsViews self.old self.new (declared_views texts.now)) }
         ensures refused { IfErr result (IsOfSomeText (length texts.now)) }
-        ensures exact { Builds (with_parts (schema_parts texts.now) (declared self.old)) (declared self.new) result }
+        ensures exact { Builds (with_parts (schema_parts texts.now) (declared self.old))
+            (declared self.new) result }
     {
         for (number, text) in texts.iter().enumerate() {
             if let Err(fault) = self.add_text(number, text) {
@@ -78,7 +79,8 @@ impl Catalog {
             (Gains self.old self.new (schema_tables definition.now) (schema_definitions definition.now)) }
         ensures views { OnOk result (GainsViews self.old self.new (schema_views definition.now)) }
         ensures refused { IfErr result (IsOfText text) }
-        ensures exact { Builds (with_parts (parts_of_schema text (schema, definition.now)) (declared self.old))
+        ensures exact { Builds
+            (with_parts (parts_of_schema text (schema, definition.now)) (declared self.old))
             (declared self.new) result }
     {
         let user = definition.authorization;

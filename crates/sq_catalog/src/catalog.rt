@@ -77,10 +77,35 @@ impl Model for Catalog {
 
     ghost Value = { Catalog };
 
-    ghost coded = { Prim.hlevel
-        (codes, table.the_row.coded, base.the_row.coded, column.the_row.coded, condition.the_row.coded, predicate.the_row.coded, specification.the_row.coded, expression.the_row.coded, seen.the_row.coded, AreViewQueries-prop) };
+    ghost coded = { Prim.hlevel (
+      codes,
+      table.the_row.coded,
+      base.the_row.coded,
+      column.the_row.coded,
+      condition.the_row.coded,
+      predicate.the_row.coded,
+      specification.the_row.coded,
+      expression.the_row.coded,
+      seen.the_row.coded,
+      AreViewQueries-prop,
+    ) };
 
-    ghost view = { λ c. record { users = c.users.keys; base_entries = c.bases.entries; view_entries = c.views.entries; grants = grants_held c.held; tables = keys_of c.bases.entries; columns = columns_of c.bases.entries; bases = c.base_tables.items; view_names = keys_of c.views.entries; seen_views = seen_of c.views.entries; views = queries_of c.views.entries; described = all_described c.bases.entries; counted = c.counted; refer = c.refer; stand = c.stand } };
+    ghost view = { λ c. record {
+      users = c.users.keys;
+      base_entries = c.bases.entries;
+      view_entries = c.views.entries;
+      grants = grants_held c.held;
+      tables = keys_of c.bases.entries;
+      columns = columns_of c.bases.entries;
+      bases = c.base_tables.items;
+      view_names = keys_of c.views.entries;
+      seen_views = seen_of c.views.entries;
+      views = queries_of c.views.entries;
+      described = all_described c.bases.entries;
+      counted = c.counted;
+      refer = c.refer;
+      stand = c.stand;
+    } };
 
     ghost invariant = { λ c. AreStored c.base_tables.items c.bases.entries
         × AreStored c.base_tables.items c.views.entries
@@ -127,7 +152,8 @@ impl Catalog {
     ) -> Result<(), ElementFault>
         ensures new { OnOk result (full_name.now.user ≡ user → IsNewName self.now full_name.now) }
         ensures exact { Passes
-            (outcome.refused_if refusal.NameTwice (is_taken (declared self.now) user (name_in full_name.now))) result }
+            (outcome.refused_if refusal.NameTwice (is_taken (declared self.now) user (name_in full_name.now)))
+            result }
     {
         let is_used = full_name.user == user && self.entry(full_name).is_some();
         refused_if(is_used, SchemaFault::NameTwice)
@@ -193,7 +219,8 @@ impl Catalog {
             entry.1.now.columns entry.1.now.body) }
         ensures exact { option_map (λ entry. entry_declared full_name.now entry.1.now) result
             ≡ definition.entry (declared self.now) (name_in full_name.now) }
-        ensures described { option_map (λ entry. entry.1.now) result ≡ described self.now (name_in full_name.now) }
+        ensures described { option_map (λ entry. entry.1.now) result
+            ≡ described self.now (name_in full_name.now) }
     {
         match self.bases.get_full(full_name) {
             Some((place, _, table)) => Some((TablePlace::Base(place), table)),
@@ -224,7 +251,8 @@ fn value_at(tables: &IndexMap<FullName, TableDesc>, place: usize) -> Option<&Tab
     ensures stored { IfSome result
         (λ table. (bases : List Base) → AreStored bases tables.now.entries → IsStored bases table.now) }
     ensures well_formed { IfSome result
-        (λ table. (columns : TableKinds) → AreTables columns tables.now.entries → IsTable columns table.now) }
+        (λ table. (table_kinds : TableKinds) → AreTables table_kinds tables.now.entries
+        → IsTable table_kinds table.now) }
     ensures there { IfSome result (λ table. StandsAt tables.now.entries place table.now) }
     ensures found { place < length tables.now.entries → IsSome result }
 {

@@ -12,7 +12,7 @@ ghost use Rattle.sq_declaring.specs.Column as definition;
 ghost use Rattle.sq_declaring.specs.Outcome.{each};
 ghost use Rattle.sq_declaring.specs.Table.{typed_descriptor};
 ghost use Rattle.sq_promises.specs.Names.{descriptor_of};
-ghost use Rattle.sq_catalog.specs.Columns.{AreBaseColumnsOf, AreColumnsOf, IsDefaultOf, IsStoredAs, fits};
+ghost use Rattle.sq_catalog.specs.Columns.{AreBaseColumnsOf, AreColumnsOf, IsDefaultOf, IsStoredAs};
 ghost use Rattle.sq_catalog.specs.Exact.{column_declared};
 ghost use Rattle.sq_catalog.specs.Fault.{Makes};
 ghost use Rattle.sq_catalog.specs.declared.fault.ElementFault.TheVariants.{Refused};
@@ -23,7 +23,7 @@ ghost use Rattle.sq_catalog.specs.Written.{is_written_not_null};
 use crate::fault::ElementFault;
 use crate::typed::TypedColumn;
 use crate::written::is_not_null;
-use sq_bound::{BaseColumn, Column, ColumnDefault};
+use sq_bound::{BaseColumn, Column, ColumnDefault, fits_kind};
 use sq_items::Items;
 use sq_literal::{signed_value, text_value};
 use sq_rules::SchemaFault;
@@ -149,7 +149,7 @@ fn stored_default(
     ensures stored { IfOk result (IsStoredAs domain value) }
     ensures exact { Makes (λ default. default) (definition.stored (assigned domain value)) result }
 {
-    if !fits_kind(&value, domain) {
+    if !fits_kind(domain, &value) {
         drop(value);
         return bad_default();
     }
@@ -158,17 +158,5 @@ fn stored_default(
         Err(StoreFault::NoMemory) => Err(ElementFault::NoMemory),
         Err(StoreFault::Range) => bad_default(),
         Err(StoreFault::TooLong) => bad_default(),
-    }
-}
-
-/// Whether the value is null, a number in a domain of numbers, or a text in one of texts.
-fn fits_kind(value: &Value, domain: Domain) -> bool
-    ensures { result ≡ fits domain value.now }
-{
-    match (value, domain) {
-        (Value::Null, _) => true,
-        (Value::Num(_), Domain::Small | Domain::Int | Domain::Numeric(_, _)) => true,
-        (Value::Chars(_), Domain::Char(_) | Domain::VarChar(_)) => true,
-        _ => false,
     }
 }

@@ -1,10 +1,7 @@
 //! A base table as names see it, whose rows are those of its leaf.
 
-ghost use Rattle.std.specs.Prelude.{◌≡◌, [], IfErr, IfOk, length, nat_lt, true};
-ghost use Rattle.std.specs.List.{list_all};
-ghost use Rattle.sq_bound.specs.Names.{is_kind_at};
-ghost use Rattle.sq_bound.specs.WellFormed.{base_kinds};
-ghost use Rattle.sq_catalog.specs.Stored.{IsDescribed};
+ghost use Rattle.std.specs.Prelude.{◌≡◌, [], IfErr, IfOk};
+ghost use Rattle.sq_catalog.specs.Stored.{AreOverBase, IsDescribed};
 ghost use Rattle.sq_catalog.specs.declared.fault.ElementFault.TheVariants.{NoMemory};
 
 use crate::catalog::FullName;
@@ -20,8 +17,7 @@ pub(crate) fn described(
     columns: Items<Column>,
     base: BaseTable,
 ) -> Result<(TableDesc, Shared<BaseTable>), ElementFault>
-    requires columns { list_all (λ c. nat_lt c.leaf_column (length base.columns)) columns ≡ true }
-    requires kinds { list_all (λ c. is_kind_at (base_kinds base) c.leaf_column c.kind) columns ≡ true }
+    requires columns { AreOverBase base columns }
     ensures base { IfOk result (λ new. new.1 ≡ base) }
     ensures table { IfOk result (λ new. IsDescribed name.now base columns new.0) }
     ensures memory { IfErr result (λ fault. fault ≡ NoMemory) }
@@ -38,8 +34,7 @@ fn table_and_base(
     columns: Items<Column>,
     base: BaseTable,
 ) -> Result<(TableDesc, Shared<BaseTable>), AllocError>
-    requires columns { list_all (λ c. nat_lt c.leaf_column (length base.columns)) columns ≡ true }
-    requires kinds { list_all (λ c. is_kind_at (base_kinds base) c.leaf_column c.kind) columns ≡ true }
+    requires columns { AreOverBase base columns }
     ensures base { IfOk result (λ new. new.1 ≡ base) }
     ensures table { IfOk result (λ new. IsDescribed name.now base columns new.0) }
 {
@@ -56,8 +51,7 @@ fn table_over(
     columns: Items<Column>,
     base: &Shared<BaseTable>,
 ) -> Result<TableDesc, AllocError>
-    requires columns { list_all (λ c. nat_lt c.leaf_column (length base.now.columns)) columns ≡ true }
-    requires kinds { list_all (λ c. is_kind_at (base_kinds base.now) c.leaf_column c.kind) columns ≡ true }
+    requires columns { AreOverBase base.now columns }
     ensures { IfOk result (IsDescribed name.now base.now columns) }
 {
     match owners(alloc, base) {
@@ -78,8 +72,7 @@ fn base_table(
     requires leaf { leaf.table ≡ base }
     requires conditions { leaf.conditions ≡ [] }
     requires demanded { leaf.demanded ≡ 0 }
-    requires columns { list_all (λ c. nat_lt c.leaf_column (length leaf.table.columns)) columns ≡ true }
-    requires kinds { list_all (λ c. is_kind_at (base_kinds leaf.table) c.leaf_column c.kind) columns ≡ true }
+    requires columns { AreOverBase leaf.table columns }
     ensures { IsDescribed name.now base columns result }
 {
     TableDesc {

@@ -37,7 +37,8 @@ impl Catalog {
     ) -> Result<(), ElementFault>
         ensures tables { OnOk result (Gains self.old self.new [] []) }
         ensures views { OnOk result (GainsViews self.old self.new []) }
-        ensures exact { Makes (λ _. declared self.new) (spec.grant (declared self.old) user statement.now) result }
+        ensures exact { Makes (λ _. declared self.new)
+            (spec.grant (declared self.old) user statement.now) result }
     {
         match self.grants_of(user, statement) {
             Ok(grants) => {
@@ -55,7 +56,8 @@ impl Catalog {
         user: Name,
         statement: &GrantStatement,
     ) -> Result<Items<Grant>, ElementFault>
-        ensures { Makes (map grant_seen) (spec.declared_grants (declared self.now) user statement.now) result }
+        ensures { Makes (map grant_seen)
+            (spec.declared_grants (declared self.now) user statement.now) result }
     {
         let name = full_name(user, statement.table);
         match self.entry(&name) {
@@ -72,7 +74,8 @@ impl Catalog {
         table: &TableDesc,
         statement: &GrantStatement,
     ) -> Result<Items<Grant>, ElementFault>
-        ensures { Makes (map grant_seen) (spec.grants_on (may (declared self.now) true user (name_in name.now))
+        ensures { Makes (map grant_seen)
+            (spec.grants_on (may (declared self.now) true user (name_in name.now))
             (names_in table.now.columns) (name_in name.now) statement.now) result }
     {
         let columns = column_names(self.alloc(), table.columns.as_slice())?;
@@ -89,7 +92,8 @@ impl Catalog {
         columns: &[Name],
         statement: &GrantStatement,
     ) -> Result<Items<Grant>, ElementFault>
-        ensures { Makes (map grant_seen) (spec.grants_on (may (declared self.now) true user (name_in name.now))
+        ensures { Makes (map grant_seen)
+            (spec.grants_on (may (declared self.now) true user (name_in name.now))
             columns.now (name_in name.now) statement.now) result }
     {
         if has_unknown(columns, &statement.privileges) {
@@ -98,7 +102,7 @@ impl Catalog {
         self.grants_if_held(user, name, columns, statement)
     }
 
-    /// The same, where all columns that it names are there.
+    /// The grants of a statement all of whose columns exist.
     fn grants_if_held(
         &self,
         user: Name,
@@ -106,7 +110,8 @@ impl Catalog {
         columns: &[Name],
         statement: &GrantStatement,
     ) -> Result<Items<Grant>, ElementFault>
-        ensures { Makes (map grant_seen) (grants_if_held (may (declared self.now) true user (name_in name.now))
+        ensures { Makes (map grant_seen)
+            (grants_if_held (may (declared self.now) true user (name_in name.now))
             columns.now (name_in name.now) statement.now) result }
     {
         match self.privileges_granted(user, name, columns, &statement.privileges) {
@@ -159,7 +164,8 @@ impl Catalog {
         privileges: &[Privilege],
     ) -> Result<Items<Privilege>, AllocError>
         ensures { IfOk result (λ held. map privilege_of held
-            ≡ filter (may (declared self.now) true user (name_in name.now)) (map privilege_of privileges.now)) }
+            ≡ filter (may (declared self.now) true user (name_in name.now))
+            (map privilege_of privileges.now)) }
     {
         let mut held = Items::new(self.alloc());
         for privilege in privileges {

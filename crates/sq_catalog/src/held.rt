@@ -25,7 +25,7 @@ pub(crate) struct Grant {
     pub user: Option<Name>,
     pub table: FullName,
     pub privilege: Privilege,
-    /// Whether it is the grant option that is held.
+    /// Whether the grant option is held.
     pub to_grant: bool,
 }
 
@@ -111,7 +111,8 @@ impl Catalog {
         name: &FullName,
         privilege: &Privilege,
     ) -> bool
-        ensures { result ≡ may (declared self.now) to_grant user (name_in name.now) (privilege_of privilege.now) }
+        ensures { result ≡ may (declared self.now) to_grant user (name_in name.now)
+            (privilege_of privilege.now) }
     {
         match self.entry(name) {
             Some((_, table)) => self.may_on(to_grant, user, name, privilege, table),
@@ -119,7 +120,7 @@ impl Catalog {
         }
     }
 
-    /// The same, on a table that is there.
+    /// Whether a user holds a privilege on this table, or with `to_grant` its grant option.
     fn may_on(
         &self,
         to_grant: bool,

@@ -13,7 +13,8 @@ ghost use Rattle.sq_catalog.specs.Written.{column_count, names_at};
 ghost use Rattle.sq_catalog.specs.declared.fault.ElementFault.TheVariants.{NoMemory};
 
 use crate::fault::ElementFault;
-use crate::written::{NamedColumns, WrittenKey, has_twice};
+use crate::written::{NamedColumns, WrittenKey};
+use sq_bound::are_distinct;
 use sq_items::Items;
 use std::alloc::Global;
 
@@ -31,7 +32,7 @@ pub(crate) struct Keys {
 }
 
 /// The keys with their columns found among the names.
-pub(crate) fn keys_of(
+pub(crate) fn keys_by_position(
     alloc: Global,
     named: &NamedColumns,
     written: &[WrittenKey],
@@ -117,8 +118,9 @@ fn have_bad_list(keys: &[Items<usize>]) -> bool
 }
 
 /// Whether a list has a column twice or more than 6.
+#[tactic(auto, using(crate::proofs::Twice::twice_is))]
 pub(crate) fn is_bad_list(positions: &[usize]) -> bool
     ensures { result ≡ definition.is_bad_list positions.now }
 {
-    positions.len() > MOST_KEY_COLUMNS || has_twice(positions)
+    positions.len() > MOST_KEY_COLUMNS || !are_distinct(positions)
 }

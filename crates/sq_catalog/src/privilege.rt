@@ -2,9 +2,8 @@
 
 ghost use Rattle.std.specs.Prelude.{◌≡◌, ◌++◌, IfOk, OnOk, flat_map, map};
 ghost use Rattle.sq_meaning.specs.Spelled.{listed};
-ghost use Rattle.sq_rules.specs.Privilege as rules;
 ghost use Rattle.sq_rules.specs.SchemaRefusal.{action_privileges, all_privileges, columns_granted};
-ghost use Rattle.sq_catalog.specs.Held.{privilege_of};
+ghost use Rattle.sq_catalog.specs.Held.{privilege_of, privilege_on};
 
 use sq_items::Items;
 use sq_lex::Name;
@@ -22,6 +21,25 @@ pub(crate) enum Privilege {
     References(Name),
 }
 
+/// An action whose privilege is held column by column.
+#[derive(Clone, Copy)]
+pub(crate) enum ColumnAction {
+    Update,
+    References,
+}
+
+impl ColumnAction {
+    /// The privilege of the action on this column.
+    fn on(self, column: Name) -> Privilege
+        ensures { privilege_of result ≡ privilege_on self column }
+    {
+        match self {
+            ColumnAction::Update => Privilege::Update(column),
+            ColumnAction::References => Privilege::References(column),
+        }
+    }
+}
+
 /// All privileges on a table of these columns.
 pub(crate) fn all_privileges(
     alloc: Global,
@@ -33,8 +51,8 @@ pub(crate) fn all_privileges(
     privileges.push(Privilege::Select)?;
     privileges.push(Privilege::Insert)?;
     privileges.push(Privilege::Delete)?;
-    push_updates(&mut privileges, columns)?;
-    push_references(&mut privileges, columns)?;
+    push_columns(&mut privileges, ColumnAction::Update, columns)?;
+    push_columns(&mut privileges, ColumnAction::References, columns)?;
     Ok(privileges)
 }
 
@@ -80,63 +98,44 @@ fn push_action(
         Action::Select => privileges.push(Privilege::Select),
         Action::Insert => privileges.push(Privilege::Insert),
         Action::Delete => privileges.push(Privilege::Delete),
-        Action::Update(list) => push_update(privileges, columns, list),
-        Action::References(list) => push_reference(privileges, columns, list),
-    }
-}
-
-fn push_update(
-    privileges: &mut Items<Privilege>,
-    columns: &[Name],
-    list: &Option<CommaList<Name>>,
-) -> Result<(), AllocError>
-    ensures { OnOk result (map privilege_of privileges.new
-        ≡ map privilege_of privileges.old ++ map rules.Privilege.update (columns_granted columns.now list.now)) }
-{
-    match list {
-        None => push_updates(privileges, columns),
-        Some(list) => {
-            push_updates(privileges, from_ref(&list.first))?;
-            push_updates(privileges, list.rest.as_slice())
+        Action::Update(list) => push_granted(privileges, ColumnAction::Update, columns, list),
+        Action::References(list) => {
+            push_granted(privileges, ColumnAction::References, columns, list)
         }
     }
 }
 
-fn push_reference(
+/// The privilege of an action on each column of a list, or on all columns where none is written.
+fn push_granted(
     privileges: &mut Items<Privilege>,
+    action: ColumnAction,
     columns: &[Name],
     list: &Option<CommaList<Name>>,
 ) -> Result<(), AllocError>
     ensures { OnOk result (map privilege_of privileges.new
-        ≡ map privilege_of privileges.old ++ map rules.Privilege.references (columns_granted columns.now list.now)) }
+        ≡ map privilege_of privileges.old
+        ++ map (privilege_on action) (columns_granted columns.now list.now)) }
 {
     match list {
-        None => push_references(privileges, columns),
+        None => push_columns(privileges, action, columns),
         Some(list) => {
-            push_references(privileges, from_ref(&list.first))?;
-            push_references(privileges, list.rest.as_slice())
+            push_columns(privileges, action, from_ref(&list.first))?;
+            push_columns(privileges, action, list.rest.as_slice())
         }
     }
 }
 
-/// UPDATE of each column.
-fn push_updates(privileges: &mut Items<Privilege>, columns: &[Name]) -> Result<(), AllocError>
+/// The privilege of an action on each column.
+fn push_columns(
+    privileges: &mut Items<Privilege>,
+    action: ColumnAction,
+    columns: &[Name],
+) -> Result<(), AllocError>
     ensures { OnOk result (map privilege_of privileges.new
-        ≡ map privilege_of privileges.old ++ map rules.Privilege.update columns.now) }
+        ≡ map privilege_of privileges.old ++ map (privilege_on action) columns.now) }
 {
     for column in columns {
-        privileges.push(Privilege::Update(*column))?;
-    }
-    Ok(())
-}
-
-/// REFERENCES of each column.
-fn push_references(privileges: &mut Items<Privilege>, columns: &[Name]) -> Result<(), AllocError>
-    ensures { OnOk result (map privilege_of privileges.new
-        ≡ map privilege_of privileges.old ++ map rules.Privilege.references columns.now) }
-{
-    for column in columns {
-        privileges.push(Privilege::References(*column))?;
+        privileges.push(action.on(*column))?;
     }
     Ok(())
 }

@@ -36,7 +36,8 @@ pub(crate) fn target_of<'a>(
     ensures columns { IfOk result
         (λ target. length target.columns.now ≡ target_width (length own.entry.columns.now) earlier.entry) }
     ensures found { IfOk result
-        (λ target. IsTarget own.entry.before.now own.entry.keys.now.columns own.entry.keys.now.primary earlier.entry
+        (λ target. IsTarget own.entry.before.now own.entry.keys.now.columns own.entry.keys.now.primary
+        earlier.entry
         target.place target.keys.now target.primary) }
     ensures names { IfOk result (λ target. column_names target.columns.now
         ≡ names_in (column_names own.entry.columns.now) earlier.entry) }

@@ -1,7 +1,7 @@
 //! CREATE TABLE (ISO/IEC 9075:1992, 11.3 to 11.9).
 
-ghost use Rattle.std.specs.Prelude.{◌≡◌, ◌∷◌, [], IfOk, OnOk, length, map, nat_lt, true, vec_len};
-ghost use Rattle.std.specs.List.{All, AllZip, list_all};
+ghost use Rattle.std.specs.Prelude.{◌≡◌, ◌∷◌, [], IfOk, OnOk, map, true, vec_len};
+ghost use Rattle.std.specs.List.{list_all};
 ghost use Rattle.sq_meaning.specs.Spelled.{table_of};
 ghost use Rattle.sq_rules.specs.Schema as rules;
 ghost use Rattle.sq_rules.specs.declared.refusal.SchemaFault.TheVariants as refusal;
@@ -12,11 +12,11 @@ ghost use Rattle.sq_catalog.specs.Base.{IsBaseOf};
 ghost use Rattle.sq_catalog.specs.Catalog.{Gains, IsNewName, named_by};
 ghost use Rattle.sq_catalog.specs.Checks.{checks_written};
 ghost use Rattle.sq_catalog.specs.Columns.{HasColumnsOf, columns_written};
-ghost use Rattle.sq_catalog.specs.Draft.{IsDraftOf, draft_seen, written_names};
+ghost use Rattle.sq_catalog.specs.Draft.{IsDraftOf, NamesAreFound, draft_seen, written_names};
 ghost use Rattle.sq_catalog.specs.Exact.{base_declared, declared, name_in};
 ghost use Rattle.sq_catalog.specs.Fault.{Makes};
-ghost use Rattle.sq_catalog.specs.Keys.{KeysStandAt, keys_written, names_written, primaries, primary_among};
-ghost use Rattle.sq_catalog.specs.Reference.{IsFound, IsFoundAs, MakesReferences, constraints_lent, found_seen, reference_seen};
+ghost use Rattle.sq_catalog.specs.Keys.{keys_written, names_written};
+ghost use Rattle.sq_catalog.specs.Reference.{MakesReferences, constraints_lent, found_seen, reference_seen};
 ghost use Rattle.sq_catalog.specs.References.{references_written};
 ghost use Rattle.sq_catalog.specs.Stored.{IsNext};
 ghost use Rattle.sq_catalog.specs.Table.{draft_made, names_found, typed_definitions, typed_seen};
@@ -26,7 +26,7 @@ ghost use Rattle.sq_catalog.specs.Written.{column_count, conditions_lent, defini
 use crate::catalog::{Catalog, FullName, full_name};
 use crate::draft::Draft;
 use crate::fault::ElementFault;
-use crate::key::{Keys, keys_of};
+use crate::key::{Keys, keys_by_position};
 use crate::reference::{FoundReference, OwnTable, references_of};
 use crate::typed::TypedColumn;
 use crate::written::{NamedColumns, Written, named_columns, parts_of, typed_columns};
@@ -85,20 +85,14 @@ impl Catalog {
         definition: &'t TableDefinition,
     ) -> Result<Draft<'t>, ElementFault>
         requires { name_in name.now ≡ table_of user definition.now.name }
-        ensures found { IfOk result
-            (λ draft. All (IsFound self.now.bases (vec_len draft.written.columns)) draft.references.items) }
         ensures columns { IfOk result
             (λ draft. typed_definitions draft.columns.items ≡ columns_written definition.now) }
-        ensures keys { IfOk result
-            (λ draft. KeysStandAt (names_written definition.now)
-            (keys_written definition.now) draft.keys.columns) }
-        ensures primary { IfOk result
-            (λ draft. draft.keys.primary ≡ primary_among (keys_written definition.now)) }
+        ensures named { IfOk result
+            (λ draft. NamesAreFound self.now user name.now (names_written definition.now)
+            (vec_len draft.written.columns) (keys_written definition.now) (references_written definition.now)
+            draft.keys draft.references.items) }
         ensures checks { IfOk result
             (λ draft. conditions_lent draft.written.checks.items ≡ checks_written definition.now) }
-        ensures references { IfOk result
-            (λ draft. AllZip (IsFoundAs self.now user name.now (names_written definition.now))
-            (references_written definition.now) draft.references.items) }
         ensures definition { IfOk result (λ draft. draft.definition.now ≡ definition.now) }
         ensures of { IfOk result IsDraftOf }
         ensures exact { Makes draft_seen (spec.drafted (declared self.now) user definition.now) result }
@@ -123,19 +117,10 @@ impl Catalog {
         ensures columns { IfOk result (λ parts. typed_definitions parts.1.items
             ≡ definitions_lent written.now.columns.items) }
         ensures count { IfOk result (λ parts. vec_len parts.1 ≡ vec_len written.now.columns) }
-        ensures within { IfOk result (λ parts. list_all (are_positions (vec_len written.now.columns))
-            parts.0.0.columns ≡ true) }
-        ensures keys { IfOk result (λ parts. KeysStandAt (written_names written.now)
-            written.now.keys.items parts.0.0.columns) }
-        ensures primary { IfOk result
-            (λ parts. parts.0.0.primary ≡ primary_among written.now.keys.items) }
-        ensures two { IfOk result
-            (λ parts. parts.0.0.has_two_primary ≡ nat_lt 1 (length (primaries written.now.keys.items))) }
-        ensures found { IfOk result
-            (λ parts. All (IsFound self.now.bases (vec_len written.now.columns)) parts.0.1.items) }
-        ensures references { IfOk result
-            (λ parts. AllZip (IsFoundAs self.now user name.now (written_names written.now))
-            (constraints_lent written.now.references.items) parts.0.1.items) }
+        ensures named { IfOk result
+            (λ parts. NamesAreFound self.now user name.now (written_names written.now)
+            (vec_len written.now.columns) written.now.keys.items
+            (constraints_lent written.now.references.items) parts.0.0 parts.0.1.items) }
         ensures exact { Makes (λ parts.
             ((parts.0.0.columns, map found_seen parts.0.1.items), map typed_seen parts.1.items))
             (draft_made (declared self.now) user (name_in name.now)
@@ -154,18 +139,10 @@ impl Catalog {
         name: &FullName,
         written: &Written<'_>,
     ) -> Result<(Keys, Vec<FoundReference<'t>>), ElementFault>
-        ensures within { IfOk result (λ found. list_all (are_positions (vec_len written.now.columns))
-            found.0.columns ≡ true) }
-        ensures keys { IfOk result (λ found. KeysStandAt (written_names written.now)
-            written.now.keys.items found.0.columns) }
-        ensures primary { IfOk result (λ found. found.0.primary ≡ primary_among written.now.keys.items) }
-        ensures two { IfOk result
-            (λ found. found.0.has_two_primary ≡ nat_lt 1 (length (primaries written.now.keys.items))) }
-        ensures found { IfOk result
-            (λ found. All (IsFound self.now.bases (vec_len written.now.columns)) found.1.items) }
-        ensures references { IfOk result
-            (λ found. AllZip (IsFoundAs self.now user name.now (written_names written.now))
-            (constraints_lent written.now.references.items) found.1.items) }
+        ensures named { IfOk result
+            (λ found. NamesAreFound self.now user name.now (written_names written.now)
+            (vec_len written.now.columns) written.now.keys.items
+            (constraints_lent written.now.references.items) found.0 found.1.items) }
         ensures exact { Makes (λ found. (found.0.columns, map found_seen found.1.items))
             (and_then (asked refusal.NameTwice (rules.has_name_twice (written_names written.now)))
             (λ _. names_found (declared self.now) user (name_in name.now) (written_names written.now)
@@ -186,18 +163,10 @@ impl Catalog {
         columns: &NamedColumns,
         written: &Written<'_>,
     ) -> Result<(Keys, Vec<FoundReference<'t>>), ElementFault>
-        ensures keys { IfOk result
-            (λ found. list_all (are_positions (column_count columns.now)) found.0.columns ≡ true) }
         ensures named { IfOk result
-            (λ found. KeysStandAt (names_at columns.now) written.now.keys.items found.0.columns) }
-        ensures primary { IfOk result (λ found. found.0.primary ≡ primary_among written.now.keys.items) }
-        ensures two { IfOk result
-            (λ found. found.0.has_two_primary ≡ nat_lt 1 (length (primaries written.now.keys.items))) }
-        ensures references { IfOk result
-            (λ found. All (IsFound self.now.bases (column_count columns.now)) found.1.items) }
-        ensures constraints { IfOk result
-            (λ found. AllZip (IsFoundAs self.now user full_name.now (names_at columns.now))
-            (constraints_lent written.now.references.items) found.1.items) }
+            (λ found. NamesAreFound self.now user full_name.now (names_at columns.now)
+            (column_count columns.now) written.now.keys.items
+            (constraints_lent written.now.references.items) found.0 found.1.items) }
         ensures exact { Makes (λ found. (found.0.columns, map found_seen found.1.items))
             (names_found (declared self.now) user (name_in full_name.now)
             (names_at columns.now) (map (λ key. key.columns) written.now.keys.items)
@@ -208,7 +177,7 @@ impl Catalog {
             full_name: *full_name,
             columns,
         };
-        let keys = keys_of(self.alloc(), columns, written.keys.as_slice());
+        let keys = keys_by_position(self.alloc(), columns, written.keys.as_slice());
         let references = references_of(self, &own, written.references.as_slice());
         pair_of(keys, references)
     }

@@ -93,7 +93,8 @@ impl Catalog {
 
     /// The query of a view definition, bound.
     fn bound_view(&self, user: Name, definition: &ViewDefinition) -> Result<BoundView, ElementFault>
-        ensures bound { IfOk result (λ view. IsBoundView self.now (record { user = user; view = definition.now })
+        ensures bound { IfOk result
+            (λ view. IsBoundView self.now (record { user = user; view = definition.now })
             view.query view.updatable) }
         ensures exact { Makes view_found (spec.or_bad_view (view_bound (names_of (declared self.now) user)
             (meaning.select_of user definition.now.query))) result }
@@ -202,7 +203,8 @@ impl Catalog {
         ensures over { IfOk result (λ view. IsOverQuery check_option bound.updatable view.table) }
         ensures placed { IfOk result
             (λ view. place_of view.table.body ≡ View (length (declared self.now).views)) }
-        ensures grants { IfOk result (λ view. map grant_seen view.grants ≡ spec.view_grants (declared self.now) user
+        ensures grants { IfOk result
+            (λ view. map grant_seen view.grants ≡ spec.view_grants (declared self.now) user
             (name_in name.now) names (view_found bound)) }
     {
         match self.view_grants(user, name, names.as_slice(), &bound) {

@@ -86,7 +86,8 @@ impl Catalog {
         names: &[Name],
         shown: &[BoundExpr],
     ) -> Result<(), AllocError>
-        ensures { OnOk result (HoldsMore grants.old grants.new (followed_over (declared self.now) owner over.now
+        ensures { OnOk result (HoldsMore grants.old grants.new
+            (followed_over (declared self.now) owner over.now
             names.now (map numbered_of shown.now))) }
     {
         self.push_followed(grants, owner, over, &Privilege::Insert, &Privilege::Insert)?;
@@ -109,7 +110,8 @@ impl Catalog {
         names: &[Name],
         shown: &[BoundExpr],
     ) -> Result<(), AllocError>
-        ensures { OnOk result (HoldsMore grants.old grants.new (updates_over (declared self.now) owner over.now
+        ensures { OnOk result (HoldsMore grants.old grants.new
+            (updates_over (declared self.now) owner over.now
             (names_in underneath.now) (zip names.now (map numbered_of shown.now)))) }
     {
         for (name, expr) in names.iter().zip(shown) {
@@ -128,7 +130,8 @@ impl Catalog {
         name: Name,
         expr: &BoundExpr,
     ) -> Result<(), AllocError>
-        ensures { OnOk result (HoldsMore grants.old grants.new (all_followed (declared self.now) owner over.now
+        ensures { OnOk result (HoldsMore grants.old grants.new
+            (all_followed (declared self.now) owner over.now
             (spec.updates (names_in underneath.now) (name, numbered_of expr.now)))) }
     {
         match name_shown(underneath, expr) {

@@ -73,7 +73,8 @@ pub(crate) fn column_names(
     listed: Option<Items<Name>>,
     columns: &[ResultColumn],
 ) -> Result<Items<Name>, ElementFault>
-    ensures names { IfOk result (λ names. map (λ n. Some n) names ≡ names_or listed (map (λ c. c.name) columns.now)) }
+    ensures names { IfOk result
+        (λ names. map (λ n. Some n) names ≡ names_or listed (map (λ c. c.name) columns.now)) }
     ensures count { IfOk result (λ names. length names ≡ length columns.now) }
     ensures exact { Makes (λ names. names) (names_for listed (map column_of columns.now)) result }
 {

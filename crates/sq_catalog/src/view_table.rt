@@ -7,7 +7,7 @@ ghost use Rattle.sq_lex.specs.declared.name.Name.{Name as AnyName};
 ghost use Rattle.sq_value.specs.declared.domain.Kind.{Kind};
 ghost use Rattle.sq_bound.specs.Fits.{IsBase};
 ghost use Rattle.sq_bound.specs.Names.{option_all};
-ghost use Rattle.sq_bound.specs.Quiet.{are_sure, is_sure};
+ghost use Rattle.sq_bound.specs.Quiet.{are_quiet_conds, is_quiet_cond};
 ghost use Rattle.sq_bound.specs.WellFormed.{IsLeaf, IsSelect, IsTarget, IsUpdatable, TableKinds, base_kinds, kinds_of_columns, kinds_of_results, kinds_of_select, place_of};
 ghost use Rattle.sq_bound.specs.declared.condition.TablePlace.TheVariants.{View as ViewAt};
 ghost use Rattle.sq_catalog.specs.Exact.{declared};
@@ -38,7 +38,8 @@ impl Catalog {
         requires bound { IsBoundOver self.now bound.query bound.updatable }
         requires names { length names ≡ length (kinds_of_select bound.query) }
         ensures next { IfOk result (IsNextView self.now name.now) }
-        ensures placed { IfOk result (λ view. place_of view.body ≡ ViewAt (length (declared self.now).views)) }
+        ensures placed { IfOk result
+            (λ view. place_of view.body ≡ ViewAt (length (declared self.now).views)) }
         ensures made { IfOk result (IsViewWith names bound.query) }
         ensures over { IfOk result (IsOverQuery check_option bound.updatable) }
     {
@@ -67,7 +68,8 @@ impl Catalog {
         requires query { IsSelect (column_kinds self.now) [] [] query }
         requires names { length names.now ≡ length (kinds_of_select query) }
         ensures next { IfOk result (IsNextView self.now name.now) }
-        ensures placed { IfOk result (λ view. place_of view.body ≡ ViewAt (length (declared self.now).views)) }
+        ensures placed { IfOk result
+            (λ view. place_of view.body ≡ ViewAt (length (declared self.now).views)) }
         ensures made { IfOk result (IsViewWith names.now query) }
         ensures leaf { IfOk result (λ view. view.leaf ≡ None) }
     {
@@ -99,7 +101,8 @@ impl Catalog {
         requires base { IsBase self.now.bases over.target.leaf.table }
         requires target { IsUpdatable (column_kinds self.now) [] (kinds_of_select query) over }
         ensures next { IfOk result (IsNextView self.now name.now) }
-        ensures placed { IfOk result (λ view. place_of view.body ≡ ViewAt (length (declared self.now).views)) }
+        ensures placed { IfOk result
+            (λ view. place_of view.body ≡ ViewAt (length (declared self.now).views)) }
         ensures made { IfOk result (IsViewWith names.now query) }
         ensures over { IfOk result (λ view. IsSomeAnd view.leaf (IsAbove check_option over view.columns)) }
     {
@@ -129,7 +132,8 @@ impl Catalog {
             (λ parts. AreColumnsOver (base_kinds parts.1.table) (kinds_of_select query) parts.0) }
         requires leaf { IfOk parts (λ parts. IsLeaf (column_kinds self.now) parts.1) }
         ensures next { IfOk result (IsNextView self.now name.now) }
-        ensures placed { IfOk result (λ view. place_of view.body ≡ ViewAt (length (declared self.now).views)) }
+        ensures placed { IfOk result
+            (λ view. place_of view.body ≡ ViewAt (length (declared self.now).views)) }
         ensures made { (names : List AnyName) → IfOk parts (λ parts. map (λ c. c.name) parts.0 ≡ names)
             → IfOk result (IsViewWith names query) }
         ensures over { (check_option : Bool) (over : AnyUpdatable)
@@ -189,7 +193,8 @@ fn view_parts(
         (λ parts. AreColumnsOver (base_kinds over.target.leaf.table) (kinds_of_columns columns.now) parts.0) }
     ensures names { IfOk result (λ parts. map (λ c. c.name) parts.0 ≡ map (λ c. c.name) columns.now) }
     ensures leaf { IfOk result
-        (λ parts. (known : TableKinds) → IsTarget known [] over.target → IsLeaf known parts.1) }
+        (λ parts. (table_kinds : TableKinds) → IsTarget table_kinds [] over.target
+        → IsLeaf table_kinds parts.1) }
     ensures over { IfOk result (λ parts. IsAbove check_option over parts.0 parts.1) }
 {
     let UpdatableQuery {
@@ -204,7 +209,8 @@ fn view_parts(
 /// What is under an updatable view. With a check option it demands its own condition and all those below.
 fn view_leaf(alloc: Global, check_option: bool, target: Target) -> Result<Shared<Leaf>, AllocError>
     ensures base { IfOk result (λ leaf. leaf.table ≡ target.leaf.table) }
-    ensures leaf { IfOk result (λ leaf. (known : TableKinds) → IsTarget known [] target → IsLeaf known leaf) }
+    ensures leaf { IfOk result
+        (λ leaf. (table_kinds : TableKinds) → IsTarget table_kinds [] target → IsLeaf table_kinds leaf) }
     ensures conditions { IfOk result
         (λ leaf. leaf.conditions ≡ conditions_with target.leaf.conditions target.condition) }
     ensures demanded { IfOk result
@@ -230,7 +236,7 @@ fn leaf_above(
     is_quiet: bool,
     condition: Option<BoundCond>,
 ) -> Result<Leaf, AllocError>
-    requires { is_quiet ≡ (are_sure below.now.conditions && option_all is_sure condition) }
+    requires { is_quiet ≡ (are_quiet_conds below.now.conditions && option_all is_quiet_cond condition) }
     ensures base { IfOk result (λ leaf. leaf.table ≡ below.now.table) }
     ensures conditions { IfOk result
         (λ leaf. leaf.conditions ≡ conditions_with below.now.conditions condition) }

@@ -1,15 +1,15 @@
 //! What a table definition writes, by kinds of its elements (ISO/IEC 9075:1992, 11.3, 11.4, 11.6).
 
-ghost use Rattle.std.specs.Prelude.{◌≡◌, ◌<◌, ◌+◌, ◌∷◌, ◌++◌, [], Some, false, true, flat_map, length, map, nat_eq, position, vec_len, IfErr, IfOk, IsOkAnd, OnOk};
+ghost use Rattle.std.specs.Prelude.{◌≡◌, ◌<◌, ◌+◌, ◌∷◌, ◌++◌, [], Some, false, true, flat_map, length, map, position, vec_len, IfErr, IfOk, IsOkAnd, OnOk};
+ghost use Rattle.sq_meaning.specs.Environment.{same_name};
 ghost use Rattle.sq_meaning.specs.Spelled as meaning;
 ghost use Rattle.indexmap.specs.IndexSet.{index_set_len};
 ghost use Rattle.sq_rules.specs.Schema.{has_name_twice};
-ghost use Rattle.sq_rules.specs.Words as words;
 ghost use Rattle.sq_rules.specs.declared.refusal.SchemaFault.TheVariants.{NameTwice};
 ghost use Rattle.sq_declaring.specs.Column.{typed_column};
 ghost use Rattle.sq_declaring.specs.Outcome as outcome;
 ghost use Rattle.sq_declaring.specs.Position as definition;
-ghost use Rattle.sq_bound.specs.Names.{are_positions, is_name};
+ghost use Rattle.sq_bound.specs.Names.{are_positions};
 ghost use Rattle.sq_catalog.specs.Checks.{check_of_column, checks_in, checks_written};
 ghost use Rattle.sq_catalog.specs.Columns.{column_in, columns_written};
 ghost use Rattle.sq_catalog.specs.Exact.{name_added};
@@ -269,7 +269,8 @@ pub(crate) fn named_columns(
     ensures count { IfOk result (λ named. column_count named ≡ length columns.now) }
     ensures names { IfOk result (λ named. names_at named ≡ map (λ w. w.name) (definitions_lent columns.now)) }
     ensures exact { Passes
-        (outcome.refused_if NameTwice (has_name_twice (map (λ w. w.name) (definitions_lent columns.now)))) result }
+        (outcome.refused_if NameTwice (has_name_twice (map (λ w. w.name) (definitions_lent columns.now))))
+        result }
 {
     let mut named = NamedColumns {
         names: IndexSet::new(alloc),
@@ -289,7 +290,8 @@ impl NamedColumns {
         ensures count { OnOk result (column_count self.new ≡ column_count self.old + length columns.now) }
         ensures names { OnOk result (names_at self.new ≡ map (λ w. w.name) (definitions_lent columns.now)) }
         ensures exact { Passes
-            (outcome.refused_if NameTwice (has_name_twice (map (λ w. w.name) (definitions_lent columns.now)))) result }
+            (outcome.refused_if NameTwice (has_name_twice (map (λ w. w.name) (definitions_lent columns.now))))
+            result }
     {
         for column in columns {
             add_name(&mut self.names, column.name)?;
@@ -300,7 +302,7 @@ impl NamedColumns {
     /// The position of the column of a name.
     pub(crate) fn position(&self, name: Name) -> Result<usize, ElementFault>
         ensures within { IfOk result (λ place. place < column_count self.now) }
-        ensures named { IfOk result (λ place. position (is_name name) (names_at self.now) ≡ Some place) }
+        ensures named { IfOk result (λ place. position (same_name name) (names_at self.now) ≡ Some place) }
         ensures exact { Makes (λ place. place) (definition.position_of (names_at self.now) name) result }
     {
         match self.names.get_index_of(&name) {
@@ -317,7 +319,8 @@ impl NamedColumns {
     ) -> Result<Items<usize>, ElementFault>
         ensures within { IfOk result (λ positions. are_positions (column_count self.now) positions ≡ true) }
         ensures named { IfOk result (StandAt (names_at self.now) wanted.now) }
-        ensures exact { Makes (λ places. places) (definition.positions_of (names_at self.now) wanted.now) result }
+        ensures exact { Makes (λ places. places)
+            (definition.positions_of (names_at self.now) wanted.now) result }
     {
         let mut positions = Items::new(alloc);
         for name in wanted {
@@ -377,16 +380,4 @@ pub(crate) fn add_name(names: &mut IndexSet<Name>, name: Name) -> Result<(), Ele
         Ok((_, added)) => refused_if(!added, SchemaFault::NameTwice),
         Err(_) => Err(ElementFault::NoMemory),
     }
-}
-
-/// Whether a list of positions has one twice.
-pub(crate) fn has_twice(positions: &[usize]) -> bool
-    ensures { result ≡ words.has_twice nat_eq positions.now }
-{
-    for (number, position) in positions.iter().enumerate() {
-        if positions[number + 1..].contains(position) {
-            return true;
-        }
-    }
-    false
 }

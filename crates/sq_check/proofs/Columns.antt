@@ -16,7 +16,7 @@ first_fails : (names : List Name) (item : Option Name) (items : List (Option Nam
 first_fails names None items isnt = refl
 first_fails names (Some name) items isnt = ap (λ b. b && are_new_columns (names ++ name ∷ []) items) isnt
 
--- it is one
+-- an item that is a new column
 first_holds : (names new : List Name) (item : Option Name) (items : List (Option Name)) → is_new_in names item ≡ true → new ≡ names ++ option_to_list item
     → are_new_columns names (item ∷ items) ≡ are_new_columns new items
 first_holds names new None items so added = cc

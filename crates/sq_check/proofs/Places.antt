@@ -14,7 +14,7 @@ all_push P place [] (b ∷ ys) x y all one = absurd all
 all_push P place (a ∷ xs) [] x y all one = absurd all
 all_push P place (a ∷ xs) (b ∷ ys) x y all one = (all.0, all_push P (suc place) xs ys x y all.1 (subst (λ n. P n x y) (omega arith) one))
 
--- it holds of one element more
+-- a relation holds of one element more
 pub all_next : {A B : Type 0} (P : ℕ → A → B → Type 0) (xs : List A) (i : ℕ) (x : A) (ys : List B) (y : B) → i < length xs → x ≡ get_or xs i x → AllAt P 0 (take i xs) ys → P i x y
     → AllAt P 0 (take (i + 1) xs) (ys ++ y ∷ [])
 all_next P xs i x ys y lt is all one =

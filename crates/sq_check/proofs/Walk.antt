@@ -27,7 +27,7 @@ next_part tokens head parts i part here count next lt is at many more =
     let grown = one_more tokens head parts i part lt is in
     omega (arith, grown, at, many, more)
 
--- the same of parts of a whole that begins at a token
+-- where the next part of a whole begins
 pub next_start : {A : Type 0} (tokens : A → Tokens) (head : Tokens) (parts : List A) (start i : ℕ) (part : A) (here count next : ℕ) → i < length parts → part ≡ get_or parts i part
     → here ≡ counted (start + length (head ++ tokens_of_first tokens i parts)) → count ≡ counted (length (tokens part)) → next ≡ counted (here + count)
     → next ≡ counted (start + length (head ++ tokens_of_first tokens (i + 1) parts))

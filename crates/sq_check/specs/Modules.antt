@@ -25,7 +25,8 @@ item_name (item.Cursor c) = c.name
 item_name (item.Procedure p) = p.name
 
 -- an item at this token, by its names, with what is to be said of it
-pub record IsMarkAt (catalog : Catalog) (p : Program) (m : ModuleText) (here : ℕ) (i : ModuleItem) (mark : Mark) : Type 0 where
+pub record IsMarkAt (catalog : Catalog) (p : Program) (m : ModuleText) (here : ℕ) (i : ModuleItem)
+    (mark : Mark) : Type 0 where
   pub token : mark.token ≡ here
   pub owner : mark.owner ≡ m.name
   pub name : mark.name ≡ item_name i
@@ -47,7 +48,8 @@ AreMarks catalog p m marks = AllAt (IsMark catalog p m) 0 m.items marks
 
 -- The modules are bound as a program, whose procedures are those that they declare, each bound as it is written or with a fault; and
 -- this is what is to be said of the items of each.
-pub record AreChecked (catalog : Catalog) (modules : List ModuleText) (marks : List (List Mark)) : Type 0 where
+pub record AreChecked (catalog : Catalog) (modules : List ModuleText)
+    (marks : List (List Mark)) : Type 0 where
   pub program : Program
   pub procedures : keys_of program.procedures.entries ≡ declared_procedures modules
   pub written : IsOfTexts (known catalog) modules program
@@ -62,4 +64,5 @@ AreOpeners p m openers = AllByRecursion (λ e. IsOpener p m e.0 e.1.now) openers
 
 -- the mark of an item at this token stands behind those before
 abbrev pub IsMarkAdded : Catalog → Program → ModuleText → ℕ → ModuleItem → List Mark → List Mark → Type 0
-IsMarkAdded catalog p m token i before after = (mark : Mark) × (after ≡ before ++ mark ∷ []) × IsMarkAt catalog p m token i mark
+IsMarkAdded catalog p m token i before after =
+    (mark : Mark) × (after ≡ before ++ mark ∷ []) × IsMarkAt catalog p m token i mark

@@ -49,7 +49,8 @@ statement_remark (Ok s) = None
 statement_remark (Err fault) = Some (Fault fault)
 
 abbrev pub procedure_remark : Program → Name → Name → Option Remark
-procedure_remark p «module» name = option_and_then (λ b. statement_remark b.statement) (procedure_of p «module» name)
+procedure_remark p «module» name =
+    option_and_then (λ b. statement_remark b.statement) (procedure_of p «module» name)
 
 -- ---- cursors
 
@@ -65,7 +66,8 @@ parameters_of None = []
 parameters_of (Some bound) = bound.parameters
 
 -- the parameters of a procedure that opens the cursor; a module that is not refused has one
-pub record AreParametersFor (p : Program) (m : ModuleText) (cursor : Name) (parameters : List ParameterDesc) : Type 0 where
+pub record AreParametersFor (p : Program) (m : ModuleText) (cursor : Name)
+    (parameters : List ParameterDesc) : Type 0 where
   pub opener : Option BoundProcedure
   pub opens : IfSome opener (IsOpener p m cursor)
   pub are : parameters ≡ parameters_of opener
@@ -75,19 +77,23 @@ abbrev pub IsOfBody : Cursor → CursorBody → Remark → Type 0
 IsOfBody c (body.Updatable query) remark = remark ≡ Updatable
 IsOfBody c (body.Rows query order) remark = (rule : Rule) × IsRuleOf c rule × (remark ≡ NotUpdatable rule)
 
--- its fault, which the definitions find; or it is bound as it is written, is well formed, and is what its body is
-abbrev pub IsOfResult : Catalog → Name → List ParameterDesc → Cursor → Remark → Result BoundCursor Broken → Type 0
-IsOfResult catalog user parameters c remark (Err fault) = (remark ≡ Fault fault) × (cursor_bound (names_in catalog user) (declared parameters) c ≡ Err fault.rule)
+-- a remark is the cursor's fault, as the definitions find it, or says what its body is, which is bound as it is written and well formed
+abbrev pub IsOfResult : Catalog → Name → List ParameterDesc → Cursor → Remark → Result BoundCursor Broken
+    → Type 0
+IsOfResult catalog user parameters c remark (Err fault) =
+    (remark ≡ Fault fault) × (cursor_bound (names_in catalog user) (declared parameters) c ≡ Err fault.rule)
 IsOfResult catalog user parameters c remark (Ok bound) =
     IsCursorOf (known catalog) user parameters c bound
     × IsCursor (column_kinds catalog) (kinds_of_parameters parameters) bound
     × IsOfBody c bound.body remark
 
 abbrev pub IsRemarkWith : Catalog → Name → List ParameterDesc → Cursor → Remark → Type 0
-IsRemarkWith catalog user parameters c remark = (bound : Result BoundCursor Broken) × IsOfResult catalog user parameters c remark bound
+IsRemarkWith catalog user parameters c remark =
+    (bound : Result BoundCursor Broken) × IsOfResult catalog user parameters c remark bound
 
--- the same for the parameters of the procedure that opens it
-pub record IsCursorRemark (catalog : Catalog) (p : Program) (m : ModuleText) (c : Cursor) (remark : Remark) : Type 0 where
+-- what is said of a cursor, for the parameters of the procedure that opens it
+pub record IsCursorRemark (catalog : Catalog) (p : Program) (m : ModuleText) (c : Cursor)
+    (remark : Remark) : Type 0 where
   pub parameters : List ParameterDesc
   pub opened : AreParametersFor p m c.name parameters
   pub is : IsRemarkWith catalog m.authorization parameters c remark
@@ -97,7 +103,8 @@ pub record IsCursorRemark (catalog : Catalog) (p : Program) (m : ModuleText) (c 
 -- The fault of a procedure is the one that it has in the program. Of each cursor something is said.
 abbrev pub IsItemRemark : Catalog → Program → ModuleText → ModuleItem → Option Remark → Type 0
 IsItemRemark catalog p m (item.Procedure procedure) remark = remark ≡ procedure_remark p m.name procedure.name
-IsItemRemark catalog p m (item.Cursor c) remark = (r : Remark) × (remark ≡ Some r) × IsCursorRemark catalog p m c r
+IsItemRemark catalog p m (item.Cursor c) remark =
+    (r : Remark) × (remark ≡ Some r) × IsCursorRemark catalog p m c r
 
 -- ---- views
 

@@ -34,7 +34,8 @@ column_of e = item_name (expr_of e)
 abbrev pub are_new_columns : List Name → List (Option Name) → Bool
 are_new_columns before [] = true
 are_new_columns before (None ∷ items) = false
-are_new_columns before (Some name ∷ items) = not (list_any (same_name name) before) && are_new_columns (before ++ name ∷ []) items
+are_new_columns before (Some name ∷ items) =
+    not (list_any (same_name name) before) && are_new_columns (before ++ name ∷ []) items
 
 -- columns alone, each once
 abbrev pub shows_columns : SelectList → Bool
@@ -71,11 +72,11 @@ text_rule q =
     else if not (shows_columns query.list) then Some SelectItems
     else clause_rule query.table
 
--- of a query that is not updatable: where no rule of its text says so, it is over a view that isn't
+-- the first rule of a query that is not updatable: where its text breaks none, it is over a view that is not updatable
 abbrev pub query_rule : QuerySpecification → Rule
 query_rule q = unwrap_or (text_rule q) OverView
 
--- the query specification that a query is, whoever's it is; none where it is a UNION
+-- the query specification that a query of any user is, brackets around it or not; none of a UNION
 abbrev pub IsSole : (Name → Query Named) → Option QuerySpecification → Type 0
 IsSole query None = (own : Name) → only_specification (query own) ≡ None
 IsSole query (Some s) = (own : Name) → query own ≡ specification (select_of own s)

@@ -29,7 +29,8 @@ marks_at names user token _ = []
 
 -- the element at a place of a schema that begins at this token
 abbrev pub element_marks : KnownTables → ℕ → SchemaDefinition → ℕ → SchemaElement → List Mark
-element_marks names start s place e = marks_at names s.authorization (counted (start + before_element s place)) e
+element_marks names start s place e =
+    marks_at names s.authorization (counted (start + before_element s place)) e
 
 abbrev pub schema_marks : KnownTables → ℕ → SchemaDefinition → List Mark
 schema_marks names start s = all_at (element_marks names start s) 0 s.elements

@@ -9,6 +9,6 @@ pub enum Remark {
     Fault(Fault),
     /// The cursor or the view is updatable.
     Updatable,
-    /// It isn't, by this rule first.
+    /// The cursor or the view is not updatable: this is the first rule that it breaks.
     NotUpdatable(Rule),
 }

@@ -5,16 +5,16 @@ ghost use Rattle.std.specs.Prelude.{◌≡◌, ◌++◌, ◌∷◌, [], true, If
 ghost use Rattle.std.specs.List.{list_any};
 ghost use Rattle.std.specs.Option.{option_map};
 ghost use Rattle.sq_meaning.specs.Environment.{same_name};
-ghost use Rattle.sq_meaning.specs.Spelled.{is_distinct_word, listed, query_of, query_term_of};
+ghost use Rattle.sq_meaning.specs.Spelled.{listed, query_of, query_term_of};
 ghost use Rattle.sq_rules.specs.Words.{is_some_and};
 ghost use Rattle.sq_check.specs.Rule as spec;
 
 use indexmap::IndexSet;
-use sq_binder::name_of;
+use sq_binder::{is_distinct, name_of};
 use sq_lex::{Lexeme, Name, Word};
 use sq_spell::write_tokens;
 use sq_tree::{
-    CommaList, Cond, Cursor, Expr, Query, QuerySpecification, QueryTerm, SelectList, SetQuantifier,
+    CommaList, Cond, Cursor, Expr, Query, QuerySpecification, QueryTerm, SelectList,
     TableExpression,
 };
 use std::alloc::{AllocError, Global};
@@ -63,7 +63,7 @@ pub(crate) fn cursor_rule(alloc: Global, cursor: &Cursor) -> Result<Rule, AllocE
     }
 }
 
-/// The same, where its query is this specification; none where it is a UNION.
+/// The first rule of a cursor whose query is this specification, or a UNION.
 fn rule_beside(
     alloc: Global,
     cursor: &Cursor,
@@ -86,7 +86,7 @@ fn rule_beside(
     }
 }
 
-/// The query specification that a query is: brackets around it change nothing, and a UNION is none.
+/// The query specification that a query is, brackets around it or not. `None` of a UNION.
 #[cycle(sole_specification)]
 fn sole_specification(query: &Query) -> Option<&QuerySpecification>
     ensures { spec.IsSole (λ own. query_of own query.now) (option_map (λ q. q.now) result) }
@@ -118,7 +118,7 @@ pub(crate) fn query_rule(alloc: Global, query: &QuerySpecification) -> Result<Ru
     }
 }
 
-/// The same, if it is one of its own text.
+/// The first rule that the text of a query breaks, if any.
 fn text_rule(alloc: Global, query: &QuerySpecification) -> Result<Option<Rule>, AllocError>
     ensures { IfOk result (λ rule. rule ≡ spec.text_rule query.now) }
 {
@@ -148,12 +148,6 @@ fn clause_rule(alloc: Global, table: &TableExpression) -> Result<Option<Rule>, A
         return Ok(Some(Rule::Having));
     }
     Ok(None)
-}
-
-fn is_distinct(quantifier: Option<SetQuantifier>) -> bool
-    ensures { result ≡ is_distinct_word quantifier }
-{
-    matches!(quantifier, Some(SetQuantifier::Distinct))
 }
 
 /// Whether a subquery stands in a condition, if there is one.

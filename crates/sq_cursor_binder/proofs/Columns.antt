@@ -17,7 +17,7 @@ zip_none : {A B : Type 0} (xs : List A) → zip {K = A} {X = B} xs [] ≡ []
 zip_none [] = refl
 zip_none (x ∷ xs) = refl
 
--- those that have no other beside them are left out
+-- elements with none beside them are left out
 zip_short : {A B : Type 0} (i : ℕ) (xs : List A) (ys : List B) → length ys ≤ i → zip (take i xs) (take i ys) ≡ zip xs ys
 zip_short i xs [] past = ap (zip (take i xs)) (take_all i [] past) ∙ zip_none (take i xs) ∙ sym (zip_none xs)
 zip_short zero xs (y ∷ ys) past = absurd (omega (arith, past))

@@ -19,11 +19,11 @@ use Rattle.sq_bound.specs.declared.query.CursorBody.{CursorBody}
 use Rattle.sq_bound.specs.declared.query.CursorBody.TheVariants as body
 use Rattle.sq_bound.specs.declared.query.UpdatableQuery.{UpdatableQuery}
 use Rattle.sq_binding.specs.Changeable as binding
+use Rattle.sq_binding.specs.ColumnNames.{names_placed}
 use Rattle.sq_binding.specs.Cursor.{cursor_bound}
 use Rattle.sq_binding.specs.From.{NamedTables}
 use Rattle.sq_binding.specs.PlacedQuery.{select_placed}
 use Rattle.sq_binding.specs.View.{check_bound, view_bound}
-use Rattle.sq_binding.proofs.ColumnNames.{names_placed}
 use Rattle.sq_binder.specs.Binds.{Binds}
 use Rattle.sq_binder.specs.Scope.{declared_of}
 use Rattle.sq_binder.specs.Surroundings.{descriptor_of}
@@ -47,7 +47,7 @@ use Rattle.sq_cursor_binder.proofs.Bases.{base_there}
 
 -- ---- CHECK (11.9)
 
--- it is well formed on a row of its table, and it is the condition that is written
+-- a condition of CHECK is well formed on a row of its table, and is the one that is written
 pub record CheckPromised (t : TableName) (place : ℕ) (columns : List Column) (text : Cond) (c : BoundCond) : Type 0 where
   pub stands : IsCond (only place (kinds_of_columns columns)) [] (of_base_at place) [] c
   pub is_written : CondIs (check_placed t columns text) c
@@ -116,7 +116,7 @@ module _ (bases : List BaseTable) (kinds : TableKinds) (known : KnownTables) (me
   body_there (Some t) (body.Updatable u) h = base_there bases changes over (table_named t) u.target.leaf h
   body_there None (body.Updatable u) h = absurd h
 
-  -- it fits the base tables, is well formed, has subqueries with numbers of their own, and is the one that is written
+  -- a cursor fits the base tables, is well formed, has subqueries with numbers of their own, and is the one that is written
   abbrev pub CursorPromised : List ParameterDesc → Cursor → BoundCursor → Type 0
   CursorPromised parameters c = IsSo bases kinds known user parameters c
 

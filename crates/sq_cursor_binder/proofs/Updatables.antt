@@ -100,7 +100,7 @@ reference_named (bracketed e) = refl
 -- ---- the columns of the base table
 
 module _ (u : UnderTable) where
-  -- an operation is none
+  -- an operation is no column
   operations_none : (rest : List Operation) (e : Numbered) → leaf_column u e ≡ None → leaf_column u (fold (λ left o. operation_of o left) e rest) ≡ None
   operations_none [] e none = none
   operations_none (o ∷ rest) e none = operations_none rest (operation_of o e) (ap (leaf_column u) (operation_of-out o e))

@@ -10,6 +10,8 @@ use Rattle.sq_cursor_binder.specs.Names.{Changes, under_table}
 
 -- A name means the table that is known by it, and what may be changed under a table is what is known to be under it. The user holds
 -- SELECT on these tables, and on those with the grant option.
-pub record NamesAgree (known : KnownTables) (selects grants : TableName → Bool) (tables : NamedTables) (changes : Changes) : Type 0 where
+pub record NamesAgree (known : KnownTables) (selects grants : TableName → Bool) (tables : NamedTables)
+    (changes : Changes) : Type 0 where
   pub named : (t : TableName) → tables t ≡ named_tables known selects grants t
-  pub under : (t : TableName) → option_map under_table (changes.beneath t) ≡ option_and_then known_spec.under_table (meant_by known t)
+  pub under : (t : TableName) → option_map under_table (changes.beneath t)
+      ≡ option_and_then known_spec.under_table (meant_by known t)

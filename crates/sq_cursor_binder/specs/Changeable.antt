@@ -23,11 +23,14 @@ abbrev pub table_name : ChangedTable → TableName
 table_name t = record { user = t.user; name = t.name }
 
 abbrev pub changed_of : ChangedTable → binding.ChangedTable
-changed_of t = table_over (record { table = table_name t; correlation = t.correlation }) (named_table_of t.table) (under_table (beneath_of t.under))
+changed_of t =
+    table_over (record { table = table_name t; correlation = t.correlation }) (named_table_of t.table)
+    (under_table (beneath_of t.under))
 
 -- the columns of the table that is over, each at its position in the one that is under it
 abbrev pub columns_at_leaf : (under columns : List Column) → List ItemColumn
-columns_at_leaf under columns = map column_over (zip (map (λ c. c.leaf_column) under) (map descriptor_of columns))
+columns_at_leaf under columns =
+    map column_over (zip (map (λ c. c.leaf_column) under) (map descriptor_of columns))
 
 -- the rows under a table that meet a condition
 abbrev pub target_made : binding.ChangedTable → Binding NumberedClause → Binding NumberedTarget

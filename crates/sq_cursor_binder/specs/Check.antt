@@ -15,11 +15,16 @@ StopsCheck outcome stop.NoMemory = ⊤
 StopsCheck outcome (stop.Broken fault) = outcome ≡ Err (CheckFault.broken fault)
 StopsCheck outcome stop.NotInCheck = outcome ≡ Err CheckFault.not_in_check
 
--- it answers what the definition computes, or memory ran out
+-- a condition of CHECK is bound as the definition computes it, or memory ran out
 abbrev pub BindsCheck : Result NumberedCond CheckFault → Result BoundCond CheckStop → Type 0
 BindsCheck outcome (Ok c) = outcome ≡ Ok (cond_seen c)
 BindsCheck outcome (Err stop) = StopsCheck outcome stop
 
--- no table may be named there
+-- surroundings in which no table may be named
 abbrev pub no_tables : Environment → Surroundings
-no_tables environment = record { names = λ t. None; parameters = parameters_in environment; scopes = scopes_in environment; functions_allowed = false }
+no_tables environment = record {
+  names = λ t. None;
+  parameters = parameters_in environment;
+  scopes = scopes_in environment;
+  functions_allowed = false;
+}

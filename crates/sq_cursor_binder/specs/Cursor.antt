@@ -36,8 +36,11 @@ IsOverPart (Some over) table (body.Updatable u) = (table ≡ Some over.0) × (u 
 
 -- a cursor whose query stands in these surroundings
 abbrev pub cursor_at : UserNames → Surroundings → Cursor → Outcome NumberedCursor
-cursor_at names a c = let query = query_of names.user c.query in binding.cursor_of names a c query (plain_specification c query)
+cursor_at names a c =
+    let query = query_of names.user c.query in binding.cursor_of names a c query (plain_specification c query)
 
 -- a query expression, in the order of ORDER BY
-abbrev pub in_order : Binding NumberedQuery → List SortSpecification → Binding (NumberedQuery × List SortColumn)
-in_order b order = b >>= λ x. outcome (order_bound (names_of (columns_of_query x)) order) >>= λ by. pure (x, by)
+abbrev pub in_order : Binding NumberedQuery → List SortSpecification
+    → Binding (NumberedQuery × List SortColumn)
+in_order b order =
+    b >>= λ x. outcome (order_bound (names_of (columns_of_query x)) order) >>= λ by. pure (x, by)

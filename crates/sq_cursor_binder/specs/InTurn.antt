@@ -4,7 +4,7 @@ use Rattle.sq_binding.specs.Outcome.{Outcome, ◌>>=◌}
 use Rattle.sq_binder.specs.declared.stop.Stop.{Stop}
 use Rattle.sq_binder.specs.declared.stop.Stop.TheVariants.{NoMemory}
 
--- what a function ensures that puts a further element behind a list
+-- a list grows by a further element, or that has a fault
 abbrev pub Grows : {A : Type 0} → List A → Result A Stop → Result (List A) Stop → Type 0
 Grows list (Ok next) (Ok all) = all ≡ list ++ next ∷ []
 Grows list (Ok next) (Err stop) = stop ≡ NoMemory

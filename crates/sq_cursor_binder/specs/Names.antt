@@ -31,13 +31,18 @@ pub record Changes : Type 0 where
   pub holds : TableName → rules.Privilege → Bool
 
 abbrev pub user_names : Name → NamedTables → Changes → UserNames
-user_names user tables changes = record { user = user; tables = tables; under = λ t. option_map under_table (changes.beneath t); holds = changes.holds }
+user_names user tables changes = record {
+  user = user;
+  tables = tables;
+  under = λ t. option_map under_table (changes.beneath t);
+  holds = changes.holds;
+}
 
--- those of the user of a text
+-- what names of tables mean to the user of a text
 abbrev pub names_at : {T : Type 0} → (T → NamedTables) → (T → Changes) → Surroundings T → UserNames
 names_at named changes at = user_names at.environment.now.user (named at.tables.now) (changes at.tables.now)
 
--- these are the rows under the table
+-- these rows of a base table are under the table of a name
 abbrev pub IsUnder : Changes → TableName → Leaf → Type 0
 IsUnder changes t leaf = option_map (λ b. b.leaf) (changes.beneath t) ≡ Some leaf
 

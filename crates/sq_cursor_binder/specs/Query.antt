@@ -35,12 +35,16 @@ as_query b = b >>= λ x. pure (NumberedQuery.select x)
 
 -- UNION of two sides
 abbrev pub union_of : (all : Bool) → (left right : Binding NumberedQuery) → Binding NumberedQuery
-union_of all left right = left >>= λ x. right >>= λ y. common_columns (columns_of_query x) (columns_of_query y) >>= λ columns. pure (NumberedQuery.joined all x y columns)
+union_of all left right =
+    left >>= λ x. right >>= λ y. common_columns (columns_of_query x) (columns_of_query y)
+    >>= λ columns. pure (NumberedQuery.joined all x y columns)
 
--- what a function ensures that makes a query of both sides, and the columns to which they are brought
-abbrev pub Joins : (all : Bool) → Found (BoundQuery × (BoundTerm × List BoundColumn)) → Result (Found BoundQuery) Stop → Type 0
+-- both sides of UNION become one query, whose columns are those to which they are brought
+abbrev pub Joins : (all : Bool) → Found (BoundQuery × (BoundTerm × List BoundColumn))
+    → Result (Found BoundQuery) Stop → Type 0
 Joins all sides (Ok query) =
-    (query_seen query.part ≡ NumberedQuery.joined all (query_seen sides.part.0) (term_seen sides.part.1.0) (map column_of sides.part.1.1))
+    (query_seen query.part ≡ NumberedQuery.joined all (query_seen sides.part.0) (term_seen sides.part.1.0)
+    (map column_of sides.part.1.1))
     × (query.brought ≡ sides.brought)
     × HaveTheirColumns query.part
 Joins all sides (Err stop) = stop ≡ NoMemory

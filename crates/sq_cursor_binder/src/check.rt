@@ -29,7 +29,7 @@ use std::slice::from_ref;
 /// Why the condition of a CHECK is not bound.
 #[derive(Clone, Copy, Debug)]
 pub enum CheckStop {
-    /// It breaks this rule.
+    /// The condition breaks this rule.
     Broken(BindingFault),
     /// A subquery or USER, which may not stand there (own rule).
     NotInCheck,

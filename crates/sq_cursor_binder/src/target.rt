@@ -4,7 +4,7 @@ ghost use Rattle.std.specs.Prelude.{◌≡◌, ◌∷◌, [], IfOk};
 ghost use Rattle.std.specs.Option.{option_map};
 ghost use Rattle.sq_meaning.specs.Spelled.{clause, cond_of};
 ghost use Rattle.sq_bound.specs.Names.{option_all};
-ghost use Rattle.sq_bound.specs.Quiet.{is_sure};
+ghost use Rattle.sq_bound.specs.Quiet.{is_quiet_cond};
 ghost use Rattle.sq_binding.specs.Changeable as spec;
 ghost use Rattle.sq_binding.specs.Condition.{clause_bound};
 ghost use Rattle.sq_binding.specs.Found.{Binding, from_first};
@@ -24,7 +24,7 @@ use sq_binder::{
     ClauseResult, Counts, Found, FromItem, Stop, Surroundings, Tables, alone, bind_cond, counted,
     present,
 };
-use sq_bound::{BoundCond, Target, is_sure, shortest_key};
+use sq_bound::{BoundCond, Target, is_quiet_cond, shortest_key};
 use sq_tree::Cond;
 use std::alloc::AllocError;
 use std::slice::from_ref;
@@ -119,7 +119,7 @@ fn target_over(
         target.condition target.key) }
 {
     let key = key_of(&condition, has_subquery, &table.under);
-    let is_quiet = is_sure_where(&condition) && table.under.leaf.get().is_quiet;
+    let is_quiet = is_quiet_where(&condition) && table.under.leaf.get().is_quiet;
     match table.under.leaf.share() {
         Ok(leaf) => Ok(Target {
             table: table.table.place,
@@ -137,11 +137,11 @@ fn target_over(
 }
 
 /// Whether the truth of a condition, if there is one, is never a fault.
-fn is_sure_where(condition: &Option<BoundCond>) -> bool
-    ensures { result ≡ option_all is_sure condition.now }
+fn is_quiet_where(condition: &Option<BoundCond>) -> bool
+    ensures { result ≡ option_all is_quiet_cond condition.now }
 {
     match condition {
-        Some(condition) => is_sure(condition),
+        Some(condition) => is_quiet_cond(condition),
         None => true,
     }
 }

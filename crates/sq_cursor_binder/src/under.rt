@@ -14,5 +14,6 @@ pub struct UnderTable<'a> {
     /// Whether the table is the base table itself, with no view in between.
     pub is_base: bool,
     pub ghost plain: { (not is_base || nat_eq (length leaf.now.conditions) 0) ≡ true },
-    pub ghost placed: { list_all (λ c. nat_lt c.leaf_column (length leaf.now.table.columns)) columns.now ≡ true },
+    pub ghost placed: { list_all (λ c. nat_lt c.leaf_column (length leaf.now.table.columns)) columns.now
+        ≡ true },
 }

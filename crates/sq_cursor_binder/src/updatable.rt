@@ -5,7 +5,6 @@ ghost use Rattle.std.specs.List.{list_all};
 ghost use Rattle.std.specs.Option.{option_and_then, option_map};
 ghost use Rattle.sq_lex.specs.declared.name.Name.{Name as AnyName};
 ghost use Rattle.sq_meaning.specs.Spelled.{expr_of, list_of, listed, reference_of, select_of};
-ghost use Rattle.sq_meaning.specs.Target.{are_distinct};
 ghost use Rattle.sq_binding.specs.Changeable as spec;
 ghost use Rattle.sq_binding.specs.Found.{Binding};
 ghost use Rattle.sq_binding.specs.NumberedCondition.{NumberedClause};
@@ -23,7 +22,7 @@ use crate::names::ChangeableTables;
 use crate::target::{TargetResult, bind_target};
 use crate::under::UnderTable;
 use sq_binder::{Counts, Found, Stop, Surroundings, alone, correlation_of, name_of};
-use sq_bound::{BoundExpr, BoundSpecification, Target, UpdatableQuery};
+use sq_bound::{BoundExpr, BoundSpecification, Target, UpdatableQuery, are_distinct};
 use sq_items::Items;
 use sq_lex::Name;
 use sq_tree::{CommaList, Expr, QuerySpecification, SelectList, TableReference};
@@ -42,7 +41,8 @@ pub fn bind_updatable<T: ChangeableTables>(
     at: &Surroundings<'_, T>,
     before: Counts,
 ) -> UpdatableResult
-    ensures finds { Finds (option_map updatable_seen) (spec.updatable_bound (names_at T.named T.changes at.now)
+    ensures finds { Finds (option_map updatable_seen)
+        (spec.updatable_bound (names_at T.named T.changes at.now)
         (surroundings T.named at.now) (select_of at.now.environment.now.user query.now)
         (select_seen bound.now)) before result }
     ensures under { IfOk result (λ found. IfSome found.part
@@ -133,7 +133,8 @@ fn updatable_over<T: ChangeableTables>(
     ensures finds { Finds (option_map updatable_seen) (spec.updatable_over (surroundings T.named at.now)
         (select_of at.now.environment.now.user query.now) (select_seen bound.now)
         (Some (changed_of table.now))) before result }
-    ensures leaf { IfOk result (λ found. IfSome found.part (λ over. (table_named over.0 ≡ table_name table.now)
+    ensures leaf { IfOk result
+        (λ found. IfSome found.part (λ over. (table_named over.0 ≡ table_name table.now)
         × (over.1.target.leaf ≡ table.now.under.leaf.now))) }
 {
     let alloc = at.environment.alloc;
@@ -152,7 +153,8 @@ fn updatable(
     ensures finds { (b : Binding NumberedClause) (before : AnyCounts)
         → Finds target_seen (target_made (changed_of table.now) b) before target
         → Finds (option_map updatable_seen) (updatable_made (changed_of table.now) columns b) before result }
-    ensures leaf { IfOk result (λ found. IfSome found.part (λ over. (table_named over.0 ≡ table_name table.now)
+    ensures leaf { IfOk result
+        (λ found. IfSome found.part (λ over. (table_named over.0 ≡ table_name table.now)
         × (over.1.target.leaf ≡ table.now.under.leaf.now))) }
 {
     match target {
@@ -300,14 +302,5 @@ fn if_distinct(columns: Option<Items<usize>>) -> Option<Items<usize>>
     } else {
         drop(columns);
         None
-    }
-}
-
-fn are_distinct(columns: &[usize]) -> bool
-    ensures { result ≡ are_distinct columns.now }
-{
-    match columns {
-        [] => true,
-        [column, others @ ..] => !others.contains(column) && are_distinct(others),
     }
 }

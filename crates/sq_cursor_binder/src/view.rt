@@ -28,7 +28,7 @@ pub struct BoundView {
     pub updatable: Option<Over>,
     /// Whether the user holds SELECT on all tables that the query names.
     pub may_select: bool,
-    /// The same, with the grant option.
+    /// Whether the user holds it on all of them with the grant option.
     pub may_grant_select: bool,
 }
 

@@ -8,7 +8,7 @@ ghost use Rattle.sq_binder.specs.Binds.{broken};
 use sq_binder::{Counts, Found, Stop};
 use sq_rules::BindingFault;
 
-/// With no set function and no subquery before.
+/// The counts at the start of a text: no set function and no subquery stands before.
 pub fn at_first() -> Counts
     ensures { result ≡ record { functions = 0; subqueries = 0 } }
 {

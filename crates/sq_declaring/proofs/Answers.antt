@@ -8,7 +8,7 @@ use Rattle.sq_declaring.specs.Outcome.{Outcome, and_then, each, or_fault, refuse
 
 -- ---- one fault
 
--- It is refused for this fault exactly where a rule is broken; what is accepted has the property P.
+-- An element is refused for this fault exactly where a rule is broken; what is accepted has the property P.
 abbrev pub Tells : {A : Type 0} → SchemaFault → Bool → (A → Type 0) → Outcome A → Type 0
 Tells f broken P (Ok x) = (broken ≡ false) × P x
 Tells f broken P (Err g) = (g ≡ f) × (broken ≡ true)
@@ -60,7 +60,7 @@ abbrev pub behind : List (SchemaFault × Bool) → List (SchemaFault × Bool)
 behind [] = []
 behind (r ∷ rs) = rs
 
--- It is refused for the first fault whose rule is broken; what is accepted has the property P.
+-- An element is refused for the first fault whose rule is broken; what is accepted has the property P.
 abbrev pub Answers : {A : Type 0} → List (SchemaFault × Bool) → (A → Type 0) → Outcome A → Type 0
 Answers rules P (Ok x) = (first_broken rules ≡ None) × P x
 Answers rules P (Err f) = first_broken rules ≡ Some f

@@ -58,7 +58,7 @@ base_target t b h = record {
   lists = h.lists;
 }
 
--- its columns have the names of the base table's
+-- the names of an entry's columns are those of the base table's
 pub entry_names : (b : DeclaredBase) → entry_column_names (Entry.base b) ≡ map (λ c. c.name) b.columns
 entry_names b = by b.columns
   where
@@ -217,6 +217,6 @@ module _ (before : Elements) (c : Catalog) (known : (name : TableName) → Known
         let k = known_there (Entry.view v) other.1 in
         (refl, ap (λ o. not (is_good o)) (other_named name other.0 ∙ k.no_base))
 
-    -- it is made where it is good
+    -- a reference, none of whose lists is bad, is refused exactly where the rules find it bad
     pub reference_bound : (f : FoundReference) → IsFound before c known user t r f → has_bad_list f ≡ false → Tells fault.BadReference (not (is_good_reference elements user t r)) IsPermitted (bound_reference c user own_table f)
     reference_bound f is good = of_earlier f is good f.earlier refl

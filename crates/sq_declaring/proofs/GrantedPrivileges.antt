@@ -60,7 +60,7 @@ none_referenced p (n ∷ names) h = λ i. h n i || none_referenced p names h i
 
 -- ---- what an action names
 
--- of a privilege on a column that is there
+-- an action names a privilege, on columns that are there, exactly where it covers it
 action_names : (columns : List Name) (a : Action) (p : Privilege) → is_on_column columns p ≡ true → is_named p (action_privileges columns a) ≡ action_covers a p
 action_names columns action.Select Privilege.select on = refl
 action_names columns action.Select Privilege.insert on = refl

@@ -54,7 +54,8 @@ condition_written (present c) = Some c
 abbrev pub conditions_written : List Level → List (ByName Named)
 conditions_written levels = filter_map (λ l. condition_written l.condition) levels
 
--- It is the target that the rules know: the base table, the columns, as many conditions as are written, and as many of them demanded.
+-- What is under a table is the target that the rules know: the base table, the columns, as many conditions as are written, and as many of
+-- them demanded.
 pub record IsUnderAs (t : Target) (u : DeclaredUnder) : Type 0 where
   pub place : t.place ≡ u.base
   pub columns : t.columns ≡ u.columns
@@ -214,7 +215,7 @@ there_is_made before name None h = sym h.not_made
 there_is_made before name (Some (Entry.base b)) h = sym (ap is_ok h.known) ∙ found_there name (tables_of before)
 there_is_made before name (Some (Entry.view v)) h = sym (ap is_ok h.known) ∙ found_there name (tables_of before)
 
--- its columns are those that the rules know
+-- the columns of an entry are those that the rules know
 pub known_columns : (before : Elements) (name : TableName) (e : Option Entry) → Known before name e → option_map entry_columns e ≡ option_map (λ d. d.columns) (result_ok (descriptor_of (tables_of before) name))
 known_columns before name None h = by (descriptor_of (tables_of before) name) (found_there name (tables_of before) ∙ h.not_made)
   where
@@ -228,7 +229,7 @@ names_made : (o : status.Outcome TableDescriptor) (cs : List ColumnDescriptor) �
 names_made (Ok d) cs e = let same : cs ≡ d.columns = cc in append-nil (column_names d) ∙ sym (ap (map (λ (c : ColumnDescriptor). c.name)) same)
 names_made (Err s) cs e = cc
 
--- and so are their names
+-- the names of an entry's columns are those that the rules know
 pub made_columns : (before : Elements) (name : TableName) (e : Entry) → Known before name (Some e) → columns_of_made before name ≡ entry_column_names e
 made_columns before name e h = names_made (descriptor_of (tables_of before) name) (entry_columns e) (known_columns before name (Some e) h)
 

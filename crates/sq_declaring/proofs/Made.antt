@@ -162,7 +162,7 @@ module _ (c : Catalog) (user : Name) (own : ReferencedTable) (f : FoundReference
         is = ap (λ (y : BoundReference). y.reference) (sym made) ∙ is.1;
       }
 
--- of a base table that the catalog knows under the name
+-- a reference is made to the base table that the catalog knows under the name
 pub reference_made : (c d : Catalog) (user : Name) (own : ReferencedTable) (names : List Name) (f : FoundReference) (r : rules.Reference) (y : BoundReference) (to : IsTo c user own f y) (b : DeclaredBase) → as_referenced b ≡ to.target
     → entry d (table_of user r.references.table) ≡ Some (Entry.base b) → AllZip (IsPlaced names) r.columns f.columns → AreListed (map (λ c. c.name) b.columns) r.references.columns f.columns_listed → IsReferenceTo d user names r y.reference
 reference_made c d user own names f r y to b same there referencing listed = record {

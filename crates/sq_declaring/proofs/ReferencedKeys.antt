@@ -164,7 +164,7 @@ module _ (names : List Name) where
 
 -- ---- the primary key
 
--- which of the keys is the first primary one
+-- the first primary key is this one of the keys
 abbrev IsFirst : List Constraint → Option ℕ → Type 0
 IsFirst ks None = slice_get (filter_map primary_columns ks) 0 ≡ None
 IsFirst ks (Some n) = (names : List Name) × (slice_get (filter_map primary_columns ks) 0 ≡ Some names) × (slice_get (filter_map key_columns ks) n ≡ Some names)
@@ -223,7 +223,7 @@ module _ (target : TableDefinition) (r : ReferencedTable) (is : IsTarget target 
   abbrev is_there : Option (List Name) → Bool
   is_there o = is_some_and (λ wanted. list_any (is_key wanted) (rules.keys target)) o
 
-  -- its columns are those that the rules find
+  -- the columns of the referenced key are those that the rules find
   pub record IsKeyOf (key : ReferencedKey) : Type 0 where
     pub wanted : List Name
     pub referenced : referenced_columns target to ≡ Some wanted

@@ -85,7 +85,7 @@ module _ (users : List Name) (before : Elements) (c : Catalog) (of : IsCatalogOf
       by None at is = cc
       by (Some e) at is = let same : named_table c user t e ≡ n = cc in record { on = e; there = at; named = same }
 
-  -- and what is under it
+  -- what is under a table is what an entry has under it
   pub record IsUnder (t : TableName) (u : UnderTable) (e : Entry) : Type 0 where
     pub below : DeclaredUnder
     pub has : entry_under e ≡ Some below

@@ -84,7 +84,7 @@ source_of before distinct list from filter by having source e =
     let is : record { item = item.step; columns = columns.step; condition = filter } ≡ outer.step = cc in
     (table.step, only_one_table from table.step table.first, subst (IsSource before table.step list filter) (is ∙ same) (record { condition = refl; item = item.first; columns = columns.first }))
 
--- its item has the columns of the table
+-- the item of a table reference has the columns of the table
 item_columns : (before : Elements) (r : TableReference) (item : Item) → item_of (tables_of before) r ≡ Ok item → (item.reference ≡ r) × (item.columns ≡ map (λ c. c.name) (columns_in (descriptor_of (tables_of before) r.table)))
 item_columns before r item e = by (descriptor_of (tables_of before) r.table) e
   where

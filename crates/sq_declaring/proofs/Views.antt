@@ -182,7 +182,7 @@ module _ (users : List Name) (before : Elements) (c : Catalog) (of : IsCatalogOf
           by false is true e = (refl, refl)
           by false is false e = cc
 
-      -- those that the rules know, where there is no column list
+      -- without a column list, the names are those that the rules know
       none_written : v.columns ≡ None → names_known ≡ names_in cs
       none_written e =
           ap (λ columns. names_written columns (unwrap_or (result_ok (select_names (tables_of before) q)) [])) e

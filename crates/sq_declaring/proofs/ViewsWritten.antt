@@ -23,7 +23,7 @@ use Rattle.sq_declaring.proofs.Answers.{steps_of}
 pub record IsWritten (c : Catalog) (user : Name) (v : ViewDefinition) (n : NewView) : Type 0 where
   pub bound : NumberedView
   pub is_bound : view_bound (names_of c user) (select_of user v.query) ≡ Ok bound
-  -- its query is the text's with names placed and, where it is updatable, so are its rows under it
+  -- a view's query is the text's with names placed and, where it is updatable, so are its rows under it
   pub placed : IsView (names_of c user) (select_of user v.query) bound
   pub names : List Name
   pub names_are : column_names v.columns (columns_of bound.query) ≡ Ok names

@@ -113,7 +113,9 @@ same_option false true = false
 same_option false false = true
 
 abbrev pub gives : (grantable : Bool) → Name → TableName → Privilege → Grant → Bool
-gives grantable user t p g = same_option g.to_grant grantable && is_granted_to g.user user && same_table g.table t && same_privilege g.privilege p
+gives grantable user t p g =
+    same_option g.to_grant grantable && is_granted_to g.user user && same_table g.table t
+    && same_privilege g.privilege p
 
 abbrev pub same_holder : Option Name → Option Name → Bool
 same_holder None None = true
@@ -121,7 +123,9 @@ same_holder (Some a) (Some b) = same_name a b
 same_holder _ _ = false
 
 abbrev pub same_grant : Grant → Grant → Bool
-same_grant g h = same_holder g.user h.user && same_table g.table h.table && same_privilege g.privilege h.privilege && same_option g.to_grant h.to_grant
+same_grant g h =
+    same_holder g.user h.user && same_table g.table h.table && same_privilege g.privilege h.privilege
+    && same_option g.to_grant h.to_grant
 
 -- a grant that is there already is not added again
 abbrev pub with_grant : List Grant → Grant → List Grant
@@ -151,7 +155,8 @@ view_named views t = find (λ v. same_table v.name t) views
 
 -- the base table or view of a name
 abbrev pub entry : Catalog → TableName → Option Entry
-entry c t = option_or (option_map Entry.base (base_named c.bases t)) (option_map Entry.view (view_named c.views t))
+entry c t =
+    option_or (option_map Entry.base (base_named c.bases t)) (option_map Entry.view (view_named c.views t))
 
 abbrev pub table_count : Catalog → ℕ
 table_count c = length c.bases + length c.views
@@ -164,7 +169,8 @@ owns user t (Entry.view v) = false
 
 -- whether a user holds a privilege on a table that is there or, with `grantable`, its grant option
 abbrev pub may_on : Catalog → (grantable : Bool) → Name → TableName → Privilege → Entry → Bool
-may_on c grantable user t p e = owns user t e && is_on_column (entry_column_names e) p || list_any (gives grantable user t p) c.grants
+may_on c grantable user t p e =
+    owns user t e && is_on_column (entry_column_names e) p || list_any (gives grantable user t p) c.grants
 
 abbrev pub may : Catalog → (grantable : Bool) → Name → TableName → Privilege → Bool
 may c grantable user t p = is_some_and (may_on c grantable user t p) (entry c t)
@@ -181,7 +187,10 @@ named_table c user t e = record {
 
 -- binding passes on what is under a table, and looks at no condition of it
 abbrev pub under_table : DeclaredUnder → UnderTable
-under_table u = record { leaf = record { base = u.base; conditions = []; demanded = u.demanded }; columns = u.columns }
+under_table u = record {
+  leaf = record { base = u.base; conditions = []; demanded = u.demanded };
+  columns = u.columns;
+}
 
 abbrev pub names_of : Catalog → Name → UserNames
 names_of c user = record {

@@ -27,7 +27,8 @@ pub record TypedColumn : Type 0 where
   pub domain : Domain
 
 abbrev pub typed_column : ColumnDefinition → Outcome TypedColumn
-typed_column c = or_fault fault.BadType (domain_of c.data_type) >>= λ d. Ok (record { definition = c; domain = d })
+typed_column c =
+    or_fault fault.BadType (domain_of c.data_type) >>= λ d. Ok (record { definition = c; domain = d })
 
 abbrev pub is_not_null : ColumnConstraint → Bool
 is_not_null constraint.NotNull = true
@@ -51,7 +52,8 @@ stored (Err s) = Err fault.BadDefault
 abbrev pub default_written : Domain → DefaultValue → Outcome ColumnDefault
 default_written d (default.Number n) = stored (assigned d (value.Num (signed_number n)))
 default_written d (default.Text characters) = stored (assigned d (value.Chars characters))
-default_written d default.User = if nat_lt (domain_length d) user_length then Err fault.BadDefault else Ok column_default.User
+default_written d default.User =
+    if nat_lt (domain_length d) user_length then Err fault.BadDefault else Ok column_default.User
 default_written d default.Null = Ok (column_default.Value value.Null)
 
 abbrev pub default_of : Domain → Option DefaultValue → Outcome ColumnDefault

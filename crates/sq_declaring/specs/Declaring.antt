@@ -21,7 +21,8 @@ with_element c user (element.Grant g) = grant c user g
 
 -- a user has one schema
 abbrev pub with_user : Catalog → Name → Outcome Catalog
-with_user c user = refused_if fault.NameTwice (is_among c.users user) >> Ok (record c { users = c.users ++ user ∷ [] })
+with_user c user =
+    refused_if fault.NameTwice (is_among c.users user) >> Ok (record c { users = c.users ++ user ∷ [] })
 
 abbrev pub with_part : Catalog → Name → Option SchemaElement → Outcome Catalog
 with_part c user None = with_user c user

@@ -22,7 +22,9 @@ is_empty (x ∷ xs) = false
 -- the privileges that are named on a table with these columns: each has to be held with the grant option, and of ALL PRIVILEGES, which are
 -- those that are so held, one at least
 abbrev pub privileges_granted : (held : Privilege → Bool) → List Name → Privileges → Outcome (List Privilege)
-privileges_granted held columns privileges.All = refused_if fault.PrivilegeMissing (is_empty (filter held (all_privileges columns))) >> Ok (filter held (all_privileges columns))
+privileges_granted held columns privileges.All =
+    refused_if fault.PrivilegeMissing (is_empty (filter held (all_privileges columns)))
+    >> Ok (filter held (all_privileges columns))
 privileges_granted held columns (privileges.Actions actions) =
     refused_if fault.PrivilegeMissing (not (list_all held (flat_map (action_privileges columns) (listed actions)))) >> Ok (flat_map (action_privileges columns) (listed actions))
 
@@ -32,14 +34,18 @@ grantee_user grantee.Public = None
 grantee_user (grantee.User name) = Some name
 
 abbrev pub grants_to : TableName → List Privilege → (to_grant : Bool) → Grantee → List Grant
-grants_to t ps to_grant g = map (λ p. record { user = grantee_user g; table = t; privilege = p; to_grant = to_grant }) ps
+grants_to t ps to_grant g =
+    map (λ p. record { user = grantee_user g; table = t; privilege = p; to_grant = to_grant }) ps
 
 -- to each grantee, and with the grant option where it is written
 abbrev pub grants_made : TableName → List Privilege → GrantStatement → List Grant
-grants_made t ps g = flat_map (grants_to t ps false) (listed g.grantees) ++ (if g.grant_option then flat_map (grants_to t ps true) (listed g.grantees) else [])
+grants_made t ps g =
+    flat_map (grants_to t ps false) (listed g.grantees)
+    ++ (if g.grant_option then flat_map (grants_to t ps true) (listed g.grantees) else [])
 
 -- the grants that a statement makes on a table of this name with these columns
-abbrev pub grants_on : (held : Privilege → Bool) → List Name → TableName → GrantStatement → Outcome (List Grant)
+abbrev pub grants_on : (held : Privilege → Bool) → List Name → TableName → GrantStatement
+    → Outcome (List Grant)
 grants_on held columns t g = do
   refused_if fault.UnknownName (has_unknown columns (flat_map action_columns (actions_of g.privileges)))
   ps ← privileges_granted held columns g.privileges

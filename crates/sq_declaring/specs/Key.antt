@@ -12,13 +12,13 @@ use Rattle.sq_declaring.specs.Position.{positions_of}
 abbrev pub key_positions : TableDefinition → Outcome (List (List ℕ))
 key_positions t = each (positions_of (table_columns t)) (keys t)
 
--- of a key, whether it is a primary one
+-- whether a key is a primary one
 abbrev pub is_primary : Constraint → Option Bool
 is_primary (Constraint.unique columns) = Some false
 is_primary (Constraint.primary_key columns) = Some true
 is_primary _ = None
 
--- which key is the primary one
+-- the place of the primary key among the keys
 abbrev pub primary_place : TableDefinition → Option ℕ
 primary_place t = position (λ primary. primary) (filter_map is_primary (constraints t))
 
@@ -29,11 +29,11 @@ is_nullable_at columns n = not (is_some_and (λ c. refuses_null c.definition) (s
 abbrev pub has_nullable : List TypedColumn → List ℕ → Bool
 has_nullable columns key = list_any (is_nullable_at columns) key
 
--- at most so many columns in a key or a reference (own rule)
+-- the greatest number of columns of a key or a reference (own rule)
 abbrev pub most_key_columns : ℕ
 most_key_columns = 6
 
--- a column twice, or too many
+-- a list names a column twice, or names too many
 abbrev pub is_bad_list : List ℕ → Bool
 is_bad_list columns = nat_lt most_key_columns (length columns) || has_twice nat_eq columns
 

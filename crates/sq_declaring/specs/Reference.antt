@@ -30,7 +30,8 @@ pub record FoundReference : Type 0 where
   pub columns_listed : Option (List ℕ)
 
 abbrev pub earlier_table : Catalog → (own : TableName) → TableName → Outcome (Option Entry)
-earlier_table c own t = if same_table own t then Ok None else or_fault fault.UnknownName (entry c t) >>= λ e. Ok (Some e)
+earlier_table c own t =
+    if same_table own t then Ok None else or_fault fault.UnknownName (entry c t) >>= λ e. Ok (Some e)
 
 abbrev pub names_in : List Name → Option Entry → List Name
 names_in own None = own
@@ -40,7 +41,8 @@ abbrev pub positions_listed : List Name → Option (CommaList Name) → Outcome 
 positions_listed names None = Ok None
 positions_listed names (Some list) = positions_of names (listed list) >>= λ positions. Ok (Some positions)
 
-abbrev pub found_reference : Catalog → Name → (own : TableName) → List Name → rules.Reference → Outcome FoundReference
+abbrev pub found_reference : Catalog → Name → (own : TableName) → List Name → rules.Reference
+    → Outcome FoundReference
 found_reference c user own names r = do
   earlier ← earlier_table c own (table_of user r.references.table)
   columns ← positions_of names r.columns
@@ -61,7 +63,13 @@ pub record ReferencedTable : Type 0 where
   pub primary_key : Option ℕ
 
 abbrev pub as_referenced : DeclaredBase → ReferencedTable
-as_referenced b = record { place = b.place; names = map (λ c. c.name) b.columns; kinds = map (λ c. kind_of c.domain) b.columns; keys = b.keys; primary_key = b.primary_key }
+as_referenced b = record {
+  place = b.place;
+  names = map (λ c. c.name) b.columns;
+  kinds = map (λ c. kind_of c.domain) b.columns;
+  keys = b.keys;
+  primary_key = b.primary_key;
+}
 
 -- a view has no keys
 abbrev pub referenced_table : (own : ReferencedTable) → Option Entry → Outcome ReferencedTable
@@ -71,7 +79,7 @@ referenced_table own (Some (Entry.view v)) = Err fault.BadReference
 
 -- ---- the key that is referenced
 
--- its place among the keys, its columns, and the same columns in the order in which they are paired
+-- the referenced key: its place among the keys, its columns, and the same columns in the order in which they are paired
 pub record ReferencedKey : Type 0 where
   pub place : ℕ
   pub columns : List ℕ
@@ -88,10 +96,13 @@ abbrev pub key_at : List ℕ → ℕ × List ℕ → ReferencedKey
 key_at list key = record { place = key.0; columns = key.1; columns_listed = list }
 
 abbrev pub key_listed : List (List ℕ) → List ℕ → Option ReferencedKey
-key_listed keys list = option_map (key_at list) (find (λ key. are_the_same list key.1) (enumerate_from 0 keys))
+key_listed keys list =
+    option_map (key_at list) (find (λ key. are_the_same list key.1) (enumerate_from 0 keys))
 
 abbrev pub primary_key : ReferencedTable → Option ReferencedKey
-primary_key target = option_and_then (λ n. option_map (λ key. key_at key (n, key)) (slice_get target.keys n)) target.primary_key
+primary_key target =
+    option_and_then (λ n. option_map (λ key. key_at key (n, key)) (slice_get target.keys n))
+    target.primary_key
 
 abbrev pub referenced_key : ReferencedTable → Option (List ℕ) → Option ReferencedKey
 referenced_key target None = primary_key target
@@ -117,7 +128,12 @@ abbrev pub paired_with : List ℕ → List ℕ → ℕ → Option ℕ
 paired_with list columns n = option_and_then (slice_get columns) (position (nat_eq n) list)
 
 abbrev pub reference_to : ReferencedTable → ReferencedKey → List ℕ → Reference
-reference_to target key columns = record { columns = columns; table = target.place; key = key.place; by_key = filter_map (paired_with key.columns_listed columns) key.columns }
+reference_to target key columns = record {
+  columns = columns;
+  table = target.place;
+  key = key.place;
+  by_key = filter_map (paired_with key.columns_listed columns) key.columns;
+}
 
 -- the columns pair, numbers with numbers and texts with texts (own rule)
 abbrev pub paired_reference : List Kind → List ℕ → ReferencedTable → ReferencedKey → Outcome Reference
@@ -127,7 +143,8 @@ paired_reference own columns target key =
 -- whether a user holds REFERENCES on columns of another table
 abbrev pub may_reference : Catalog → Name → Option Entry → List Name → Bool
 may_reference c user None names = true
-may_reference c user (Some e) names = list_all (λ name. may c false user (entry_name e) (Privilege.references name)) names
+may_reference c user (Some e) names =
+    list_all (λ name. may c false user (entry_name e) (Privilege.references name)) names
 
 -- the names of columns at these positions
 abbrev pub names_at : List Name → List ℕ → List Name
@@ -138,7 +155,8 @@ pub record BoundReference : Type 0 where
   pub reference : Reference
   pub is_permitted : Bool
 
-abbrev pub bound_reference : Catalog → Name → (own : ReferencedTable) → FoundReference → Outcome BoundReference
+abbrev pub bound_reference : Catalog → Name → (own : ReferencedTable) → FoundReference
+    → Outcome BoundReference
 bound_reference c user own r = do
   target ← referenced_table own r.earlier
   key ← or_fault fault.BadReference (referenced_key target r.columns_listed)

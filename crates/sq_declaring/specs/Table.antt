@@ -26,13 +26,15 @@ use Rattle.sq_declaring.specs.Reference.{FoundReference, ReferencedTable, bound_
 abbrev pub is_taken : Catalog → Name → TableName → Bool
 is_taken c user t = same_user user t && is_some (entry c t)
 
--- at most so many tables and views (own rule)
+-- the greatest number of tables and views (own rule)
 abbrev pub most_tables : ℕ
 most_tables = 1000
 
 -- a table or view stands in the schema of its user, and there is room for it
 abbrev pub has_place : Catalog → Name → TableName → Outcome (Unit {0})
-has_place c user t = refused_if fault.OtherSchema (not (same_user user t)) >> refused_if fault.TooManyTables (nat_le most_tables (table_count c))
+has_place c user t =
+    refused_if fault.OtherSchema (not (same_user user t))
+    >> refused_if fault.TooManyTables (nat_le most_tables (table_count c))
 
 -- ---- what is written
 
@@ -50,7 +52,7 @@ drafted c user t = do
   columns ← each typed_column (column_definitions t)
   Ok (record { columns = columns; keys = keys; references = references })
 
--- that of a table whose own name is new
+-- the draft of a table whose name is new
 abbrev pub draft : Catalog → Name → TableDefinition → Outcome Draft
 draft c user t = refused_if fault.NameTwice (is_taken c user (table_of user t.name)) >> drafted c user t
 
@@ -65,7 +67,8 @@ or_bad_check (Err f) = Err fault.BadCheck
 
 -- a condition of CHECK sees the columns of the table alone
 abbrev pub check_made : Name → TableName → List TypedColumn → Cond → Outcome NumberedCond
-check_made user t columns condition = or_bad_check (check_bound t (map typed_descriptor columns) (cond_of user condition))
+check_made user t columns condition =
+    or_bad_check (check_bound t (map typed_descriptor columns) (cond_of user condition))
 
 -- the table as its own references see it
 abbrev pub own_table : Catalog → TableDefinition → Draft → ReferencedTable
@@ -80,7 +83,7 @@ own_table c t d = record {
 abbrev pub has_bad_lists : TableDefinition → Draft → Bool
 has_bad_lists t d = has_bad_key t d.keys || list_any has_bad_list d.references
 
--- at most so many columns (own rule)
+-- the greatest number of columns (own rule)
 abbrev pub most_columns : ℕ
 most_columns = 64
 

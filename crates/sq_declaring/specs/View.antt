@@ -35,7 +35,8 @@ own_names columns = filter_map (λ c. c.name) columns
 -- the names of its column list, or else those of its query: a name for each column, and none of them twice
 abbrev pub column_names : Option (CommaList Name) → List ResultColumn → Outcome (List Name)
 column_names (Some list) columns = as_many columns (listed list)
-column_names None columns = refused_if fault.NameTwice (has_name_twice (own_names columns)) >> as_many columns (own_names columns)
+column_names None columns =
+    refused_if fault.NameTwice (has_name_twice (own_names columns)) >> as_many columns (own_names columns)
 
 abbrev pub view_columns : List Name → List ResultColumn → List ColumnDescriptor
 view_columns names columns = map (λ c. record { name = c.0; kind = (c.1).kind }) (zip names columns)
@@ -56,19 +57,24 @@ above check_option over below = record {
 }
 
 abbrev pub view_under : Catalog → (check_option : Bool) → NumberedUpdatable → Option DeclaredUnder
-view_under c check_option over = option_map (above check_option over) (option_and_then entry_under (entry c over.table))
+view_under c check_option over =
+    option_map (above check_option over) (option_and_then entry_under (entry c over.table))
 
 -- ---- what its owner holds
 
 -- a privilege on the view and, where the owner holds it with the grant option, that too
 abbrev pub owner_grants : Name → TableName → (is_held can_grant : Bool) → Privilege → List Grant
 owner_grants owner t false can_grant p = []
-owner_grants owner t true false p = record { user = Some owner; table = t; privilege = p; to_grant = false } ∷ []
-owner_grants owner t true true p = record { user = Some owner; table = t; privilege = p; to_grant = false } ∷ record { user = Some owner; table = t; privilege = p; to_grant = true } ∷ []
+owner_grants owner t true false p =
+    record { user = Some owner; table = t; privilege = p; to_grant = false } ∷ []
+owner_grants owner t true true p =
+    record { user = Some owner; table = t; privilege = p; to_grant = false }
+    ∷ record { user = Some owner; table = t; privilege = p; to_grant = true } ∷ []
 
--- as a privilege is held on the table underneath
+-- the owner holds a privilege on the view as the one on the table underneath
 abbrev pub followed : Catalog → Name → (view under : TableName) → Privilege × Privilege → List Grant
-followed c owner view under p = owner_grants owner view (may c false owner under p.1) (may c true owner under p.1) p.0
+followed c owner view under p =
+    owner_grants owner view (may c false owner under p.1) (may c true owner under p.1) p.0
 
 abbrev pub column_shown : Numbered → Option ℕ
 column_shown (Numbered.column p) = Some p.column
@@ -80,18 +86,24 @@ updates underneath c = option_to_list (option_map (λ name. (Privilege.update c.
 
 -- INSERT and DELETE, and UPDATE of each column, beside those on the table underneath that they follow
 abbrev pub privileges_followed : List Name → List Name → NumberedSelect → List (Privilege × Privilege)
-privileges_followed names underneath q = (Privilege.insert, Privilege.insert) ∷ (Privilege.delete, Privilege.delete) ∷ flat_map (updates underneath) (zip names (shown_of q))
+privileges_followed names underneath q =
+    (Privilege.insert, Privilege.insert) ∷ (Privilege.delete, Privilege.delete)
+    ∷ flat_map (updates underneath) (zip names (shown_of q))
 
 abbrev pub names_underneath : Catalog → TableName → List Name
 names_underneath c t = flat_map entry_column_names (option_to_list (entry c t))
 
-abbrev pub grants_over : Catalog → Name → (view : TableName) → List Name → NumberedSelect → Option NumberedUpdatable → List Grant
+abbrev pub grants_over : Catalog → Name → (view : TableName) → List Name → NumberedSelect
+    → Option NumberedUpdatable → List Grant
 grants_over c owner view names q None = []
-grants_over c owner view names q (Some over) = flat_map (followed c owner view over.table) (privileges_followed names (names_underneath c over.table) q)
+grants_over c owner view names q (Some over) =
+    flat_map (followed c owner view over.table) (privileges_followed names (names_underneath c over.table) q)
 
 -- SELECT and, where it is updatable, what follows from the table underneath
 abbrev pub view_grants : Catalog → Name → TableName → List Name → NumberedView → List Grant
-view_grants c owner t names v = owner_grants owner t true v.may_grant_select Privilege.select ++ grants_over c owner t names v.query v.updatable
+view_grants c owner t names v =
+    owner_grants owner t true v.may_grant_select Privilege.select
+    ++ grants_over c owner t names v.query v.updatable
 
 -- ---- the view
 

@@ -18,7 +18,7 @@ use Rattle.sq_module.specs.Admitted.{AreAdmitted, OpensEachOnce, opened_of, open
 use Rattle.sq_bound.specs.WellFormed.{kinds_of_parameters}
 use Rattle.sq_binding.proofs.SameParameters.{name_itself, names_equal}
 use Rattle.sq_module.specs.Opened.{AreOfOthers, HaveKinds, IsNew, IsOnlyOpener, OpenedBy, OpensNew, is_in}
-use Rattle.sq_module.specs.Refusal.{has_open_count, is_name, opened_by, opened_in, opener_count}
+use Rattle.sq_module.specs.Refusal.{has_open_count, is_some_name, opened_by, opened_in, opener_count}
 use Rattle.sq_module.specs.Written.{AreApart, IsCursorIn, is_cursor}
 use Rattle.sq_module.specs.declared.admission.AdmittedModule.{AdmittedModule}
 use Rattle.sq_module.specs.declared.admission.AdmittedProcedure.{AdmittedProcedure}
@@ -51,27 +51,27 @@ others_next n cursors new «module» d is of_module other are =
 -- ---- the procedures that open them
 
 pub opened_by_next : (n : Name) (procedures : List AdmittedProcedure) (cursors new : List DeclaredCursor) (name : Name) (d : DeclaredCursor) → new ≡ cursors ++ d ∷ [] → d.name ≡ name
-    → list_any (is_name name) (openings procedures) ≡ true → OpenedBy n procedures cursors → OpenedBy n procedures new
+    → list_any (is_some_name name) (openings procedures) ≡ true → OpenedBy n procedures cursors → OpenedBy n procedures new
 opened_by_next n procedures cursors new name d is of_name some all =
-    let one : list_any (is_name d.name) (openings procedures) ≡ true = ap (λ (x : Name). list_any (is_name x) (openings procedures)) of_name ∙ some in
-    subst (OpenedBy n procedures) (sym is) (all_last (λ c. is_in n c ≡ true → list_any (is_name c.name) (openings procedures) ≡ true) cursors d all (λ _. one))
+    let one : list_any (is_some_name d.name) (openings procedures) ≡ true = ap (λ (x : Name). list_any (is_some_name x) (openings procedures)) of_name ∙ some in
+    subst (OpenedBy n procedures) (sym is) (all_last (λ c. is_in n c ≡ true → list_any (is_some_name c.name) (openings procedures) ≡ true) cursors d all (λ _. one))
 
 -- one procedure more
 pub opened_by_more : (n : Name) (before : List AdmittedProcedure) (p : AdmittedProcedure) (cursors : List DeclaredCursor) → OpenedBy n before cursors → OpenedBy n (before ++ p ∷ []) cursors
 opened_by_more n before p [] all = tt
 opened_by_more n before p (c ∷ cursors) all = ((λ own. wide (all.0 own)), opened_by_more n before p cursors all.1)
   where
-    wide : list_any (is_name c.name) (openings before) ≡ true → list_any (is_name c.name) (openings (before ++ p ∷ [])) ≡ true
+    wide : list_any (is_some_name c.name) (openings before) ≡ true → list_any (is_some_name c.name) (openings (before ++ p ∷ [])) ≡ true
     wide some =
-        ap (list_any (is_name c.name)) (map-append opened_of before (p ∷ [])) ∙ list_any-append (is_name c.name) (openings before) (openings (p ∷ []))
-        ∙ ap (λ b. b || list_any (is_name c.name) (openings (p ∷ []))) some
+        ap (list_any (is_some_name c.name)) (map-append opened_of before (p ∷ [])) ∙ list_any-append (is_some_name c.name) (openings before) (openings (p ∷ []))
+        ∙ ap (λ b. b || list_any (is_some_name c.name) (openings (p ∷ []))) some
 
 -- the last procedure opens it
-pub opens_last : (before : List AdmittedProcedure) (p : AdmittedProcedure) (name : Name) → opened_of p ≡ Some name → list_any (is_name name) (openings (before ++ p ∷ [])) ≡ true
+pub opens_last : (before : List AdmittedProcedure) (p : AdmittedProcedure) (name : Name) → opened_of p ≡ Some name → list_any (is_some_name name) (openings (before ++ p ∷ [])) ≡ true
 opens_last before p name is =
-    let one : is_name name (opened_of p) ≡ true = ap (is_name name) is ∙ name_itself name in
-    ap (list_any (is_name name)) (map-append opened_of before (p ∷ [])) ∙ list_any-append (is_name name) (openings before) (openings (p ∷ []))
-    ∙ ap (λ b. list_any (is_name name) (openings before) || (b || false)) one ∙ or_true (list_any (is_name name) (openings before))
+    let one : is_some_name name (opened_of p) ≡ true = ap (is_some_name name) is ∙ name_itself name in
+    ap (list_any (is_some_name name)) (map-append opened_of before (p ∷ [])) ∙ list_any-append (is_some_name name) (openings before) (openings (p ∷ []))
+    ∙ ap (λ b. list_any (is_some_name name) (openings before) || (b || false)) one ∙ or_true (list_any (is_some_name name) (openings before))
 
 pub opened_by_turn : (n : Name) (procedures : List AdmittedProcedure) (i : ℕ) (p : AdmittedProcedure) (cursors : List DeclaredCursor) → i < length procedures → p ≡ get_or procedures i p
     → OpenedBy n (take i procedures ++ p ∷ []) cursors → OpenedBy n (take (i + 1) procedures) cursors
@@ -86,13 +86,13 @@ opened_by_none n (c ∷ cursors) none =
     ((λ own. absurd (true≢false (sym own ∙ both.0))), opened_by_none n cursors both.1)
 
 -- a cursor that none of these procedures opens isn't there
-not_there : (n name : Name) (procedures : List AdmittedProcedure) (cursors : List DeclaredCursor) → list_any (is_name name) (openings procedures) ≡ false → OpenedBy n procedures cursors → IsNew n cursors name
+not_there : (n name : Name) (procedures : List AdmittedProcedure) (cursors : List DeclaredCursor) → list_any (is_some_name name) (openings procedures) ≡ false → OpenedBy n procedures cursors → IsNew n cursors name
 not_there n name procedures [] none all = refl
 not_there n name procedures (c ∷ cursors) none all = by (is_in n c) (same_name name c.name) refl refl (not_there n name procedures cursors none all.1)
   where
     by : (a b : Bool) → is_in n c ≡ a → same_name name c.name ≡ b → IsNew n cursors name → IsNew n (c ∷ cursors) name
     by true true own same rest =
-        let some : list_any (is_name name) (openings procedures) ≡ true = subst (λ (x : Name). list_any (is_name x) (openings procedures) ≡ true) (sym (names_equal name c.name same)) (all.0 own) in
+        let some : list_any (is_some_name name) (openings procedures) ≡ true = subst (λ (x : Name). list_any (is_some_name x) (openings procedures) ≡ true) (sym (names_equal name c.name same)) (all.0 own) in
         absurd (true≢false (sym some ∙ none))
     by true false own same rest = ap₂ (λ a b. (a && b) || list_any (is_cursor n name) cursors) own same ∙ rest
     by false b own same rest = ap (λ a. (a && same_name name c.name) || list_any (is_cursor n name) cursors) own ∙ rest
@@ -190,14 +190,14 @@ any_mapped f p [] = refl
 any_mapped f p (x ∷ xs) = ap (λ b. p (f x) || b) (any_mapped f p xs)
 
 -- the entry under a name
-pub once_found : {V : Type 0} (procedures : List AdmittedProcedure) (entries : List (Name × V)) (name : Name) (v : V) → AllByRecursion (λ e. count_by (is_name e.0) (openings procedures) ≡ 1) entries
-    → lookup (same_name name) entries ≡ Some v → count_by (is_name name) (openings procedures) ≡ 1
+pub once_found : {V : Type 0} (procedures : List AdmittedProcedure) (entries : List (Name × V)) (name : Name) (v : V) → AllByRecursion (λ e. count_by (is_some_name e.0) (openings procedures) ≡ 1) entries
+    → lookup (same_name name) entries ≡ Some v → count_by (is_some_name name) (openings procedures) ≡ 1
 once_found procedures [] name v all is = cc
 once_found procedures (e ∷ es) name v all is = by (same_name name e.0) refl is (λ found. once_found procedures es name v all.1 found)
   where
     by : (b : Bool) → same_name name e.0 ≡ b → (if b then Some e.1 else lookup (same_name name) es) ≡ Some v
-        → (lookup (same_name name) es ≡ Some v → count_by (is_name name) (openings procedures) ≡ 1) → count_by (is_name name) (openings procedures) ≡ 1
-    by true same found rest = subst (λ (x : Name). count_by (is_name x) (openings procedures) ≡ 1) (sym (names_equal name e.0 same)) all.0
+        → (lookup (same_name name) es ≡ Some v → count_by (is_some_name name) (openings procedures) ≡ 1) → count_by (is_some_name name) (openings procedures) ≡ 1
+    by true same found rest = subst (λ (x : Name). count_by (is_some_name x) (openings procedures) ≡ 1) (sym (names_equal name e.0 same)) all.0
     by false same found rest = rest found
 
 -- the cursor that the next procedure opens isn't there
@@ -211,9 +211,9 @@ opens_new a i p cursors lt is once all = by (opened_of p) refl
     found : (name : Name) → opened_of p ≡ Some name → (r : Option (Bor Cursor)) → lookup (same_name name) a.cursors.entries ≡ r → IfSome r (λ c. IsNew a.name cursors name)
     found name opens None there = tt
     found name opens (Some c) there =
-        let count : count_by (λ q. is_name name (opened_of q)) ps ≡ 1 = sym (count_mapped opened_of (is_name name) ps) ∙ once_found ps a.cursors.entries name c once there in
-        let own : is_name name (opened_of p) ≡ true = ap (is_name name) opens ∙ name_itself name in
-        let none : list_any (is_name name) (openings (take i ps)) ≡ false = any_mapped opened_of (is_name name) (take i ps) ∙ none_before (λ q. is_name name (opened_of q)) ps i p lt is own count in
+        let count : count_by (λ q. is_some_name name (opened_of q)) ps ≡ 1 = sym (count_mapped opened_of (is_some_name name) ps) ∙ once_found ps a.cursors.entries name c once there in
+        let own : is_some_name name (opened_of p) ≡ true = ap (is_some_name name) opens ∙ name_itself name in
+        let none : list_any (is_some_name name) (openings (take i ps)) ≡ false = any_mapped opened_of (is_some_name name) (take i ps) ∙ none_before (λ q. is_some_name name (opened_of q)) ps i p lt is own count in
         not_there a.name name (take i ps) cursors none all
 
     by : (o : Option Name) → opened_of p ≡ o → IfSome o (λ name. IfSome (lookup (same_name name) a.cursors.entries) (λ c. IsNew a.name cursors name))
@@ -227,15 +227,15 @@ only_opener a i p lt is once = by (opened_of p) refl
     ps : List AdmittedProcedure
     ps = a.procedures.items
 
-    same_kinds : (name : Name) (qs : List AdmittedProcedure) → AllByRecursion (λ q. is_name name (opened_of q) ≡ true → q ≡ p) qs → HaveKinds name (kinds_of_parameters p.parameters) qs
+    same_kinds : (name : Name) (qs : List AdmittedProcedure) → AllByRecursion (λ q. is_some_name name (opened_of q) ≡ true → q ≡ p) qs → HaveKinds name (kinds_of_parameters p.parameters) qs
     same_kinds name [] all = tt
     same_kinds name (q ∷ qs) all = ((λ opens. ap (λ (x : AdmittedProcedure). kinds_of_parameters x.parameters) (all.0 opens)), same_kinds name qs all.1)
 
     found : (name : Name) → opened_of p ≡ Some name → (r : Option (Bor Cursor)) → lookup (same_name name) a.cursors.entries ≡ r → IfSome r (λ c. HaveKinds name (kinds_of_parameters p.parameters) ps)
     found name opens None there = tt
     found name opens (Some c) there =
-        let count : count_by (λ q. is_name name (opened_of q)) ps ≡ 1 = sym (count_mapped opened_of (is_name name) ps) ∙ once_found ps a.cursors.entries name c once there in
-        same_kinds name ps (only_passes (λ q. is_name name (opened_of q)) ps i p lt is (ap (is_name name) opens ∙ name_itself name) count)
+        let count : count_by (λ q. is_some_name name (opened_of q)) ps ≡ 1 = sym (count_mapped opened_of (is_some_name name) ps) ∙ once_found ps a.cursors.entries name c once there in
+        same_kinds name ps (only_passes (λ q. is_some_name name (opened_of q)) ps i p lt is (ap (is_some_name name) opens ∙ name_itself name) count)
 
     by : (o : Option Name) → opened_of p ≡ o → IfSome o (λ name. IfSome (lookup (same_name name) a.cursors.entries) (λ c. HaveKinds name (kinds_of_parameters p.parameters) ps))
     by None opens = tt
@@ -257,14 +257,14 @@ new_found a cursors p name c opens found h =
 
 -- ---- what is admitted
 
-count_opened : (items : List ModuleItem) (name : Name) → count_by (is_name name) (flat_map opening_in items) ≡ opener_count items name
+count_opened : (items : List ModuleItem) (name : Name) → count_by (is_some_name name) (flat_map opening_in items) ≡ opener_count items name
 count_opened [] name = refl
 count_opened (item.Procedure p ∷ items) name =
-    let first = count_cons (is_name name) (opened_by p.statement) (flat_map opening_in items) in
-    let second = count_cons (λ (i : ModuleItem). is_name name (opened_in i)) (item.Procedure p) items in
+    let first = count_cons (is_some_name name) (opened_by p.statement) (flat_map opening_in items) in
+    let second = count_cons (λ (i : ModuleItem). is_some_name name (opened_in i)) (item.Procedure p) items in
     let rest = count_opened items name in omega (arith, first, second, rest)
 count_opened (item.Cursor c ∷ items) name =
-    let second = count_cons (λ (i : ModuleItem). is_name name (opened_in i)) (item.Cursor c) items in
+    let second = count_cons (λ (i : ModuleItem). is_some_name name (opened_in i)) (item.Cursor c) items in
     let rest = count_opened items name in omega (arith, second, rest)
 
 none_among : {X : Type 0} (p : X → Bool) (xs : List X) (i : ℕ) (x : X) → i < length xs → x ≡ get_or xs i x → list_any p xs ≡ false → p x ≡ false
@@ -273,13 +273,13 @@ none_among p (y ∷ ys) zero x lt is none = ap p is ∙ (or_parts (p y) (list_an
 none_among p (y ∷ ys) (suc i) x lt is none = none_among p ys i x (omega (arith, lt)) is (or_parts (p y) (list_any p ys) none).1
 
 pub admitted_once : (items : List ModuleItem) (procedures : List AdmittedProcedure) (cursors : List (Name × Bor Cursor)) → openings procedures ≡ flat_map opening_in items
-    → list_any (has_open_count items) items ≡ false → AllByRecursion (IsCursorIn items) cursors → AllByRecursion (λ e. count_by (is_name e.0) (openings procedures) ≡ 1) cursors
+    → list_any (has_open_count items) items ≡ false → AllByRecursion (IsCursorIn items) cursors → AllByRecursion (λ e. count_by (is_some_name e.0) (openings procedures) ≡ 1) cursors
 admitted_once items procedures [] are none all = tt
 admitted_once items procedures (e ∷ es) are none all =
     let among = all.0.0 in
     let counted : not (opener_count items e.1.now.name == 1) ≡ false = none_among (has_open_count items) items among.0 (item.Cursor e.1.now) among.1.0 among.1.1 none in
     let one : opener_count items e.1.now.name ≡ 1 = eqb-true (opener_count items e.1.now.name) 1 (not-false (opener_count items e.1.now.name == 1) counted) in (
-      ap (count_by (is_name e.0)) are ∙ count_opened items e.0 ∙ ap (opener_count items) all.0.1 ∙ one,
+      ap (count_by (is_some_name e.0)) are ∙ count_opened items e.0 ∙ ap (opener_count items) all.0.1 ∙ one,
       admitted_once items procedures es are none all.1,
     )
 

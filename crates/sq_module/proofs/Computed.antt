@@ -34,7 +34,7 @@ use Rattle.sq_module.specs.Admitted.{opened_of}
 use Rattle.sq_module.specs.Computed.{AreComputedCursors, AreComputedProcedures, IsComputed, IsComputedCursor, IsComputedProcedure, as_bound}
 use Rattle.sq_module.specs.Named.{IsNext, IsOnlyIn}
 use Rattle.sq_module.specs.Program.{same_procedure}
-use Rattle.sq_module.specs.Refusal.{is_name, opened_by}
+use Rattle.sq_module.specs.Refusal.{is_some_name, opened_by}
 use Rattle.sq_module.specs.Written.{IsOfText, IsProcedureOf}
 use Rattle.sq_module.specs.Admitted.{openings}
 use Rattle.sq_module.specs.declared.admission.AdmittedModule.{AdmittedModule}
@@ -95,10 +95,10 @@ pub next_is : (names : Name → UserNames) (m : ModuleText) (a : AdmittedModule)
 next_is names m a before p name c bound of only opens found is_item binds =
     let named : cursor_named m name ≡ Some c.now = sym (named_in_text m a of name) ∙ ap (option_map (λ (c : Bor Cursor). c.now)) found in
     let opened : opened_of p ≡ Some name = ap opened_by opens in
-    let facts : IfSome (cursor_named m name) (λ k. (list_any (is_name name) (openings before) ≡ false) × (opener_parameters m k.name ≡ declared p.parameters))
-    = subst (λ (o : Option Name). IfSome o (λ n. IfSome (cursor_named m n) (λ k. (list_any (is_name n) (openings before) ≡ false) × (opener_parameters m k.name ≡ declared p.parameters)))) opened only in
-    let its : (list_any (is_name name) (openings before) ≡ false) × (opener_parameters m c.now.name ≡ declared p.parameters)
-    = subst (λ (o : Option Cursor). IfSome o (λ k. (list_any (is_name name) (openings before) ≡ false) × (opener_parameters m k.name ≡ declared p.parameters))) named facts in
+    let facts : IfSome (cursor_named m name) (λ k. (list_any (is_some_name name) (openings before) ≡ false) × (opener_parameters m k.name ≡ declared p.parameters))
+    = subst (λ (o : Option Name). IfSome o (λ n. IfSome (cursor_named m n) (λ k. (list_any (is_some_name n) (openings before) ≡ false) × (opener_parameters m k.name ≡ declared p.parameters)))) opened only in
+    let its : (list_any (is_some_name name) (openings before) ≡ false) × (opener_parameters m c.now.name ≡ declared p.parameters)
+    = subst (λ (o : Option Cursor). IfSome o (λ k. (list_any (is_some_name name) (openings before) ≡ false) × (opener_parameters m k.name ≡ declared p.parameters))) named facts in
     record {
       opens = opened;
       new = its.0;

@@ -19,11 +19,15 @@ use Rattle.sq_bound.specs.declared.statement.ChangeTarget.{ChangeTarget}
 use Rattle.sq_bound.specs.declared.statement.ChangeTarget.TheVariants as target
 use Rattle.sq_bound.specs.Fits.{FitsCursor, FitsStatement, FitsTarget}
 use Rattle.sq_bound.specs.WellFormed.{IsCursor, IsStatement, TableKinds, TakeKinds, kinds_of_parameters, kinds_of_results}
+use Rattle.sq_catalog.specs.Catalog.{Catalog, column_kinds}
+use Rattle.sq_module.specs.Added.{IsInOrder}
 use Rattle.sq_module.specs.Computed.{IsPart}
 use Rattle.sq_module.specs.declared.program.BoundProcedure.{BoundProcedure}
 use Rattle.sq_module.specs.declared.program.DeclaredCursor.{DeclaredCursor}
 use Rattle.sq_module.specs.declared.program.ProcedureName.{ProcedureName}
+use Rattle.sq_module.specs.declared.program.Program.{Program}
 use Rattle.sq_module.specs.Program.{CursorsAreWellFormed, CursorsFit, FitsProcedure, ProcedureIsWellFormed, ProceduresAreWellFormed, ProceduresFit, ProceduresOpen, kinds_of_cursors, same_procedure}
+use Rattle.sq_module.specs.Written.{AreApart}
 use Rattle.sq_module.proofs.Opening.{procedures_open_more}
 
 -- ---- elements of a list
@@ -138,3 +142,19 @@ none_part bound part of none = subst (IsPart bound) none of
 
 pub of_bound : (P : BoundCursor → Type 0) (bound : Result BoundCursor Stop) (part : Option BoundCursor) (c : BoundCursor) → IsPart bound part → part ≡ Some c → IfOk bound P → P c
 of_bound P bound part c of some one = rw (is_bound bound part c of some) at one
+
+-- ---- a program without cursors and procedures
+
+pub begun : (c : Catalog) (p : Program) → p.cursors.items ≡ [] → p.procedures.entries ≡ [] → IsInOrder c p
+begun c p no_cursors no_procedures =
+    let columns = column_kinds c in
+    let cursors = p.cursors.items in
+    record {
+      fits = (subst (CursorsFit c.bases) (sym no_cursors) tt, subst (ProceduresFit c.bases (length cursors)) (sym no_procedures) tt);
+      well_formed = (
+        subst (CursorsAreWellFormed columns) (sym no_cursors) tt,
+        subst (ProceduresAreWellFormed columns (kinds_of_cursors cursors)) (sym no_procedures) tt,
+        subst (ProceduresOpen columns cursors) (sym no_procedures) tt,
+      );
+      apart = subst (AreApart []) (sym no_cursors) tt;
+    }

@@ -54,7 +54,7 @@ cursor_listed entries new name c none is = ap cursors_written (is ∙ entered_la
 
 -- ---- the cursor of a name
 
--- it is found by its name where it is found under it
+-- a cursor is found by its name where it is found under it
 pub found_written : (items : List ModuleItem) (entries : List (Name × Bor Cursor)) (name : Name) → AllByRecursion (IsCursorIn items) entries
     → option_map (λ (c : Bor Cursor). c.now) (lookup (same_name name) entries) ≡ find (λ c. same_name c.name name) (cursors_written entries)
 found_written items [] name all = refl
@@ -69,7 +69,7 @@ found_written items (e ∷ es) name all =
     by true false h rest = cc
     by false true h rest = cc
 
--- and has that name
+-- a cursor that is found by a name has it
 pub found_named : (name : Name) (cs : List Cursor) (c : Cursor) → find (λ (k : Cursor). same_name k.name name) cs ≡ Some c → c.name ≡ name
 found_named name [] c is = cc
 found_named name (k ∷ cs) c is = by (same_name k.name name) refl is (found_named name cs c)

@@ -40,7 +40,7 @@ use Rattle.sq_promises.specs.Seen.{cursor_seen}
 use Rattle.sq_module.specs.Admitted.{OpensEachOnce, admitted_written, opened_of, openings}
 use Rattle.sq_module.specs.Named.{AreNamed, AreNamedAs, IsNext, IsOnlyIn, cursor_at, cursors_named, number_in, numbered_as, opened_so_far}
 use Rattle.sq_module.specs.Opened.{AreThere}
-use Rattle.sq_module.specs.Refusal.{is_name, opened_by}
+use Rattle.sq_module.specs.Refusal.{is_some_name, opened_by}
 use Rattle.sq_module.specs.Written.{Declare, IsOfText, IsProcedureOf, named_as, named_in}
 use Rattle.sq_module.specs.declared.admission.AdmittedModule.{AdmittedModule}
 use Rattle.sq_module.specs.declared.admission.AdmittedProcedure.{AdmittedProcedure}
@@ -112,7 +112,7 @@ only_kept {X} test (y ∷ ys) (suc i) x lt is passes once = by (test y) (sym (co
 
 -- ---- the procedure that opens a cursor
 
-opens_named : (name : Name) (s : Statement) → opens name s ≡ is_name name (opened_by s)
+opens_named : (name : Name) (s : Statement) → opens name s ≡ is_some_name name (opened_by s)
 opens_named name (tree.Open other) = nat_list_eq_equiv.symm other name
 opens_named name (tree.Fetch f) = refl
 opens_named name (tree.Close other) = refl
@@ -123,13 +123,13 @@ opens_named name (tree.Delete d) = refl
 opens_named name (tree.Commit w) = refl
 opens_named name (tree.Rollback w) = refl
 
-openers_alike : (name : Name) (ps : List AdmittedProcedure) → filter (λ (q : Procedure). opens name q.statement) (admitted_written ps) ≡ admitted_written (filter (λ q. is_name name (opened_of q)) ps)
+openers_alike : (name : Name) (ps : List AdmittedProcedure) → filter (λ (q : Procedure). opens name q.statement) (admitted_written ps) ≡ admitted_written (filter (λ q. is_some_name name (opened_of q)) ps)
 openers_alike name [] = refl
-openers_alike name (p ∷ ps) = by (opens name p.procedure.now.statement) (is_name name (opened_of p)) (opens_named name p.procedure.now.statement) (openers_alike name ps)
+openers_alike name (p ∷ ps) = by (opens name p.procedure.now.statement) (is_some_name name (opened_of p)) (opens_named name p.procedure.now.statement) (openers_alike name ps)
   where
-    by : (a b : Bool) → a ≡ b → filter (λ (q : Procedure). opens name q.statement) (admitted_written ps) ≡ admitted_written (filter (λ q. is_name name (opened_of q)) ps)
+    by : (a b : Bool) → a ≡ b → filter (λ (q : Procedure). opens name q.statement) (admitted_written ps) ≡ admitted_written (filter (λ q. is_some_name name (opened_of q)) ps)
         → cond a (p.procedure.now ∷ filter (λ (q : Procedure). opens name q.statement) (admitted_written ps)) (filter (λ (q : Procedure). opens name q.statement) (admitted_written ps))
-        ≡ admitted_written (cond b (p ∷ filter (λ q. is_name name (opened_of q)) ps) (filter (λ q. is_name name (opened_of q)) ps))
+        ≡ admitted_written (cond b (p ∷ filter (λ q. is_some_name name (opened_of q)) ps) (filter (λ q. is_some_name name (opened_of q)) ps))
     by true true h rest = ap (λ l. p.procedure.now ∷ l) rest
     by false false h rest = rest
     by true false h rest = cc
@@ -144,33 +144,33 @@ module _ (m : ModuleText) (a : AdmittedModule) (of : IsOfText m a) (once : Opens
   abbrev ps : List AdmittedProcedure
   ps = a.procedures.items
 
-  counted_once : (name : Name) (c : Cursor) → cursor_named m name ≡ Some c → count_by (λ q. is_name name (opened_of q)) ps ≡ 1
+  counted_once : (name : Name) (c : Cursor) → cursor_named m name ≡ Some c → count_by (λ q. is_some_name name (opened_of q)) ps ≡ 1
   counted_once name c there = by (lookup (same_name name) a.cursors.entries) refl (named_in_text m a of name ∙ there)
     where
-      by : (o : Option (Bor Cursor)) → lookup (same_name name) a.cursors.entries ≡ o → option_map (λ (c : Bor Cursor). c.now) o ≡ Some c → count_by (λ q. is_name name (opened_of q)) ps ≡ 1
+      by : (o : Option (Bor Cursor)) → lookup (same_name name) a.cursors.entries ≡ o → option_map (λ (c : Bor Cursor). c.now) o ≡ Some c → count_by (λ q. is_some_name name (opened_of q)) ps ≡ 1
       by None is h = cc
-      by (Some b) is h = sym (count_mapped opened_of (is_name name) ps) ∙ once_found ps a.cursors.entries name b once is
+      by (Some b) is h = sym (count_mapped opened_of (is_some_name name) ps) ∙ once_found ps a.cursors.entries name b once is
 
   -- the cursors that names mean once all procedures are looked at
   pub named_as_module : (names : UserNames) (cursors : List DeclaredCursor) (numbers : List (Name × ℕ)) → AreNamed names m ps cursors numbers → AreNamedAs names m cursors numbers
   named_as_module names cursors numbers are = λ i name. (are name ∙ whole name (cursor_named m name) refl) i
     where
       whole : (name : Name) (o : Option Cursor) → cursor_named m name ≡ o → opened_so_far names m ps numbers name ≡ module_cursors names (number_in numbers) m name
-      whole name None is = ap (λ o. if list_any (is_name name) (openings ps) then option_and_then (cursor_if_sound names (number_in numbers name) m) o else None) is ∙ none (list_any (is_name name) (openings ps)) ∙ sym (ap (option_and_then (cursor_if_sound names (number_in numbers name) m)) is)
+      whole name None is = ap (λ o. if list_any (is_some_name name) (openings ps) then option_and_then (cursor_if_sound names (number_in numbers name) m) o else None) is ∙ none (list_any (is_some_name name) (openings ps)) ∙ sym (ap (option_and_then (cursor_if_sound names (number_in numbers name) m)) is)
         where
           none : (b : Bool) → (let found : Option NamedCursor = None in if b then found else found) ≡ None
           none true = refl
           none false = refl
       whole name (Some c) is =
           ap (λ b. if b then option_and_then (cursor_if_sound names (number_in numbers name) m) (cursor_named m name) else None)
-          (any_mapped opened_of (is_name name) ps ∙ counted_any (λ q. is_name name (opened_of q)) ps (counted_once name c is))
+          (any_mapped opened_of (is_some_name name) ps ∙ counted_any (λ q. is_some_name name (opened_of q)) ps (counted_once name c is))
 
   module _ (i : ℕ) (p : AdmittedProcedure) (lt : i < length ps) (is : p ≡ get_or ps i p) where
     parameters_are : (name : Name) (c : Cursor) → opened_of p ≡ Some name → cursor_named m name ≡ Some c → opener_parameters m c.name ≡ declared p.parameters
     parameters_are name c opened there =
         let named : c.name ≡ name = found_named name _ c there in
-        let own : is_name name (opened_of p) ≡ true = ap (is_name name) opened ∙ name_itself name in
-        let kept : filter (λ q. is_name name (opened_of q)) ps ≡ p ∷ [] = only_kept (λ q. is_name name (opened_of q)) ps i p lt is own (counted_once name c there) in
+        let own : is_some_name name (opened_of p) ≡ true = ap (is_some_name name) opened ∙ name_itself name in
+        let kept : filter (λ q. is_some_name name (opened_of q)) ps ≡ p ∷ [] = only_kept (λ q. is_some_name name (opened_of q)) ps i p lt is own (counted_once name c there) in
         let procedure : IsProcedureOf m.items p = all_at (IsProcedureOf m.items) ps i p lt is of.procedures in
         ap (opener_parameters m) named
         ∙ ap (λ l. flat_map declared_parameters (filter (λ (q : Procedure). opens name q.statement) l)) (sym of.all_procedures)
@@ -182,38 +182,38 @@ module _ (m : ModuleText) (a : AdmittedModule) (of : IsOfText m a) (once : Opens
     only_in = by (opened_of p) refl
       where
         found : (name : Name) → opened_of p ≡ Some name → (o : Option Cursor) → cursor_named m name ≡ o
-            → IfSome o (λ c. (list_any (is_name name) (openings (take i ps)) ≡ false) × (opener_parameters m c.name ≡ declared p.parameters))
+            → IfSome o (λ c. (list_any (is_some_name name) (openings (take i ps)) ≡ false) × (opener_parameters m c.name ≡ declared p.parameters))
         found name opened None there = tt
         found name opened (Some c) there =
-            let own : is_name name (opened_of p) ≡ true = ap (is_name name) opened ∙ name_itself name in (
-              any_mapped opened_of (is_name name) (take i ps) ∙ none_before (λ q. is_name name (opened_of q)) ps i p lt is own (counted_once name c there),
+            let own : is_some_name name (opened_of p) ≡ true = ap (is_some_name name) opened ∙ name_itself name in (
+              any_mapped opened_of (is_some_name name) (take i ps) ∙ none_before (λ q. is_some_name name (opened_of q)) ps i p lt is own (counted_once name c there),
               parameters_are name c opened there,
             )
 
         by : (o : Option Name) → opened_of p ≡ o
-            → IfSome o (λ name. IfSome (cursor_named m name) (λ c. (list_any (is_name name) (openings (take i ps)) ≡ false) × (opener_parameters m c.name ≡ declared p.parameters)))
+            → IfSome o (λ name. IfSome (cursor_named m name) (λ c. (list_any (is_some_name name) (openings (take i ps)) ≡ false) × (opener_parameters m c.name ≡ declared p.parameters)))
         by None opened = tt
         by (Some name) opened = found name opened (cursor_named m name) refl
 
 -- ---- one procedure more
 
-any_more : (before : List AdmittedProcedure) (p : AdmittedProcedure) (name : Name) (b : Bool) → is_name name (opened_of p) ≡ b
-    → list_any (is_name name) (openings (before ++ p ∷ [])) ≡ (list_any (is_name name) (openings before) || b)
+any_more : (before : List AdmittedProcedure) (p : AdmittedProcedure) (name : Name) (b : Bool) → is_some_name name (opened_of p) ≡ b
+    → list_any (is_some_name name) (openings (before ++ p ∷ [])) ≡ (list_any (is_some_name name) (openings before) || b)
 any_more before p name b is =
-    ap (list_any (is_name name)) (map-append opened_of before (p ∷ [])) ∙ list_any-append (is_name name) (openings before) (openings (p ∷ []))
-    ∙ ap (λ c. list_any (is_name name) (openings before) || c) (or_false (is_name name (opened_of p)) ∙ is)
+    ap (list_any (is_some_name name)) (map-append opened_of before (p ∷ [])) ∙ list_any-append (is_some_name name) (openings before) (openings (p ∷ []))
+    ∙ ap (λ c. list_any (is_some_name name) (openings before) || c) (or_false (is_some_name name (opened_of p)) ∙ is)
 
 module _ (names : UserNames) (m : ModuleText) (before : List AdmittedProcedure) (p : AdmittedProcedure) where
   abbrev Known : List (Name × ℕ) → Name → Bool → Option NamedCursor
   Known numbers name b = if b then option_and_then (cursor_if_sound names (number_in numbers name) m) (cursor_named m name) else None
 
   -- a name that the procedure does not open means what it meant
-  kept_same : (numbers : List (Name × ℕ)) (name : Name) → is_name name (opened_of p) ≡ false → opened_so_far names m (before ++ p ∷ []) numbers name ≡ opened_so_far names m before numbers name
-  kept_same numbers name other = ap (Known numbers name) (any_more before p name false other ∙ or_false (list_any (is_name name) (openings before)))
+  kept_same : (numbers : List (Name × ℕ)) (name : Name) → is_some_name name (opened_of p) ≡ false → opened_so_far names m (before ++ p ∷ []) numbers name ≡ opened_so_far names m before numbers name
+  kept_same numbers name other = ap (Known numbers name) (any_more before p name false other ∙ or_false (list_any (is_some_name name) (openings before)))
 
   -- one that opens no cursor
   pub named_none : (cursors : List DeclaredCursor) (numbers : List (Name × ℕ)) → opened_of p ≡ None → AreNamed names m before cursors numbers → AreNamed names m (before ++ p ∷ []) cursors numbers
-  named_none cursors numbers opened are name = are name ∙ sym (kept_same numbers name (ap (is_name name) opened))
+  named_none cursors numbers opened are name = are name ∙ sym (kept_same numbers name (ap (is_some_name name) opened))
 
   both_none : (numbers : List (Name × ℕ)) (name : Name) (a b : Bool) → cursor_named m name ≡ None → Known numbers name a ≡ Known numbers name b
   both_none numbers name true true is = refl
@@ -227,9 +227,9 @@ module _ (names : UserNames) (m : ModuleText) (before : List AdmittedProcedure) 
   named_absent cursors numbers n opened absent are name = are name ∙ sym (by (same_name name n) refl)
     where
       by : (b : Bool) → same_name name n ≡ b → opened_so_far names m (before ++ p ∷ []) numbers name ≡ opened_so_far names m before numbers name
-      by false other = kept_same numbers name (ap (is_name name) opened ∙ other)
+      by false other = kept_same numbers name (ap (is_some_name name) opened ∙ other)
       by true same =
-          both_none numbers name (list_any (is_name name) (openings (before ++ p ∷ []))) (list_any (is_name name) (openings before)) (ap (cursor_named m) (names_equal name n same) ∙ absent)
+          both_none numbers name (list_any (is_some_name name) (openings (before ++ p ∷ []))) (list_any (is_some_name name) (openings before)) (ap (cursor_named m) (names_equal name n same) ∙ absent)
 
   -- one whose cursor has a fault
   faulty : (numbers : List (Name × ℕ)) (name : Name) (bound : Result BoundCursor Stop) (f : Fault) (h : IsNext names m before p name bound) → bound ≡ Err (stop.Fault f)
@@ -244,12 +244,12 @@ module _ (names : UserNames) (m : ModuleText) (before : List AdmittedProcedure) 
   named_fault cursors numbers n bound f h is are name = by (same_name name n) refl
     where
       by : (b : Bool) → same_name name n ≡ b → cursors_named cursors numbers name ≡ opened_so_far names m (before ++ p ∷ []) numbers name
-      by false other = are name ∙ sym (kept_same numbers name (ap (is_name name) h.opens ∙ other))
+      by false other = are name ∙ sym (kept_same numbers name (ap (is_some_name name) h.opens ∙ other))
       by true same =
           let eq : name ≡ n = names_equal name n same in
           subst (λ x. cursors_named cursors numbers x ≡ opened_so_far names m (before ++ p ∷ []) numbers x) (sym eq)
           (are n ∙ ap (Known numbers n) h.new
-          ∙ sym (ap (Known numbers n) (any_more before p n true (ap (is_name n) h.opens ∙ name_itself n) ∙ or_true (list_any (is_name n) (openings before))) ∙ faulty numbers n bound f h is))
+          ∙ sym (ap (Known numbers n) (any_more before p n true (ap (is_some_name n) h.opens ∙ name_itself n) ∙ or_true (list_any (is_some_name n) (openings before))) ∙ faulty numbers n bound f h is))
 
   -- one whose cursor has none, and comes last
   pub named_next : (cursors new : List DeclaredCursor) (numbers after : List (Name × ℕ)) (n : Name) (k : ℕ) (bound : Result BoundCursor Stop) (b : BoundCursor) (d : DeclaredCursor) → IsNext names m before p n bound
@@ -291,12 +291,12 @@ module _ (names : UserNames) (m : ModuleText) (before : List AdmittedProcedure) 
       by false other =
           let found : lookup (same_name name) after ≡ lookup (same_name name) numbers = ap (lookup (same_name name)) entered ∙ lookup_other numbers n name k other in
           ap (option_and_then (cursor_at new)) found ∙ kept name (lookup (same_name name) numbers) refl ∙ are name
-          ∙ (λ j. if list_any (is_name name) (openings before) then option_and_then (cursor_if_sound names (unwrap_or (sym found j) 0) m) (cursor_named m name) else None)
-          ∙ sym (kept_same after name (ap (is_name name) h.opens ∙ other))
+          ∙ (λ j. if list_any (is_some_name name) (openings before) then option_and_then (cursor_if_sound names (unwrap_or (sym found j) 0) m) (cursor_named m name) else None)
+          ∙ sym (kept_same after name (ap (is_some_name name) h.opens ∙ other))
       by true same =
           let eq : name ≡ n = names_equal name n same in
           subst (λ x. cursors_named new after x ≡ opened_so_far names m (before ++ p ∷ []) after x) (sym eq)
-          (means ∙ sym (ap (Known after n) (any_more before p n true (ap (is_name n) h.opens ∙ name_itself n) ∙ or_true (list_any (is_name n) (openings before))) ∙ computes))
+          (means ∙ sym (ap (Known after n) (any_more before p n true (ap (is_some_name n) h.opens ∙ name_itself n) ∙ or_true (list_any (is_some_name n) (openings before))) ∙ computes))
 
 -- where no procedure is looked at, no name means one
 pub named_first : (names : UserNames) (m : ModuleText) (cursors : List DeclaredCursor) (numbers : List (Name × ℕ)) → numbers ≡ [] → AreNamed names m [] cursors numbers

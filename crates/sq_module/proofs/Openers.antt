@@ -11,7 +11,7 @@ use Rattle.sq_tree.specs.declared.module.ModuleItem.{ModuleItem}
 use Rattle.sq_meaning.specs.Environment.{same_name}
 use Rattle.sq_binding.proofs.SameParameters.{names_equal}
 use Rattle.sq_module.specs.declared.opener.Openers.{Openers}
-use Rattle.sq_module.specs.Refusal.{AreOpeners, is_name, opened_in, opener_count}
+use Rattle.sq_module.specs.Refusal.{AreOpeners, is_some_name, opened_in, opener_count}
 
 pub or_false : (b : Bool) → (b || false) ≡ b
 or_false true = refl
@@ -37,10 +37,10 @@ inserted keys name c = by (list_any (same_name name) keys) refl
 
 -- ---- one item more
 
-count_next : (items : List ModuleItem) (i : ModuleItem) (c : Name) (o : Option Name) → opened_in i ≡ o → opener_count (items ++ i ∷ []) c ≡ opener_count items c + cond (is_name c o) 1 0
+count_next : (items : List ModuleItem) (i : ModuleItem) (c : Name) (o : Option Name) → opened_in i ≡ o → opener_count (items ++ i ∷ []) c ≡ opener_count items c + cond (is_some_name c o) 1 0
 count_next items i c o is =
-    let added = sum_by-append (λ j. cond (is_name c (opened_in j)) 1 0) items (i ∷ []) in
-    let one : ◌≡◌ {A = ℕ} (cond (is_name c (opened_in i)) 1 0) (cond (is_name c o) 1 0) = ap (λ p. cond (is_name c p) 1 0) is in
+    let added = sum_by-append (λ j. cond (is_some_name c (opened_in j)) 1 0) items (i ∷ []) in
+    let one : ◌≡◌ {A = ℕ} (cond (is_some_name c (opened_in i)) 1 0) (cond (is_some_name c o) 1 0) = ap (λ p. cond (is_some_name c p) 1 0) is in
     omega (arith, added, one)
 
 more_than_none : (n : ℕ) (b : Bool) → (nat_lt 0 n || b) ≡ nat_lt 0 (n + cond b 1 0)

@@ -25,7 +25,7 @@ use Rattle.sq_module.specs.Admitted.{opened_of}
 use Rattle.sq_module.specs.Computed.{as_bound}
 use Rattle.sq_module.specs.Opened.{AreOpenable, AreThere, Grow, HaveKinds, IsOpenable}
 use Rattle.sq_module.specs.Program.{OpensWellFormed, ProcedureOpens, ProceduresOpen}
-use Rattle.sq_module.specs.Refusal.{is_name, opened_by}
+use Rattle.sq_module.specs.Refusal.{is_some_name, opened_by}
 use Rattle.sq_module.specs.declared.admission.AdmittedProcedure.{AdmittedProcedure}
 use Rattle.sq_module.specs.declared.program.BoundProcedure.{BoundProcedure}
 use Rattle.sq_module.specs.declared.program.DeclaredCursor.{DeclaredCursor}
@@ -169,7 +169,7 @@ openable_next columns kinds cursors new numbers after name n d (p ∷ ps) is ent
     this : (q : Name) → opened_of p ≡ Some q → same_name q name ≡ true → Opens (Some n)
     this q opens same =
         let turned : same_name name q ≡ true = ap (λ (x : Name). same_name x q) (sym (same_text q name (sym same))) ∙ name_itself q in
-        let kinds_are : own ≡ kinds = have.0 (ap (is_name name) opens ∙ turned) in
+        let kinds_are : own ≡ kinds = have.0 (ap (is_some_name name) opens ∙ turned) in
         subst (λ k. OpensWellFormed columns new own (statement.Open k)) (sym last)
         (subst (λ ks. OpensWellFormed columns new ks (statement.Open (length cursors))) (sym kinds_are) (last_opened columns kinds cursors new d is one))
 

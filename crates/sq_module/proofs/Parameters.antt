@@ -66,7 +66,7 @@ has_bad_type d = is_bad_type d.data_type
 abbrev pub are_bad : List ParameterDeclaration → Bool
 are_bad ds = has_name_twice (map (λ d. d.name) ds) || list_any (λ d. is_bad_type d.data_type) ds
 
--- it is declared before, or has a bad type
+-- a parameter is declared before, or has a bad type
 abbrev pub is_bad_behind : List Name → ParameterDeclaration → Bool
 is_bad_behind names d = is_among names d.name || is_bad_type d.data_type
 

@@ -18,7 +18,7 @@ len_at p (y ∷ ys) (suc i) x lt is none passes =
     let rest : position_or_len p ys ≡ i = len_at p ys i x (omega (arith, lt)) is both.1 passes in
     ap (λ b. cond (not b) (1 + position_or_len p ys) 0) both.0 ∙ omega (arith, rest)
 
--- there is none
+-- no element meets the test
 len_none : {X : Type 0} (p : X → Bool) (xs : List X) → list_any p xs ≡ false → position_or_len p xs ≡ length xs
 len_none p [] none = refl
 len_none p (y ∷ ys) none =

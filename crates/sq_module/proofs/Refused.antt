@@ -22,7 +22,7 @@ use Rattle.sq_rules.specs.Words.{first_of}
 use Rattle.sq_rules.specs.declared.refusal.ModuleFault.{ModuleFault}
 use Rattle.sq_rules.specs.declared.refusal.ModuleFault.TheVariants as fault
 use Rattle.sq_module.specs.FirstRefusal.{IsFaultAt, IsFaultFor, item_refusal, refusal_of}
-use Rattle.sq_module.specs.Refusal.{has_open_count, is_name, opened_by, opened_in, opener_count}
+use Rattle.sq_module.specs.Refusal.{has_open_count, is_some_name, opened_by, opened_in, opener_count}
 use Rattle.sq_module.specs.declared.refusal.SessionFault.{SessionFault}
 use Rattle.sq_module.specs.declared.refusal.SessionFault.TheVariants.{Refused, NoMemory}
 use Rattle.sq_module.proofs.Written.{take_whole}
@@ -71,7 +71,7 @@ handed P (Err g) f is h = subst P (sym is) h
 
 -- ---- how many procedures open a cursor
 
-one_opens : (cursor : Name) (s : Statement) → is_name cursor (opened_by s) ≡ opens cursor s
+one_opens : (cursor : Name) (s : Statement) → is_some_name cursor (opened_by s) ≡ opens cursor s
 one_opens cursor (statement.Open name) = nat_list_eq_equiv.symm cursor name
 one_opens cursor (statement.Fetch t) = refl
 one_opens cursor (statement.Close name) = refl
@@ -85,13 +85,13 @@ one_opens cursor (statement.Rollback w) = refl
 count_is : (cursor : Name) (items : List ModuleItem) → opener_count items cursor ≡ count_by (λ (p : Procedure). opens cursor p.statement) (filter_map procedure_in items)
 count_is cursor [] = refl
 count_is cursor (item.Cursor c ∷ items) =
-    let added = sum_by-cons (λ (i : ModuleItem). cond (is_name cursor (opened_in i)) 1 0) (item.Cursor c) items in
+    let added = sum_by-cons (λ (i : ModuleItem). cond (is_some_name cursor (opened_in i)) 1 0) (item.Cursor c) items in
     let rest = count_is cursor items in
     omega (arith, added, rest)
 count_is cursor (item.Procedure p ∷ items) =
-    let added = sum_by-cons (λ (i : ModuleItem). cond (is_name cursor (opened_in i)) 1 0) (item.Procedure p) items in
+    let added = sum_by-cons (λ (i : ModuleItem). cond (is_some_name cursor (opened_in i)) 1 0) (item.Procedure p) items in
     let counted = sum_by-cons (λ (q : Procedure). cond (opens cursor q.statement) 1 0) p (filter_map procedure_in items) in
-    let same : ◌≡◌ {A = ℕ} (cond (is_name cursor (opened_by p.statement)) 1 0) (cond (opens cursor p.statement) 1 0) = ap (λ b. cond b 1 0) (one_opens cursor p.statement) in
+    let same : ◌≡◌ {A = ℕ} (cond (is_some_name cursor (opened_by p.statement)) 1 0) (cond (opens cursor p.statement) 1 0) = ap (λ b. cond b 1 0) (one_opens cursor p.statement) in
     let rest = count_is cursor items in
     omega (arith, added, counted, same, rest)
 

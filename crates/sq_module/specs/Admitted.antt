@@ -8,7 +8,7 @@ use Rattle.sq_tree.specs.declared.module.ModuleItem.{ModuleItem}
 use Rattle.sq_tree.specs.declared.module.ModuleItem.TheVariants as item
 use Rattle.sq_tree.specs.declared.module.Procedure.{Procedure}
 use Rattle.sq_meaning.specs.Environment.{same_name}
-use Rattle.sq_module.specs.Refusal.{is_name, opened_by}
+use Rattle.sq_module.specs.Refusal.{is_some_name, opened_by}
 use Rattle.sq_module.specs.declared.admission.AdmittedModule.{AdmittedModule}
 use Rattle.sq_module.specs.declared.admission.AdmittedProcedure.{AdmittedProcedure}
 use Rattle.sq_module.specs.declared.program.ProcedureName.{ProcedureName}
@@ -16,7 +16,7 @@ use Rattle.sq_module.specs.declared.program.ProcedureName.{ProcedureName}
 abbrev pub procedure_names : List AdmittedProcedure → List Name
 procedure_names procedures = map (λ p. p.procedure.now.name) procedures
 
--- as they are written
+-- procedures as they are written
 abbrev pub admitted_written : List AdmittedProcedure → List Procedure
 admitted_written procedures = map (λ p. p.procedure.now) procedures
 
@@ -29,7 +29,7 @@ name_of «module» p = record { «module» = «module»; name = p.procedure.now.
 abbrev pub module_keys : AdmittedModule → List ProcedureName
 module_keys m = map (name_of m.name) m.procedures.items
 
--- those of all modules, each by its module's name and its own
+-- the procedures of all modules, each by its module's name and its own
 abbrev pub admitted_procedures : List AdmittedModule → List ProcedureName
 admitted_procedures modules = flat_map module_keys modules
 
@@ -47,9 +47,12 @@ opening_in (item.Cursor c) = []
 
 -- exactly one procedure of a module opens each of its cursors
 abbrev pub OpensEachOnce : AdmittedModule → Type 0
-OpensEachOnce a = AllByRecursion (λ e. count_by (is_name e.0) (openings a.procedures.items) ≡ 1) a.cursors.entries
+OpensEachOnce a =
+    AllByRecursion (λ e. count_by (is_some_name e.0) (openings a.procedures.items) ≡ 1) a.cursors.entries
 
 -- the names of the modules differ from these and from one another, and each of their cursors is opened once
 abbrev pub AreAdmitted : List Name → List AdmittedModule → Type 0
 AreAdmitted before [] = ⊤
-AreAdmitted before (a ∷ modules) = (list_any (same_name a.name) before ≡ false) × OpensEachOnce a × AreAdmitted (before ++ a.name ∷ []) modules
+AreAdmitted before (a ∷ modules) =
+    (list_any (same_name a.name) before ≡ false) × OpensEachOnce a
+    × AreAdmitted (before ++ a.name ∷ []) modules

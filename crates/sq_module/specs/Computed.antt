@@ -31,7 +31,8 @@ IsComputed outcome (Err f) = outcome ≡ Err f.rule
 
 -- a procedure is the one of its name in the text of its module's name; the cursors that its statement names are those of the module without a
 -- fault
-pub record IsComputedProcedure (names : Name → UserNames) (texts : List ModuleText) (e : ProcedureName × BoundProcedure) : Type 0 where
+pub record IsComputedProcedure (names : Name → UserNames) (texts : List ModuleText)
+    (e : ProcedureName × BoundProcedure) : Type 0 where
   pub text : ModuleText
   pub among : IsAmong texts text
   pub named : e.0.«module» ≡ text.name
@@ -42,23 +43,26 @@ pub record IsComputedProcedure (names : Name → UserNames) (texts : List Module
   pub number : Name → ℕ
   pub computed : IsComputed (procedure_bound (names text.authorization) number text procedure) e.1.statement
 
--- a cursor without a fault
-pub record IsComputedCursor (names : Name → UserNames) (texts : List ModuleText) (d : DeclaredCursor) : Type 0 where
+-- a cursor without a fault is bound as it is computed for the procedure that opens it
+pub record IsComputedCursor (names : Name → UserNames) (texts : List ModuleText)
+    (d : DeclaredCursor) : Type 0 where
   pub text : ModuleText
   pub among : IsAmong texts text
   pub named : d.«module» ≡ text.name
   pub cursor : Cursor
   pub is_item : IsAmong text.items (item.Cursor cursor)
   pub is_named : d.name ≡ cursor.name
-  pub computed : cursor_bound (names text.authorization) (opener_parameters text cursor.name) cursor ≡ Ok (cursor_seen d.cursor)
+  pub computed : cursor_bound (names text.authorization) (opener_parameters text cursor.name) cursor
+      ≡ Ok (cursor_seen d.cursor)
 
-abbrev pub AreComputedProcedures : (Name → UserNames) → List ModuleText → List (ProcedureName × BoundProcedure) → Type 0
+abbrev pub AreComputedProcedures : (Name → UserNames) → List ModuleText
+    → List (ProcedureName × BoundProcedure) → Type 0
 AreComputedProcedures names texts procedures = AllByRecursion (IsComputedProcedure names texts) procedures
 
 abbrev pub AreComputedCursors : (Name → UserNames) → List ModuleText → List DeclaredCursor → Type 0
 AreComputedCursors names texts cursors = AllByRecursion (IsComputedCursor names texts) cursors
 
--- where names of tables mean this to each user
+-- a program is computed of the texts, where names of tables mean this to each user
 pub record IsProgramOf (names : Name → UserNames) (texts : List ModuleText) (p : Program) : Type 0 where
   pub procedures : AreComputedProcedures names texts p.procedures.entries
   pub cursors : AreComputedCursors names texts p.cursors.items
@@ -69,7 +73,7 @@ abbrev pub as_bound : {T : Type 0} → Result T Fault → Result T Stop
 as_bound (Ok x) = Ok x
 as_bound (Err f) = Err (stop.Fault f)
 
--- what is bound, or none where it has a fault
+-- the bound part, or none where it has a fault
 abbrev pub IsPart : {T : Type 0} → Result T Stop → Option T → Type 0
 IsPart bound (Some x) = bound ≡ Ok x
 IsPart bound None = (f : Fault) × (bound ≡ Err (stop.Fault f))

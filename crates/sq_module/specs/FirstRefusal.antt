@@ -8,25 +8,15 @@ use Rattle.sq_rules.specs.declared.refusal.ModuleFault.{ModuleFault}
 use Rattle.sq_rules.specs.declared.refusal.ModuleFault.TheVariants as fault
 use Rattle.sq_module.specs.Refusal.{has_open_count}
 use Rattle.sq_module.specs.declared.refusal.ModuleRefusal.{ModuleRefusal}
-use Rattle.sq_module.specs.declared.refusal.ModuleRefusalName.{ModuleRefusalName}
-use Rattle.sq_module.specs.declared.refusal.ModuleRefusalName.TheVariants as name
 use Rattle.sq_module.specs.declared.refusal.SessionFault.{SessionFault}
 use Rattle.sq_module.specs.declared.refusal.SessionFault.TheVariants.{Refused, NoMemory}
 
 -- ---- what is answered
 
-abbrev pub fault_of : ModuleRefusalName → ModuleFault
-fault_of name.TwoModules = fault.TwoModules
-fault_of name.TwoProcedures = fault.TwoProcedures
-fault_of name.TwoCursors = fault.TwoCursors
-fault_of name.OpenCount = fault.OpenCount
-fault_of name.StatusParameter = fault.StatusParameter
-fault_of name.BadParameter = fault.BadParameter
-
 abbrev pub refusal_of : ModuleRefusal → Refusal
-refusal_of r = record { text = r.text; item = r.item; fault = fault_of r.name }
+refusal_of r = record { text = r.text; item = r.item; fault = r.fault }
 
--- a fault is the refusal that was found; running out of memory is none
+-- a refusal is the one that was found, or memory ran out
 abbrev pub IsFaultFor : Option Refusal → SessionFault → Type 0
 IsFaultFor found NoMemory = ⊤
 IsFaultFor found (Refused r) = found ≡ Some (refusal_of r)
@@ -34,7 +24,8 @@ IsFaultFor found (Refused r) = found ≡ Some (refusal_of r)
 -- a fault is this one, of the item at a place in a text, for a reason that holds
 abbrev pub IsFaultAt : ℕ → ℕ → ModuleFault → Type 0 → SessionFault → Type 0
 IsFaultAt text place why So NoMemory = ⊤
-IsFaultAt text place why So (Refused r) = (refusal_of r ≡ record { text = text; item = Some place; fault = why }) × So
+IsFaultAt text place why So (Refused r) =
+    (refusal_of r ≡ record { text = text; item = Some place; fault = why }) × So
 
 -- ---- what is looked for
 

@@ -1,3 +1,4 @@
+pub mod Added
 pub mod Admitted
 pub mod Computed
 pub mod FirstRefusal

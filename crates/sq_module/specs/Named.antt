@@ -21,18 +21,23 @@ use Rattle.sq_binder.specs.declared.stop.Stop.{Stop}
 use Rattle.sq_promises.specs.Names.{declared}
 use Rattle.sq_promises.specs.Seen.{cursor_seen, table_named}
 use Rattle.sq_module.specs.Admitted.{opened_of, openings}
-use Rattle.sq_module.specs.Refusal.{is_name}
+use Rattle.sq_module.specs.Refusal.{is_some_name}
 use Rattle.sq_module.specs.declared.admission.AdmittedProcedure.{AdmittedProcedure}
 use Rattle.sq_module.specs.declared.program.DeclaredCursor.{DeclaredCursor}
 
 abbrev pub numbered_as : ℕ → DeclaredCursor → NamedCursor
-numbered_as n d = record { number = n; scroll = d.cursor.scroll; columns = map column_of d.cursor.columns; table = option_map table_named d.cursor.table }
+numbered_as n d = record {
+  number = n;
+  scroll = d.cursor.scroll;
+  columns = map column_of d.cursor.columns;
+  table = option_map table_named d.cursor.table;
+}
 
 -- the cursor with this number
 abbrev pub cursor_at : List DeclaredCursor → ℕ → Option NamedCursor
 cursor_at cursors n = option_map (numbered_as n) (slice_get cursors n)
 
--- those whose names have these numbers
+-- the cursors whose names have these numbers
 abbrev pub cursors_named : List DeclaredCursor → List (Name × ℕ) → NamedCursors
 cursors_named cursors numbers name = option_and_then (cursor_at cursors) (lookup (same_name name) numbers)
 
@@ -45,25 +50,31 @@ number_in numbers name = unwrap_or (lookup (same_name name) numbers) 0
 -- a cursor that these procedures open, if its query has no fault; of the others none is known yet
 abbrev pub opened_so_far : UserNames → ModuleText → List AdmittedProcedure → List (Name × ℕ) → NamedCursors
 opened_so_far names m procedures numbers name =
-    if list_any (is_name name) (openings procedures) then option_and_then (cursor_if_sound names (number_in numbers name) m) (cursor_named m name) else None
+    if list_any (is_some_name name) (openings procedures)
+    then option_and_then (cursor_if_sound names (number_in numbers name) m) (cursor_named m name) else None
 
 -- the cursors that names mean are those that the procedures so far open
-abbrev pub AreNamed : UserNames → ModuleText → List AdmittedProcedure → List DeclaredCursor → List (Name × ℕ) → Type 0
-AreNamed names m procedures cursors numbers = (name : Name) → cursors_named cursors numbers name ≡ opened_so_far names m procedures numbers name
+abbrev pub AreNamed : UserNames → ModuleText → List AdmittedProcedure → List DeclaredCursor → List (Name × ℕ)
+    → Type 0
+AreNamed names m procedures cursors numbers =
+    (name : Name) → cursors_named cursors numbers name ≡ opened_so_far names m procedures numbers name
 
--- they are all those of the module
+-- the cursors that names mean are those of the module
 abbrev pub AreNamedAs : UserNames → ModuleText → List DeclaredCursor → List (Name × ℕ) → Type 0
-AreNamedAs names m cursors numbers = cursors_named cursors numbers ≡ module_cursors names (number_in numbers) m
+AreNamedAs names m cursors numbers =
+    cursors_named cursors numbers ≡ module_cursors names (number_in numbers) m
 
 -- a cursor of the module that a procedure opens is opened by none before it, and bound for its parameters
 abbrev pub IsOnlyIn : ModuleText → List AdmittedProcedure → AdmittedProcedure → Type 0
 IsOnlyIn m before p = IfSome (opened_of p) (λ name. IfSome (cursor_named m name)
-    (λ c. (list_any (is_name name) (openings before) ≡ false) × (opener_parameters m c.name ≡ declared p.parameters)))
+    (λ c. (list_any (is_some_name name) (openings before) ≡ false)
+    × (opener_parameters m c.name ≡ declared p.parameters)))
 
 -- what is bound is the cursor of this name in the module, which a procedure opens, and none before it
-pub record IsNext (names : UserNames) (m : ModuleText) (before : List AdmittedProcedure) (p : AdmittedProcedure) (name : Name) (bound : Result BoundCursor Stop) : Type 0 where
+pub record IsNext (names : UserNames) (m : ModuleText) (before : List AdmittedProcedure)
+    (p : AdmittedProcedure) (name : Name) (bound : Result BoundCursor Stop) : Type 0 where
   pub opens : opened_of p ≡ Some name
-  pub new : list_any (is_name name) (openings before) ≡ false
+  pub new : list_any (is_some_name name) (openings before) ≡ false
   pub cursor : Cursor
   pub is_cursor : cursor_named m name ≡ Some cursor
   pub is_item : IsAmong m.items (item.Cursor cursor)

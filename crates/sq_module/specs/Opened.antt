@@ -9,7 +9,7 @@ use Rattle.sq_bound.specs.WellFormed.{TableKinds, kinds_of_parameters}
 use Rattle.sq_bound.specs.declared.statement.BoundStatement.TheVariants as statement
 use Rattle.sq_module.specs.Admitted.{opened_of, openings}
 use Rattle.sq_module.specs.Program.{OpensWellFormed}
-use Rattle.sq_module.specs.Refusal.{is_name}
+use Rattle.sq_module.specs.Refusal.{is_some_name}
 use Rattle.sq_module.specs.Written.{is_cursor}
 use Rattle.sq_module.specs.declared.admission.AdmittedModule.{AdmittedModule}
 use Rattle.sq_module.specs.declared.admission.AdmittedProcedure.{AdmittedProcedure}
@@ -17,26 +17,29 @@ use Rattle.sq_module.specs.declared.program.DeclaredCursor.{DeclaredCursor}
 
 -- the cursor that a procedure opens, if it has a number, is well formed there
 abbrev pub IsOpenable : TableKinds → List DeclaredCursor → List (Name × ℕ) → AdmittedProcedure → Type 0
-IsOpenable columns cursors numbers p = IfSome (opened_of p)
-    (λ name. IfSome (lookup (same_name name) numbers) (λ n. OpensWellFormed columns cursors (kinds_of_parameters p.parameters) (statement.Open n)))
+IsOpenable table_kinds cursors numbers p = IfSome (opened_of p)
+    (λ name. IfSome (lookup (same_name name) numbers)
+    (λ n. OpensWellFormed table_kinds cursors (kinds_of_parameters p.parameters) (statement.Open n)))
 
 abbrev pub AreOpenable : TableKinds → List DeclaredCursor → List (Name × ℕ) → List AdmittedProcedure → Type 0
-AreOpenable columns cursors numbers = AllByRecursion (IsOpenable columns cursors numbers)
+AreOpenable table_kinds cursors numbers = AllByRecursion (IsOpenable table_kinds cursors numbers)
 
 -- the procedures that open the cursor of this name have parameters of these kinds
 abbrev pub HaveKinds : Name → List Kind → List AdmittedProcedure → Type 0
-HaveKinds name kinds = AllByRecursion (λ p. is_name name (opened_of p) ≡ true → kinds_of_parameters p.parameters ≡ kinds)
+HaveKinds name kinds =
+    AllByRecursion (λ p. is_some_name name (opened_of p) ≡ true → kinds_of_parameters p.parameters ≡ kinds)
 
 -- a cursor of the module that a procedure opens is opened with no other parameters
 abbrev pub IsOnlyOpener : AdmittedModule → List AdmittedProcedure → AdmittedProcedure → Type 0
 IsOnlyOpener a procedures p = IfSome (opened_of p)
-    (λ name. IfSome (lookup (same_name name) a.cursors.entries) (λ c. HaveKinds name (kinds_of_parameters p.parameters) procedures))
+    (λ name. IfSome (lookup (same_name name) a.cursors.entries)
+    (λ c. HaveKinds name (kinds_of_parameters p.parameters) procedures))
 
 -- cursors come behind those that were there
 abbrev pub Grow : List DeclaredCursor → List DeclaredCursor → Type 0
 Grow old new = (more : List DeclaredCursor) × (new ≡ old ++ more)
 
--- each number that a name has is that of one of so many cursors
+-- the number of each name is below the number of cursors
 abbrev pub AreThere : ℕ → List (Name × ℕ) → Type 0
 AreThere cursors numbers = list_all (λ e. nat_lt e.1 cursors) numbers ≡ true
 
@@ -52,7 +55,9 @@ AreOfOthers «module» cursors = list_any (is_in «module») cursors ≡ false
 
 -- the cursors of the module are among those that these procedures open
 abbrev pub OpenedBy : Name → List AdmittedProcedure → List DeclaredCursor → Type 0
-OpenedBy «module» procedures cursors = AllByRecursion (λ c. is_in «module» c ≡ true → list_any (is_name c.name) (openings procedures) ≡ true) cursors
+OpenedBy «module» procedures cursors =
+    AllByRecursion (λ c. is_in «module» c ≡ true → list_any (is_some_name c.name) (openings procedures) ≡ true)
+    cursors
 
 -- the cursor of this name in the module is not there
 abbrev pub IsNew : Name → List DeclaredCursor → Name → Type 0
@@ -60,4 +65,6 @@ IsNew «module» cursors name = list_any (is_cursor «module» name) cursors ≡
 
 -- the cursor that a procedure opens is not there, if the module has one of that name
 abbrev pub OpensNew : AdmittedModule → List DeclaredCursor → AdmittedProcedure → Type 0
-OpensNew a cursors p = IfSome (opened_of p) (λ name. IfSome (lookup (same_name name) a.cursors.entries) (λ c. IsNew a.name cursors name))
+OpensNew a cursors p =
+    IfSome (opened_of p) (λ name. IfSome (lookup (same_name name) a.cursors.entries)
+    (λ c. IsNew a.name cursors name))

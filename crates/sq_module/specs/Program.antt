@@ -45,7 +45,7 @@ module_procedures m = flat_map (procedure_in m.name) m.items
 abbrev pub declared_procedures : List ModuleText → List ProcedureName
 declared_procedures modules = flat_map module_procedures modules
 
--- those behind others; of two with one name the first place counts
+-- procedures behind others; of two with one name the first place counts
 abbrev pub with_procedures : List ProcedureName → List ProcedureName → List ProcedureName
 with_procedures before procedures = fold (insert_key same_procedure) before procedures
 
@@ -59,7 +59,9 @@ AreNew before (name ∷ names) = (list_any (same_name name) before ≡ false) ×
 -- the modules have different names, and so have the procedures of each
 abbrev pub HaveNames : List Name → List ModuleText → Type 0
 HaveNames before [] = ⊤
-HaveNames before (m ∷ modules) = (list_any (same_name m.name) before ≡ false) × AreNew [] (names_in m.items) × HaveNames (before ++ m.name ∷ []) modules
+HaveNames before (m ∷ modules) =
+    (list_any (same_name m.name) before ≡ false) × AreNew [] (names_in m.items)
+    × HaveNames (before ++ m.name ∷ []) modules
 
 -- ---- what statements and cursors name is there (own notion, of bound trees)
 
@@ -67,7 +69,7 @@ HaveNames before (m ∷ modules) = (list_any (same_name m.name) before ≡ false
 abbrev pub CursorsFit : List BaseTable → List DeclaredCursor → Type 0
 CursorsFit bases cursors = AllByRecursion (λ c. FitsCursor bases c.cursor) cursors
 
--- a statement without a fault fits the base tables, so many cursors, and the parameters of its procedure
+-- a statement without a fault fits the base tables, the number of cursors, and the parameters of its procedure
 abbrev pub FitsProcedure : List BaseTable → ℕ → BoundProcedure → Type 0
 FitsProcedure bases cursors p = IfOk p.statement (λ s. FitsStatement bases cursors (length p.parameters) s)
 
@@ -76,7 +78,8 @@ ProceduresFit bases cursors procedures = AllByRecursion (λ e. FitsProcedure bas
 
 -- the cursors of a program fit the base tables, and its procedures those and the cursors
 abbrev pub FitsProgram : List BaseTable → Program → Type 0
-FitsProgram bases p = CursorsFit bases p.cursors.items × ProceduresFit bases (length p.cursors.items) p.procedures.entries
+FitsProgram bases p =
+    CursorsFit bases p.cursors.items × ProceduresFit bases (length p.cursors.items) p.procedures.entries
 
 -- ---- cursors and statements are well formed (clause 13)
 
@@ -86,30 +89,37 @@ kinds_of_cursors cursors = map (λ c. kinds_of_results c.cursor.columns) cursors
 
 -- each cursor is well formed where a procedure with some parameters opens it
 abbrev pub CursorsAreWellFormed : TableKinds → List DeclaredCursor → Type 0
-CursorsAreWellFormed columns cursors = AllByRecursion (λ c. (parameters : List Kind) × IsCursor columns parameters c.cursor) cursors
+CursorsAreWellFormed table_kinds cursors =
+    AllByRecursion (λ c. (parameters : List Kind) × IsCursor table_kinds parameters c.cursor) cursors
 
 -- a statement without a fault is well formed, where its procedure has these parameters and the cursors columns of these kinds
 abbrev pub ProcedureIsWellFormed : TableKinds → List (List Kind) → BoundProcedure → Type 0
-ProcedureIsWellFormed columns cursors p = IfOk p.statement (IsStatement columns cursors (kinds_of_parameters p.parameters))
+ProcedureIsWellFormed table_kinds cursors p =
+    IfOk p.statement (IsStatement table_kinds cursors (kinds_of_parameters p.parameters))
 
-abbrev pub ProceduresAreWellFormed : TableKinds → List (List Kind) → List (ProcedureName × BoundProcedure) → Type 0
-ProceduresAreWellFormed columns cursors procedures = AllByRecursion (λ e. ProcedureIsWellFormed columns cursors e.1) procedures
+abbrev pub ProceduresAreWellFormed : TableKinds → List (List Kind) → List (ProcedureName × BoundProcedure)
+    → Type 0
+ProceduresAreWellFormed table_kinds cursors procedures =
+    AllByRecursion (λ e. ProcedureIsWellFormed table_kinds cursors e.1) procedures
 
 -- an OPEN is of a cursor that is well formed where a procedure with these parameters opens it
 abbrev pub OpensWellFormed : TableKinds → List DeclaredCursor → List Kind → BoundStatement → Type 0
-OpensWellFormed columns cursors parameters (statement.Open n) = Has (λ c. IsCursor columns parameters c.cursor) (well_formed (slice_get cursors n))
-OpensWellFormed columns cursors parameters _ = ⊤
+OpensWellFormed table_kinds cursors parameters (statement.Open n) =
+    Has (λ c. IsCursor table_kinds parameters c.cursor) (well_formed (slice_get cursors n))
+OpensWellFormed table_kinds cursors parameters _ = ⊤
 
 -- a procedure whose statement has no fault opens no other
 abbrev pub ProcedureOpens : TableKinds → List DeclaredCursor → BoundProcedure → Type 0
-ProcedureOpens columns cursors p = IfOk p.statement (OpensWellFormed columns cursors (kinds_of_parameters p.parameters))
+ProcedureOpens table_kinds cursors p =
+    IfOk p.statement (OpensWellFormed table_kinds cursors (kinds_of_parameters p.parameters))
 
 abbrev pub ProceduresOpen : TableKinds → List DeclaredCursor → List (ProcedureName × BoundProcedure) → Type 0
-ProceduresOpen columns cursors procedures = AllByRecursion (λ e. ProcedureOpens columns cursors e.1) procedures
+ProceduresOpen table_kinds cursors procedures =
+    AllByRecursion (λ e. ProcedureOpens table_kinds cursors e.1) procedures
 
 -- the cursors of a program are well formed, and so are its procedures beside them, those that open them included
 abbrev pub ProgramIsWellFormed : TableKinds → Program → Type 0
-ProgramIsWellFormed columns p =
-    CursorsAreWellFormed columns p.cursors.items
-    × ProceduresAreWellFormed columns (kinds_of_cursors p.cursors.items) p.procedures.entries
-    × ProceduresOpen columns p.cursors.items p.procedures.entries
+ProgramIsWellFormed table_kinds p =
+    CursorsAreWellFormed table_kinds p.cursors.items
+    × ProceduresAreWellFormed table_kinds (kinds_of_cursors p.cursors.items) p.procedures.entries
+    × ProceduresOpen table_kinds p.cursors.items p.procedures.entries

@@ -25,23 +25,26 @@ abbrev pub opened_in : ModuleItem → Option Name
 opened_in (item.Procedure p) = opened_by p.statement
 opened_in (item.Cursor c) = None
 
-abbrev pub is_name : Name → Option Name → Bool
-is_name name None = false
-is_name name (Some other) = same_name name other
+-- there is a name, and it is this one
+abbrev pub is_some_name : Name → Option Name → Bool
+is_some_name name None = false
+is_some_name name (Some other) = same_name name other
 
 -- how many procedures open the cursor
 abbrev pub opener_count : List ModuleItem → Name → ℕ
-opener_count items cursor = count_by (λ i. is_name cursor (opened_in i)) items
+opener_count items cursor = count_by (λ i. is_some_name cursor (opened_in i)) items
 
--- the item is a cursor that not exactly one procedure opens
+-- the item is a cursor that is opened by no procedure or by several
 abbrev pub has_open_count : List ModuleItem → ModuleItem → Bool
 has_open_count items (item.Cursor c) = not (opener_count items c.name == 1)
 has_open_count items (item.Procedure p) = false
 
 -- the cursors that procedures among these items open, and those that two or more of them do
 pub record AreOpeners (items : List ModuleItem) (openers : Openers) : Type 0 where
-  pub opened : (cursor : Name) → list_any (same_name cursor) openers.opened.keys ≡ nat_lt 0 (opener_count items cursor)
-  pub shared : (cursor : Name) → list_any (same_name cursor) openers.shared.keys ≡ nat_lt 1 (opener_count items cursor)
+  pub opened : (cursor : Name)
+      → list_any (same_name cursor) openers.opened.keys ≡ nat_lt 0 (opener_count items cursor)
+  pub shared : (cursor : Name)
+      → list_any (same_name cursor) openers.shared.keys ≡ nat_lt 1 (opener_count items cursor)
 
 -- ---- modules
 
@@ -60,7 +63,7 @@ abbrev pub IsOfModule : ℕ → SessionFault → Type 0
 IsOfModule number NoMemory = ⊤
 IsOfModule number (Refused refusal) = refusal.text ≡ number
 
--- one of so many modules is refused
+-- the module that is refused is one of this many
 abbrev pub IsOfSomeModule : ℕ → SessionFault → Type 0
 IsOfSomeModule count NoMemory = ⊤
 IsOfSomeModule count (Refused refusal) = refusal.text < count

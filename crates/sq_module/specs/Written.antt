@@ -52,7 +52,9 @@ Declare ds parameters = map named_as parameters ≡ flat_map named_in ds
 
 -- a procedure is one of these items, and its parameters are those that it declares
 abbrev pub IsProcedureOf : List ModuleItem → AdmittedProcedure → Type 0
-IsProcedureOf items p = IsAmong items (item.Procedure p.procedure.now) × Declare (declarations_of p.procedure.now.declarations) p.parameters
+IsProcedureOf items p =
+    IsAmong items (item.Procedure p.procedure.now)
+    × Declare (declarations_of p.procedure.now.declarations) p.parameters
 
 -- a cursor is one of these items, and stands under its name
 abbrev pub IsCursorIn : List ModuleItem → Name × Bor Cursor → Type 0
@@ -82,7 +84,8 @@ pub record IsOpenedIn (m : ModuleText) (name : Name) (parameters : List Paramete
 
 -- a cursor is bound from this one of the module: it has the module's name and user, its name there, and the rows of its query for the
 -- parameters of the procedure that opens it
-pub record IsDeclaredFrom (names : KnownTables) (m : ModuleText) (c : Cursor) (declared : DeclaredCursor) : Type 0 where
+pub record IsDeclaredFrom (names : KnownTables) (m : ModuleText) (c : Cursor)
+    (declared : DeclaredCursor) : Type 0 where
   pub of_module : declared.«module» ≡ m.name
   pub named : declared.name ≡ c.name
   pub user : declared.user ≡ m.authorization
@@ -91,7 +94,8 @@ pub record IsDeclaredFrom (names : KnownTables) (m : ModuleText) (c : Cursor) (d
   pub cursor : IsCursorOf names m.authorization parameters c declared.cursor
 
 -- the cursor with this number is the one that the module declares under this name
-pub record IsNumberOf (names : KnownTables) (m : ModuleText) (cursors : List DeclaredCursor) (name : Name) (number : ℕ) : Type 0 where
+pub record IsNumberOf (names : KnownTables) (m : ModuleText) (cursors : List DeclaredCursor) (name : Name)
+    (number : ℕ) : Type 0 where
   pub cursor : Cursor
   pub among : IsAmong m.items (item.Cursor cursor)
   pub named : cursor.name ≡ name
@@ -104,21 +108,26 @@ is_cursor «module» name c = same_name «module» c.«module» && same_name nam
 -- each cursor differs in its module or its name from these and from those before it
 abbrev pub AreApart : List DeclaredCursor → List DeclaredCursor → Type 0
 AreApart before [] = ⊤
-AreApart before (c ∷ cursors) = (list_any (is_cursor c.«module» c.name) before ≡ false) × AreApart (before ++ c ∷ []) cursors
+AreApart before (c ∷ cursors) =
+    (list_any (is_cursor c.«module» c.name) before ≡ false) × AreApart (before ++ c ∷ []) cursors
 
 -- a statement is bound from this one of a procedure with these parameters in the module
-abbrev pub IsStatementIn : KnownTables → ModuleText → List DeclaredCursor → List ParameterDesc → Statement → BoundStatement → Type 0
-IsStatementIn names m cursors parameters s bound = IsStatementOf names (IsNumberOf names m cursors) m.authorization parameters s bound
+abbrev pub IsStatementIn : KnownTables → ModuleText → List DeclaredCursor → List ParameterDesc → Statement
+    → BoundStatement → Type 0
+IsStatementIn names m cursors parameters s bound =
+    IsStatementOf names (IsNumberOf names m cursors) m.authorization parameters s bound
 
 -- a procedure is bound from this one of the module: its parameters are those that it declares, and its statement, if it has no fault,
 -- is the one that is written
-pub record IsBoundFrom (names : KnownTables) (m : ModuleText) (cursors : List DeclaredCursor) (p : Procedure) (bound : BoundProcedure) : Type 0 where
+pub record IsBoundFrom (names : KnownTables) (m : ModuleText) (cursors : List DeclaredCursor) (p : Procedure)
+    (bound : BoundProcedure) : Type 0 where
   pub user : bound.user ≡ m.authorization
   pub parameters : Declare (declarations_of p.declarations) bound.parameters
   pub statement : IfOk bound.statement (IsStatementIn names m cursors bound.parameters p.statement)
 
 -- a procedure of a program is bound from the one of its name in the text of its module's name
-pub record IsFromTexts (names : KnownTables) (texts : List ModuleText) (cursors : List DeclaredCursor) (e : ProcedureName × BoundProcedure) : Type 0 where
+pub record IsFromTexts (names : KnownTables) (texts : List ModuleText) (cursors : List DeclaredCursor)
+    (e : ProcedureName × BoundProcedure) : Type 0 where
   pub text : ModuleText
   pub among : IsAmong texts text
   pub named : e.0.«module» ≡ text.name
@@ -127,7 +136,8 @@ pub record IsFromTexts (names : KnownTables) (texts : List ModuleText) (cursors 
   pub is_named : e.0.name ≡ procedure.name
   pub bound : IsBoundFrom names text cursors procedure e.1
 
-abbrev pub AreFromTexts : KnownTables → List ModuleText → List DeclaredCursor → List (ProcedureName × BoundProcedure) → Type 0
+abbrev pub AreFromTexts : KnownTables → List ModuleText → List DeclaredCursor
+    → List (ProcedureName × BoundProcedure) → Type 0
 AreFromTexts names texts cursors procedures = AllByRecursion (IsFromTexts names texts cursors) procedures
 
 -- each procedure of a program is of one of the texts
@@ -141,12 +151,13 @@ pub record IsOfTexts (names : KnownTables) (texts : List ModuleText) (p : Progra
 
 -- ---- while a module is bound
 
--- the numbers that its cursors have so far
+-- the numbers so far are those of cursors of the module
 abbrev pub AreNumbers : KnownTables → ModuleText → List DeclaredCursor → List (Name × ℕ) → Type 0
 AreNumbers names m cursors numbers = AllByRecursion (λ e. IsNumberOf names m cursors e.0 e.1) numbers
 
 -- a cursor, if it has no fault, is bound from the one of this name in the module
-pub record IsCursorNamed (names : KnownTables) (m : ModuleText) (name : Name) (bound : Result BoundCursor Stop) : Type 0 where
+pub record IsCursorNamed (names : KnownTables) (m : ModuleText) (name : Name)
+    (bound : Result BoundCursor Stop) : Type 0 where
   pub cursor : Cursor
   pub among : IsAmong m.items (item.Cursor cursor)
   pub named : cursor.name ≡ name

@@ -1,31 +1,29 @@
 //! Which modules are refused (ISO/IEC 9075:1992, 12.1 to 12.3 and 13.1; that exactly one procedure opens each cursor is an
 //! own rule).
 
-ghost use Rattle.std.specs.Prelude.{◌≡◌, [], ◌∷◌, ◌++◌, true, false, IfErr, IfOk, List, None, OnOk, Some, filter_map, flat_map, length, map, not, option_to_list, position};
-ghost use Rattle.std.specs.List.{AllByRecursion, IsAmong, list_any};
-ghost use Rattle.std.specs.Map.{keys_of};
-ghost use Rattle.sq_tree.specs.declared.module.ModuleItem.TheVariants.{Cursor as CursorItem};
-ghost use Rattle.sq_tree.specs.declared.module.ModuleItem.{ModuleItem as AnyItem};
+ghost use Rattle.std.specs.Prelude.{◌≡◌, [], ◌∷◌, ◌++◌, true, false, IfErr, IfOk, None, OnOk, Some, filter_map, flat_map, length, map, not, position};
+ghost use Rattle.std.specs.List.{AllByRecursion, list_any};
 ghost use Rattle.sq_meaning.specs.Environment.{same_name};
 ghost use Rattle.sq_module.specs.declared.admission.AdmittedModule.{AdmittedModule as Admitted};
-ghost use Rattle.sq_module.specs.Admitted.{AreAdmitted, OpensEachOnce, admitted_procedures, admitted_written, cursors_written, module_keys, opening_in, openings, procedure_names};
+ghost use Rattle.sq_module.specs.Admitted.{AreAdmitted, OpensEachOnce, admitted_procedures, admitted_written, module_keys, opening_in, openings, procedure_names};
 ghost use Rattle.sq_module.specs.Program.{AreNew, HaveNames, declared_procedures, module_procedures, name_in, names_in};
-ghost use Rattle.sq_rules.specs.Module.{cursor_in, declarations_of, parameter_declarations, procedure_in};
-ghost use Rattle.sq_rules.specs.ModuleRefusal.{at_item, cursor_name, first_module_refusal, first_repeated, has_bad_declared, has_bad_parameter, has_status_fault, module_refusal, procedure_name};
+ghost use Rattle.sq_rules.specs.Module.{procedure_in};
+ghost use Rattle.sq_rules.specs.ModuleRefusal.{first_module_refusal, first_repeated, has_status_fault, module_refusal, procedure_name};
 ghost use Rattle.sq_rules.specs.Schema.{is_among};
 ghost use Rattle.sq_rules.specs.Words.{is_some_and};
-ghost use Rattle.sq_rules.specs.declared.refusal.ModuleFault.TheVariants as fault;
-ghost use Rattle.sq_module.specs.FirstRefusal.{IsFaultFor, IsFaultAt, fault_of, item_refusal, procedure_refusal};
-ghost use Rattle.sq_module.specs.Written.{AreOfTexts, Declare, IsCursorIn, IsOfText, IsProcedureOf};
+ghost use Rattle.sq_module.specs.FirstRefusal.{IsFaultFor, item_refusal, procedure_refusal};
+ghost use Rattle.sq_module.specs.Written.{AreOfTexts, IsOfText, IsProcedureOf};
 ghost use Rattle.sq_module.specs.Refusal.{AreAdmissible, IsAdmissible, IsOfModule, IsOfSomeModule, has_open_count};
 
-use crate::declared::{has_bad_status, is_new, listed, parameters_of};
+use crate::declared::{has_bad_status, is_new, listed};
+use crate::items::{cursors_of, procedures_of};
 use crate::opener::Openers;
-use crate::refusal::{ModuleRefusal, ModuleRefusalName, SessionFault};
+use crate::refusal::{ModuleRefusal, SessionFault, refused_at};
 use indexmap::{IndexMap, IndexSet};
 use sq_bound::ParameterDesc;
 use sq_items::Items;
 use sq_lex::Name;
+use sq_rules::ModuleFault;
 use sq_tree::{Cursor, ModuleItem, ModuleText, Procedure};
 use std::alloc::{AllocError, Global};
 
@@ -46,7 +44,7 @@ pub struct AdmittedProcedure<'a> {
     pub parameters: Items<ParameterDesc>,
 }
 
-/// The modules, or the first refusal: module by module, and within a module in the order of `ModuleRefusalName`.
+/// The modules, or the first refusal: module by module, and within a module in the order of `ModuleFault`.
 pub fn admit<'a>(
     alloc: Global,
     modules: &'a [ModuleText],
@@ -119,7 +117,7 @@ fn admit_next<'a>(
 {
     if !is_new(names, module.name)? {
         return Err(SessionFault::Refused(ModuleRefusal {
-            name: ModuleRefusalName::TwoModules,
+            fault: ModuleFault::TwoModules,
             text,
             item: None,
         }));
@@ -147,7 +145,7 @@ fn admit_module<'a>(
 {
     let items = module.items.as_slice();
     let place = second_procedure(alloc, items)?;
-    refused_at(ModuleRefusalName::TwoProcedures, text, place)?;
+    refused_at(ModuleFault::TwoProcedures, text, place)?;
     let cursors = cursors_of(alloc, text, items)?;
     match admit_procedures(alloc, text, items) {
         Ok(procedures) => Ok(AdmittedModule {
@@ -180,37 +178,10 @@ fn admit_procedures<'a>(
     ensures first { IfErr result (IsFaultFor (procedure_refusal text items.now)) }
 {
     let place = without_one_opener(alloc, items)?;
-    refused_at(ModuleRefusalName::OpenCount, text, place)?;
+    refused_at(ModuleFault::OpenCount, text, place)?;
     let place = with_bad_status(alloc, items)?;
-    refused_at(ModuleRefusalName::StatusParameter, text, place)?;
+    refused_at(ModuleFault::StatusParameter, text, place)?;
     procedures_of(alloc, text, items)
-}
-
-/// A refusal of the item at a place, if there is one.
-fn refused_at(
-    name: ModuleRefusalName,
-    text: usize,
-    place: Option<usize>,
-) -> Result<(), SessionFault>
-    ensures taken { OnOk result (place ≡ None) }
-    ensures refused { IfErr result (IsOfModule text) }
-    ensures first { IfErr result (IsFaultFor (at_item text (fault_of name) place)) }
-{
-    match place {
-        None => Ok(()),
-        Some(item) => Err(refusal_at(name, text, item)),
-    }
-}
-
-fn refusal_at(name: ModuleRefusalName, text: usize, item: usize) -> SessionFault
-    ensures of { IsOfModule text result }
-    ensures is { IsFaultFor (at_item text (fault_of name) (Some item)) result }
-{
-    SessionFault::Refused(ModuleRefusal {
-        name,
-        text,
-        item: Some(item),
-    })
 }
 
 /// The first procedure that has the name of an earlier one.
@@ -242,82 +213,7 @@ fn is_new_procedure(names: &mut IndexSet<Name>, item: &ModuleItem) -> Result<boo
     }
 }
 
-/// The cursors by their names, none of which has the name of an earlier one.
-fn cursors_of<'a>(
-    alloc: Global,
-    text: usize,
-    items: &'a [ModuleItem],
-) -> Result<IndexMap<Name, &'a Cursor>, SessionFault>
-    ensures refused { IfErr result (IsOfModule text) }
-    ensures written { IfOk result (λ cursors. AllByRecursion (IsCursorIn items.now) cursors.entries) }
-    ensures listed { IfOk result
-        (λ cursors. cursors_written cursors.entries ≡ filter_map cursor_in items.now) }
-    ensures taken { IfOk result (λ _. first_repeated (map cursor_name items.now) ≡ None) }
-    ensures first { IfErr result
-        (IsFaultFor (at_item text fault.TwoCursors (first_repeated (map cursor_name items.now)))) }
-{
-    let mut cursors = IndexMap::new(alloc);
-    for (place, item) in items.iter().enumerate() {
-        if let Err(fault) = add_item(&mut cursors, text, place, item) {
-            drop(cursors);
-            return Err(fault);
-        }
-    }
-    Ok(cursors)
-}
-
-/// Adds an item, if it is a cursor.
-fn add_item<'a>(
-    cursors: &mut IndexMap<Name, &'a Cursor>,
-    text: usize,
-    place: usize,
-    item: &'a ModuleItem,
-) -> Result<(), SessionFault>
-    ensures refused { IfErr result (IsOfModule text) }
-    ensures written { (items : List AnyItem) → IsAmong items item.now
-        → AllByRecursion (IsCursorIn items) cursors.old.entries
-        → OnOk result (AllByRecursion (IsCursorIn items) cursors.new.entries) }
-    ensures listed { OnOk result (cursors_written cursors.new.entries
-        ≡ cursors_written cursors.old.entries ++ option_to_list (cursor_in item.now)) }
-    ensures keys { OnOk result
-        (keys_of cursors.new.entries ≡ keys_of cursors.old.entries ++ option_to_list (cursor_name item.now)) }
-    ensures new { OnOk result
-        (is_some_and (is_among (keys_of cursors.old.entries)) (cursor_name item.now) ≡ false) }
-    ensures repeated { IfErr result (IsFaultAt text place fault.TwoCursors
-        (is_some_and (is_among (keys_of cursors.old.entries)) (cursor_name item.now) ≡ true)) }
-{
-    match item {
-        ModuleItem::Cursor(cursor) => add_cursor(cursors, text, place, cursor),
-        ModuleItem::Procedure(_) => Ok(()),
-    }
-}
-
-fn add_cursor<'a>(
-    cursors: &mut IndexMap<Name, &'a Cursor>,
-    text: usize,
-    place: usize,
-    cursor: &'a Cursor,
-) -> Result<(), SessionFault>
-    ensures refused { IfErr result (IsOfModule text) }
-    ensures written { (items : List AnyItem) → IsAmong items (CursorItem cursor.now)
-        → AllByRecursion (IsCursorIn items) cursors.old.entries
-        → OnOk result (AllByRecursion (IsCursorIn items) cursors.new.entries) }
-    ensures listed { OnOk result
-        (cursors_written cursors.new.entries ≡ cursors_written cursors.old.entries ++ cursor.now ∷ []) }
-    ensures keys { OnOk result
-        (keys_of cursors.new.entries ≡ keys_of cursors.old.entries ++ cursor.now.name ∷ []) }
-    ensures new { OnOk result (is_among (keys_of cursors.old.entries) cursor.now.name ≡ false) }
-    ensures repeated { IfErr result (IsFaultAt text place fault.TwoCursors
-        (is_among (keys_of cursors.old.entries) cursor.now.name ≡ true)) }
-{
-    match cursors.insert(cursor.name, cursor) {
-        Ok(None) => Ok(()),
-        Ok(Some(_)) => Err(refusal_at(ModuleRefusalName::TwoCursors, text, place)),
-        Err(_) => Err(SessionFault::NoMemory),
-    }
-}
-
-/// The first cursor that not exactly one procedure opens.
+/// The first cursor that is opened by no procedure or by several.
 fn without_one_opener(alloc: Global, items: &[ModuleItem]) -> Result<Option<usize>, AllocError>
     ensures { IfOk result (λ place. place ≡ position (has_open_count items.now) items.now) }
 {
@@ -349,89 +245,5 @@ fn is_of_bad_status(alloc: Global, item: &ModuleItem) -> Result<bool, AllocError
             Ok(has_bad_status(declarations.as_slice()))
         }
         ModuleItem::Cursor(_) => Ok(false),
-    }
-}
-
-/// The procedures with their parameters, or the refusal of the first that has a parameter declared twice or of a bad type,
-/// or too many.
-fn procedures_of<'a>(
-    alloc: Global,
-    text: usize,
-    items: &'a [ModuleItem],
-) -> Result<Vec<AdmittedProcedure<'a>>, SessionFault>
-    ensures declared { IfOk result (λ admitted. procedure_names admitted.items ≡ names_in items.now) }
-    ensures written { IfOk result (λ admitted. AllByRecursion (IsProcedureOf items.now) admitted.items) }
-    ensures listed { IfOk result
-        (λ admitted. admitted_written admitted.items ≡ filter_map procedure_in items.now) }
-    ensures openings { IfOk result (λ admitted. openings admitted.items ≡ flat_map opening_in items.now) }
-    ensures refused { IfErr result (IsOfModule text) }
-    ensures taken { IfOk result (λ _. position has_bad_parameter items.now ≡ None) }
-    ensures first { IfErr result
-        (IsFaultFor (at_item text fault.BadParameter (position has_bad_parameter items.now))) }
-{
-    let mut procedures = Vec::new(alloc);
-    for (place, item) in items.iter().enumerate() {
-        if let Err(fault) = add_procedure(alloc, &mut procedures, text, place, item) {
-            drop(procedures);
-            return Err(fault);
-        }
-    }
-    Ok(procedures)
-}
-
-/// Adds an item, if it is a procedure.
-fn add_procedure<'a>(
-    alloc: Global,
-    procedures: &mut Vec<AdmittedProcedure<'a>>,
-    text: usize,
-    place: usize,
-    item: &'a ModuleItem,
-) -> Result<(), SessionFault>
-    ensures names { OnOk result
-        (procedure_names procedures.new.items ≡ procedure_names procedures.old.items ++ name_in item.now) }
-    ensures openings { OnOk result
-        (openings procedures.new.items ≡ openings procedures.old.items ++ opening_in item.now) }
-    ensures written { (items : List AnyItem) → IsAmong items item.now
-        → AllByRecursion (IsProcedureOf items) procedures.old.items
-        → OnOk result (AllByRecursion (IsProcedureOf items) procedures.new.items) }
-    ensures listed { OnOk result (admitted_written procedures.new.items
-        ≡ admitted_written procedures.old.items ++ option_to_list (procedure_in item.now)) }
-    ensures refused { IfErr result (IsOfModule text) }
-    ensures good { OnOk result (has_bad_parameter item.now ≡ false) }
-    ensures bad { IfErr result (IsFaultAt text place fault.BadParameter (has_bad_parameter item.now ≡ true)) }
-{
-    match item {
-        ModuleItem::Procedure(procedure) => {
-            let one = admitted(alloc, text, place, procedure)?;
-            procedures.push(one)?;
-            Ok(())
-        }
-        ModuleItem::Cursor(_) => Ok(()),
-    }
-}
-
-fn admitted<'a>(
-    alloc: Global,
-    text: usize,
-    place: usize,
-    procedure: &'a Procedure,
-) -> Result<AdmittedProcedure<'a>, SessionFault>
-    ensures same { IfOk result (λ admitted. admitted.procedure.now ≡ procedure.now) }
-    ensures parameters { IfOk result
-        (λ admitted. Declare (declarations_of procedure.now.declarations) admitted.parameters) }
-    ensures refused { IfErr result (IsOfModule text) }
-    ensures good { IfOk result (λ _. has_bad_declared (parameter_declarations procedure.now) ≡ false) }
-    ensures bad { IfErr result (IsFaultAt text place fault.BadParameter
-        (has_bad_declared (parameter_declarations procedure.now) ≡ true)) }
-{
-    let declarations = listed(alloc, &procedure.declarations)?;
-    let parameters = parameters_of(alloc, declarations.as_slice());
-    drop(declarations);
-    match parameters? {
-        Some(parameters) => Ok(AdmittedProcedure {
-            procedure,
-            parameters,
-        }),
-        None => Err(refusal_at(ModuleRefusalName::BadParameter, text, place)),
     }
 }

@@ -6,11 +6,14 @@ mod admission;
 mod bound;
 mod cursors;
 mod declared;
+mod items;
+mod opened;
 mod opener;
+mod procedure;
 mod program;
 mod refusal;
 
 pub use admission::{AdmittedModule, AdmittedProcedure, admit};
 pub use bound::bound_cursor;
 pub use program::{BoundProcedure, DeclaredCursor, ProcedureName, Program};
-pub use refusal::{ModuleRefusal, ModuleRefusalName, SessionFault};
+pub use refusal::{ModuleRefusal, SessionFault};

@@ -87,7 +87,7 @@ impl Openers {
         None
     }
 
-    /// Whether the item is a cursor that not exactly one procedure opens.
+    /// Whether the item is a cursor that is opened by no procedure or by several.
     fn is_without_one(&self, item: &ModuleItem) -> bool
         ensures { (items : List AnyItem) → AreOpeners items self.now → result
             ≡ has_open_count items item.now }

@@ -1,40 +1,22 @@
-//! Why module texts are refused.
+//! Why module texts are refused (ISO/IEC 9075:1992, 12.1 to 12.3 and 13.1).
 
-ghost use Rattle.std.specs.Prelude.{◌≡◌};
+ghost use Rattle.std.specs.Prelude.{◌≡◌, IfErr, None, OnOk, Some};
+ghost use Rattle.sq_rules.specs.ModuleRefusal.{at_item};
+ghost use Rattle.sq_module.specs.FirstRefusal.{IsFaultFor};
+ghost use Rattle.sq_module.specs.Refusal.{IsOfModule};
 
+use sq_rules::ModuleFault;
 use std::alloc::{AllocError, AllocFailed};
 use thiserror::Error;
 
-/// What is wrong with a module, a cursor or a procedure (ISO/IEC 9075:1992, 12.1 to 12.3 and 13.1). Where several hold in one
-/// module, the first in this order is answered: each is looked for over the whole module before the next.
-#[derive(Clone, Copy, Debug, PartialEq, Eq, Error)]
-pub enum ModuleRefusalName {
-    /// An earlier module has the name.
-    #[error("TwoModules")]
-    TwoModules,
-    /// An earlier procedure of the module has the name.
-    #[error("TwoProcedures")]
-    TwoProcedures,
-    /// An earlier cursor of the module has the name.
-    #[error("TwoCursors")]
-    TwoCursors,
-    /// Not exactly one procedure opens the cursor.
-    #[error("OpenCount")]
-    OpenCount,
-    /// No status parameter, or one twice.
-    #[error("StatusParameter")]
-    StatusParameter,
-    /// A parameter declared twice or of a bad type, or more than 64 of them.
-    #[error("BadParameter")]
-    BadParameter,
-}
-
-/// The first refusal: its name, the module's number among the texts, and the number of the cursor or procedure in it; none
-/// where the module itself is refused.
+/// The first refusal of modules: what is wrong with a module, a cursor or a procedure. Where several faults hold in one
+/// module, the first in the order of `ModuleFault` is answered: each is looked for over the whole module before the next.
 #[derive(Clone, Copy, Debug, PartialEq, Eq)]
 pub struct ModuleRefusal {
-    pub name: ModuleRefusalName,
+    pub fault: ModuleFault,
+    /// The number of the module among the texts.
     pub text: usize,
+    /// The number of the cursor or procedure in it; `None` where the module itself is refused.
     pub item: Option<usize>,
 }
 
@@ -65,4 +47,32 @@ impl<T: Drop> From<AllocFailed<T>> for SessionFault {
     fn from(_error: AllocFailed<T>) -> SessionFault {
         SessionFault::NoMemory
     }
+}
+
+/// A refusal of the item at a place, if there is one.
+pub(crate) fn refused_at(
+    why: ModuleFault,
+    text: usize,
+    place: Option<usize>,
+) -> Result<(), SessionFault>
+    ensures taken { OnOk result (place ≡ None) }
+    ensures refused { IfErr result (IsOfModule text) }
+    ensures first { IfErr result (IsFaultFor (at_item text why place)) }
+{
+    match place {
+        None => Ok(()),
+        Some(item) => Err(refusal_at(why, text, item)),
+    }
+}
+
+/// A refusal of the item at a place.
+pub(crate) fn refusal_at(why: ModuleFault, text: usize, item: usize) -> SessionFault
+    ensures of { IsOfModule text result }
+    ensures is { IsFaultFor (at_item text why (Some item)) result }
+{
+    SessionFault::Refused(ModuleRefusal {
+        fault: why,
+        text,
+        item: Some(item),
+    })
 }

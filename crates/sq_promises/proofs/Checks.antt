@@ -68,10 +68,10 @@ module _ (t : TableName) (place : ℕ) (columns : List Column) (text : Cond) (c 
   kept : IsKept (cond_bound (beside_columns t (map descriptor_of columns)) (cond_of t.user text) at_first) (cond_seen c)
   kept = is_kept (cond_bound (beside_columns t (map descriptor_of columns)) (cond_of t.user text) at_first) (cond_seen c) is
 
-  -- it is well formed
+  -- the bound condition is well formed
   pub check_stands : IsCond (only place (kinds_of_columns columns)) [] (of_base_at place) [] c
   check_stands = cond_on_rows kinds no_names [] none_known place item is_over (cond_of t.user text) at_first kept.found refl kept.is_found c kept.part
 
-  -- it is the condition that is written
+  -- the bound condition is the one that is written
   pub check_is_written : CondIs (check_placed t columns text) c
   check_is_written = cond_written kinds no_names [] none_known place item is_over (cond_of t.user text) at_first kept.found refl kept.is_found c kept.part

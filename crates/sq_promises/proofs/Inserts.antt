@@ -81,7 +81,7 @@ pub record IsWhole {A : Type 0} (b : Binding A) (y : A) : Type 0 where
 pub whole_of : {A : Type 0} (b : Binding A) (y : A) → whole b ≡ Ok y → IsWhole b y
 whole_of b y is = let s = steps_of (b at_first) permitted y is in record { found = s.step; is_found = s.first; part = permitted_is s.step y s.second }
 
--- so many set functions
+-- a list of any number of set functions
 abbrev so_many : ℕ → List expression.PlacedExpr
 so_many zero = []
 so_many (suc n) = syntax.user ∷ so_many n
@@ -150,7 +150,7 @@ all_positions (c ∷ columns) = ap (λ ns. c.leaf_column ∷ ns) (all_positions 
 abbrev pub over : List Column → List Receiver
 over columns = map receiver_over (zip (leaf_positions columns) (map descriptor_of columns))
 
--- those that are listed, or all
+-- the columns that get values: those that are listed, or all
 abbrev IntoIs : ChangedTable → Option (CommaList Name) → List Receiver → Type 0
 IntoIs t None rs = rs ≡ receivers_of t
 IntoIs t (Some list) rs = Along (λ (name : Name) (r : Receiver). IsMade t name (λ (found : Receiver) (x : Name) (y : Receiver). y ≡ found) name r) (listed list) rs

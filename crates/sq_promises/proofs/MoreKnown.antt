@@ -9,12 +9,13 @@ use Rattle.sq_meaning.specs.Status.{Outcome, and_then, each, well_formed}
 use Rattle.sq_meaning.specs.Syntax.{Cond, Conds, Clause, Select, SelectList, all_columns, expressions, compare, compare_subquery, compare_quantified, between, in_subquery, in_list, like, is_null, exists, negated, conjunction, disjunction, no_cond, a_cond, absent, present, select}
 use Rattle.sq_bound.specs.Condition.{PlacedClause, PlacedCond, PlacedSelect, clause_of, compared_with}
 use Rattle.sq_bound.specs.Expression.{PlacedExpr}
-use Rattle.sq_bound.specs.Known.{KnownTable, KnownTables}
+use Rattle.sq_bound.specs.Known.{KnownTable, KnownTables, StillKnown}
 use Rattle.sq_bound.specs.SetFunction.{call_of}
 use Rattle.sq_bound.specs.declared.condition.Compared.TheVariants.{Scalar}
 use Rattle.sq_bound.specs.declared.condition.TablePlace.{TablePlace}
 use Rattle.sq_bound.specs.declared.names.ParameterDesc.{ParameterDesc}
 use Rattle.sq_bound.specs.declared.query.UpdatableQuery.{UpdatableQuery}
+use Rattle.sq_binding.specs.ColumnNames.{list_names, names_placed}
 use Rattle.sq_binding.specs.Condition.{compared_as}
 use Rattle.sq_binding.specs.From as from_spec
 use Rattle.sq_binding.specs.From.{NamedItem, items_of, tables_of}
@@ -22,15 +23,10 @@ use Rattle.sq_binding.specs.Placed.{placed_column}
 use Rattle.sq_binding.specs.PlacedQuery.{clause_placed, cond_placed, conds_placed, expr_placed, item_placed, list_placed, select_placed}
 use Rattle.sq_binding.specs.Scope.{FromItem}
 use Rattle.sq_binding.specs.Select.{Surroundings, of_lines}
-use Rattle.sq_binding.proofs.ColumnNames.{list_names, names_placed}
 use Rattle.sq_promises.specs.Names as names_spec
 use Rattle.sq_promises.specs.Names.{meant_by, named_table, outside}
 use Rattle.sq_promises.specs.Written.{IsUpdatableOf, leaf_item}
 use Rattle.sq_promises.proofs.PlainText.{goes_on}
-
--- what is known still is
-abbrev pub StillKnown : KnownTables → KnownTables → Type 0
-StillKnown less more = (user name : Name) (t : KnownTable) → less user name ≡ Some t → more user name ≡ Some t
 
 after : {A B : Type 0} (o p : Outcome A) (f g : A → Outcome B) (y : B) → ((x : A) → o ≡ Ok x → p ≡ Ok x) → ((x : A) → f x ≡ Ok y → g x ≡ Ok y) → and_then o f ≡ Ok y → and_then p g ≡ Ok y
 after o p f g y first next e =

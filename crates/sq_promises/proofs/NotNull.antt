@@ -29,7 +29,7 @@ use Rattle.sq_value.specs.declared.domain.Kind.TheVariants as kind
 abbrev null : Numbered
 null = Numbered.literal Null
 
--- it is not the null value that is bound
+-- what is bound is not the null value
 abbrev NotNull : Outcome Bound → Type 0
 NotNull o = (b : Bound) → o ≡ Ok b → b.tree ≡ null → ⊥
 

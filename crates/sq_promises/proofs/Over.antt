@@ -246,7 +246,7 @@ module _ (known : KnownTables) (user : Name) (selects grants : TableName → Boo
             subst (λ (b : BaseTable). HaveKinds (base_kinds b) over.1.columns ks) base_same
             (leaf_kinds kinds (kinds_of_parameters parameters) at.table.place at.table.columns (base_kinds under_is_so.base) table_is.kinds_are under_is_so.columns_are (shown_of s) over.1.columns ks leaves listed)
 
-        -- it is well formed
+        -- the updatable query is well formed
         pub updatable_stands : IsUpdatable kinds (kinds_of_parameters parameters) ks over.1
         updatable_stands = (target_stands is.reference at.table at.under at.is_known at.is_under is.clause (filter_of q) is.counts is.first own_clause over.1.target own_target there, own_kinds)
 
@@ -254,7 +254,7 @@ module _ (known : KnownTables) (user : Name) (selects grants : TableName → Boo
         pub updatable_fits : FitsQuery bases over.1
         updatable_fits = (there, positions_there over.1.target.leaf.table over.1.columns ks own_kinds)
 
-        -- it is the one that is written
+        -- the updatable query is the one that is written
         pub updatable_is_written : IsUpdatableOf known parameters q over.1
         updatable_is_written = record {
           list = list_of q;

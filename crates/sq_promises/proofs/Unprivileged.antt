@@ -8,6 +8,7 @@ use Rattle.sq_meaning.specs.Syntax.{Cond, Conds, Clause, Select, SelectList, Que
 use Rattle.sq_bound.specs.Condition.{compared_with}
 use Rattle.sq_bound.specs.Known.{KnownTable, KnownTables}
 use Rattle.sq_bound.specs.declared.condition.Compared.TheVariants.{Scalar}
+use Rattle.sq_binding.specs.ColumnNames.{list_names, names_placed}
 use Rattle.sq_binding.specs.Condition.{compared_as}
 use Rattle.sq_binding.specs.From.{NamedItem, NamedTables, items_of, tables_of}
 use Rattle.sq_binding.specs.From as from_spec
@@ -15,7 +16,6 @@ use Rattle.sq_binding.specs.Placed.{placed_column}
 use Rattle.sq_binding.specs.PlacedQuery.{clause_placed, cond_placed, conds_placed, expr_placed, item_placed, list_placed, select_placed}
 use Rattle.sq_binding.specs.PlacedUnion.{query_placed}
 use Rattle.sq_binding.specs.Select.{Surroundings, of_lines}
-use Rattle.sq_binding.proofs.ColumnNames.{list_names, names_placed}
 use Rattle.sq_promises.specs.Names.{meant_by, named_table, named_tables}
 use Rattle.sq_promises.specs.Names as names_spec
 use Rattle.sq_promises.specs.Written as written

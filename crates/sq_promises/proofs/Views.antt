@@ -21,6 +21,7 @@ use Rattle.sq_bound.specs.declared.condition.ResultColumn.{ResultColumn as Bound
 use Rattle.sq_bound.specs.declared.names.BaseTable.{BaseTable}
 use Rattle.sq_bound.specs.declared.query.UpdatableQuery.{UpdatableQuery}
 use Rattle.sq_binding.specs.Changeable.{UserNames, updatable_bound}
+use Rattle.sq_binding.specs.ColumnNames.{names_placed}
 use Rattle.sq_binding.specs.Condition.{select_bound}
 use Rattle.sq_binding.specs.Cursor.{behind}
 use Rattle.sq_binding.specs.NumberedCondition.{NumberedSelect, ResultColumn, columns_of, select_of}
@@ -32,7 +33,7 @@ use Rattle.sq_binding.specs.View.{NumberedView, view_bound, view_of}
 use Rattle.sq_binding.specs.Whole.{at_first}
 use Rattle.sq_binding.proofs.BoundLaws.{select_is_so, select_is_written}
 use Rattle.sq_binding.proofs.Clean.{Steps, steps_of}
-use Rattle.sq_binding.proofs.ColumnNames.{names_are, names_placed}
+use Rattle.sq_binding.proofs.ColumnNames.{names_are}
 use Rattle.sq_binding.proofs.SeenLevels.{columns_seen}
 use Rattle.sq_binding.proofs.SeenTrees as seen
 use Rattle.sq_promises.specs.Names.{NamesMean, outside, tables_of}
@@ -76,18 +77,18 @@ module _ (bases : List BaseTable) (kinds : TableKinds) (known : KnownTables) (me
   over_is : second.step.part ≡ option_map updatable_seen updatable
   over_is = ap (λ (v : NumberedView). v.updatable) view_is ∙ is.updatable_is
 
-  -- it is well formed
+  -- the view's query is well formed
   pub view_stands : IsSelect kinds [] [] query
   view_stands = select_is_so kinds a at_first q first.step first.first query part_is (names_know bases kinds known mean selects grants) tt [] tt
 
   placed : select_placed a q ≡ Ok (select_meant query)
   placed = select_is_written kinds a at_first q first.step first.first query part_is
 
-  -- it is the query that is written
+  -- the view's query is the one that is written
   pub view_is_written : SelectIs (select_placed (outside known []) q) query
   view_is_written = sym (select_same known selects grants q (outside known [])) ∙ placed
 
-  -- its columns have the names of the text
+  -- the view's columns have the names of the text
   pub view_names : NamesAre (names_placed (tables_of known) q) query
   view_names =
       sym (names_same known selects grants q) ∙ names_are q a at_first first.step first.first

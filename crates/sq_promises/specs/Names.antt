@@ -29,7 +29,12 @@ declared parameters = map declared_of parameters
 -- ---- tables
 
 abbrev pub named_table : (may_select may_grant : Bool) → KnownTable → NamedTable
-named_table may_select may_grant t = record { place = t.place; columns = map descriptor_of t.columns; may_select = may_select; may_grant = may_grant }
+named_table may_select may_grant t = record {
+  place = t.place;
+  columns = map descriptor_of t.columns;
+  may_select = may_select;
+  may_grant = may_grant;
+}
 
 abbrev pub leaf_positions : List Column → List ℕ
 leaf_positions columns = map (λ c. c.leaf_column) columns
@@ -46,7 +51,8 @@ abbrev pub named_tables : KnownTables → (selects grants : TableName → Bool) 
 named_tables known selects grants t = option_map (named_table (selects t) (grants t)) (meant_by known t)
 
 -- the names of a user, who holds these privileges
-abbrev pub user_names : Name → KnownTables → (selects grants : TableName → Bool) → (TableName → Privilege → Bool) → UserNames
+abbrev pub user_names : Name → KnownTables → (selects grants : TableName → Bool)
+    → (TableName → Privilege → Bool) → UserNames
 user_names user known selects grants holds = record {
   user = user;
   tables = named_tables known selects grants;
@@ -60,13 +66,19 @@ tables_of known = named_tables known (λ t. false) (λ t. false)
 
 -- what is known where a statement of a procedure with these parameters stands: it is in no query
 abbrev pub outside : KnownTables → List ParameterDesc → Surroundings
-outside known parameters = record { names = tables_of known; parameters = declared parameters; scopes = []; functions_allowed = false }
+outside known parameters = record {
+  names = tables_of known;
+  parameters = declared parameters;
+  scopes = [];
+  functions_allowed = false;
+}
 
 -- ---- what is known of the tables
 
 -- What is under a table with these columns: a base table that is there, with well-formed conditions on its rows, whose own columns have the
 -- kinds of those that they are.
-pub record StandsUnder (bases : List BaseTable) (kinds : TableKinds) (columns : List Column) (u : Under) : Type 0 where
+pub record StandsUnder (bases : List BaseTable) (kinds : TableKinds) (columns : List Column)
+    (u : Under) : Type 0 where
   pub base : BaseTable
   pub is_base : slice_get bases u.base ≡ Some base
   pub kinds_are : kinds (Base u.base) ≡ Ok (base_kinds base)
@@ -79,6 +91,6 @@ pub record Stands (bases : List BaseTable) (kinds : TableKinds) (t : KnownTable)
   pub kinds_are : kinds t.place ≡ Ok (kinds_of_columns t.columns)
   pub under : IfSome t.under (StandsUnder bases kinds t.columns)
 
--- so is what each name means
+-- what each name means is there
 abbrev pub NamesMean : List BaseTable → TableKinds → KnownTables → Type 0
 NamesMean bases kinds known = (t : TableName) → IfSome (meant_by known t) (Stands bases kinds)

@@ -73,11 +73,11 @@ union_seen = fold-BoundUnion Q Q (Q → Q) term_layer query_layer union_layer
 abbrev pub HasItsColumns : BoundQuery → Type 0
 HasItsColumns q = map column_of (out-BoundQuery q).columns ≡ columns_of_query (query_seen q)
 
--- so are those of each query expression in it, in brackets
+-- the columns that are noted with each query expression in one, in brackets, are those of what is seen of it
 abbrev pub HaveTheirColumns : BoundQuery → Type 0
 HaveTheirColumns = every-BoundQuery (λ y. ⊤) (λ y. HasItsColumns (roll-BoundQuery y)) (λ y. ⊤)
 
--- and those in a term, and in a further one
+-- the columns that are noted with each query expression in a term are those of what is seen of it
 abbrev pub TermHasColumns : BoundTerm → Type 0
 TermHasColumns = every-BoundTerm (λ y. ⊤) (λ y. HasItsColumns (roll-BoundQuery y)) (λ y. ⊤)
 
@@ -144,7 +144,11 @@ source_seen (inserted.Values es) = NumberedSource.values (map numbered_of es)
 source_seen (inserted.Query q) = NumberedSource.query (select_seen q)
 
 abbrev pub insert_seen : BoundInsert → NumberedInsert
-insert_seen i = record { leaf = under_of i.leaf; columns = positions_of i.columns; source = source_seen i.source }
+insert_seen i = record {
+  leaf = under_of i.leaf;
+  columns = positions_of i.columns;
+  source = source_seen i.source;
+}
 
 abbrev pub change_seen : ChangeTarget → NumberedChange
 change_seen (target.Searched t) = NumberedChange.searched (target_seen t)

@@ -33,7 +33,10 @@ SourceIsPlain (inserted.Values es) = AllByRecursion IsPlain es
 SourceIsPlain (inserted.Query q) = ⊤
 
 abbrev pub StatementIsThere : List BaseTable → BoundStatement → Type 0
-StatementIsThere bases (statement.Insert i) = IsBase bases i.leaf.table × AllByRecursion (IsColumnOf i.leaf.table) i.columns × SourceIsPlain i.source
-StatementIsThere bases (statement.Update u) = IsBase bases (under u.target).table × AllByRecursion (λ a. IsColumnOf (under u.target).table a.column × IsPlain a.value) u.assignments
+StatementIsThere bases (statement.Insert i) =
+    IsBase bases i.leaf.table × AllByRecursion (IsColumnOf i.leaf.table) i.columns × SourceIsPlain i.source
+StatementIsThere bases (statement.Update u) =
+    IsBase bases (under u.target).table
+    × AllByRecursion (λ a. IsColumnOf (under u.target).table a.column × IsPlain a.value) u.assignments
 StatementIsThere bases (statement.Delete t) = IsBase bases (under t).table
 StatementIsThere bases _ = ⊤

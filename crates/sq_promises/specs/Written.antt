@@ -74,6 +74,7 @@ use Rattle.sq_bound.specs.declared.condition.ResultColumn.{ResultColumn}
 use Rattle.sq_bound.specs.declared.expression.BoundExpr.{BoundExpr}
 use Rattle.sq_bound.specs.declared.expression.SetFunctionCall.{SetFunctionCall}
 use Rattle.sq_bound.specs.declared.names.ObjectColumn.{ObjectColumn}
+use Rattle.sq_binding.specs.ColumnNames.{names_placed}
 use Rattle.sq_binding.specs.From.{NamedTables, column_over, item_over}
 use Rattle.sq_binding.specs.Placed.{placed_parameter, position_named}
 use Rattle.sq_binding.specs.PlacedQuery.{clause_placed, cond_placed, expr_placed, list_placed, select_placed}
@@ -81,7 +82,6 @@ use Rattle.sq_binding.specs.PlacedUnion.{query_placed}
 use Rattle.sq_binding.specs.Scope.{FromItem}
 use Rattle.sq_binding.specs.Select.{Surroundings, of_lines}
 use Rattle.sq_binding.specs.View.{beside_columns}
-use Rattle.sq_binding.proofs.ColumnNames.{names_placed}
 use Rattle.sq_promises.specs.Names.{declared, descriptor_of, leaf_positions, meant_by, named_table, outside, tables_of}
 use Rattle.sq_promises.specs.Seen.{output_seen, sort_seen}
 
@@ -113,7 +113,8 @@ NamesAre text q = text ≡ Ok (map (λ (c : ResultColumn). c.name) (out-BoundSpe
 
 -- the parameter at a place is the one of this name
 abbrev pub IsParameter : List ParameterDesc → Name → ℕ → Type 0
-IsParameter parameters name at = (domain : Domain) × (position_named (declared parameters) name ≡ Ok (at, domain))
+IsParameter parameters name at =
+    (domain : Domain) × (position_named (declared parameters) name ≡ Ok (at, domain))
 
 -- a target is the parameter of the written name, and its indicator that of the written one, if one is written
 abbrev pub IsOutputOf : List ParameterDesc → Output → Parameter → Type 0
@@ -127,7 +128,8 @@ AreOutputsOf parameters = AllZip (IsOutputOf parameters)
 
 -- the number of an orientation is the whole number that is written, or the parameter of the written name
 abbrev pub IsDistanceOf : List ParameterDesc → Position → Distance → Type 0
-IsDistanceOf parameters (position.Number n) (distance.Number d) = (has_point n.number ≡ false) × (d ≡ (signed_number n).unscaled)
+IsDistanceOf parameters (position.Number n) (distance.Number d) =
+    (has_point n.number ≡ false) × (d ≡ (signed_number n).unscaled)
 IsDistanceOf parameters (position.Parameter name) (distance.Parameter at) = IsParameter parameters name at
 IsDistanceOf parameters _ _ = ⊥
 
@@ -162,21 +164,27 @@ common_names ls rs = map (λ p. common_name p.0 p.1) (zip ls rs)
 -- the names of the columns of a query expression
 abbrev pub query_names_placed : NamedTables → Query Named → Outcome (List (Option Name))
 query_names_placed names (specification s) = names_placed names s
-query_names_placed names (union all left right) = query_names_placed names left >>= λ ls. query_names_placed names right >>= λ rs. Ok (common_names ls rs)
+query_names_placed names (union all left right) =
+    query_names_placed names left >>= λ ls. query_names_placed names right >>= λ rs. Ok (common_names ls rs)
 
 -- ---- updatable queries (7.9; own rule)
 
 -- a table as an item, with each column at its place in the base table under it
 abbrev pub leaf_item : TableReference → KnownTable → FromItem
-leaf_item r t = record { reference = r; columns = map column_over (zip (leaf_positions t.columns) (map descriptor_of t.columns)) }
+leaf_item r t = record {
+  reference = r;
+  columns = map column_over (zip (leaf_positions t.columns) (map descriptor_of t.columns));
+}
 
 -- what is shown is a column of the table: the one at this position in the base table
 abbrev pub IsShownAt : List Column → PlacedExpr → ℕ → Type 0
-IsShownAt columns e position = (p : Place) × (e ≡ column p) × (slice_get (leaf_positions columns) p.column ≡ Some position)
+IsShownAt columns e position =
+    (p : Place) × (e ≡ column p) × (slice_get (leaf_positions columns) p.column ≡ Some position)
 
 -- The query is over one table, without DISTINCT, groups and HAVING. It has the rows under that table that meet its condition, and shows
 -- columns of them.
-pub record IsUpdatableOf (known : KnownTables) (parameters : List ParameterDesc) (text : Selection Named) (u : UpdatableQuery) : Type 0 where
+pub record IsUpdatableOf (known : KnownTables) (parameters : List ParameterDesc) (text : Selection Named)
+    (u : UpdatableQuery) : Type 0 where
   pub list : SelectList Named
   pub reference : TableReference
   pub filter : Clause Named
@@ -194,7 +202,8 @@ pub record IsUpdatableOf (known : KnownTables) (parameters : List ParameterDesc)
 
 -- a cursor has the rows of its query: those of the query expression, or, where it is updatable, of its only query specification
 abbrev pub HasRowsOf : KnownTables → List ParameterDesc → Query Named → CursorBody → Type 0
-HasRowsOf known parameters query (body.Rows q order) = QueryIs (query_placed (outside known parameters) query) q
+HasRowsOf known parameters query (body.Rows q order) =
+    QueryIs (query_placed (outside known parameters) query) q
 HasRowsOf known parameters (specification s) (body.Updatable u) = IsUpdatableOf known parameters s u
 HasRowsOf known parameters (union all left right) (body.Updatable u) = ⊥
 
@@ -209,14 +218,16 @@ IsSortedBy names by (body.Rows q sorts) = (names >>= λ ns. sort_columns ns by) 
 IsSortedBy names by (body.Updatable u) = by ≡ []
 
 -- a cursor has the words of its declaration, and the rows of the query that is written, in the order of its ORDER BY (13.1)
-pub record IsCursorOf (known : KnownTables) (user : Name) (parameters : List ParameterDesc) (c : Cursor) (cursor : BoundCursor) : Type 0 where
+pub record IsCursorOf (known : KnownTables) (user : Name) (parameters : List ParameterDesc) (c : Cursor)
+    (cursor : BoundCursor) : Type 0 where
   pub words : HasWordsOf c cursor
   pub rows : HasRowsOf known parameters (query_of user c.query) cursor.body
   pub order : IsSortedBy (query_names_placed (tables_of known) (query_of user c.query)) (listed_if_any c.order_by) cursor.body
 
 -- what is under the table of the written name, which is the user's where no schema is written (5.4)
 abbrev pub IsUnder : KnownTables → Name → WrittenTable → Leaf → Type 0
-IsUnder known user t leaf = option_and_then (λ k. k.under) (meant_by known (table_of user t)) ≡ Some (under_of leaf)
+IsUnder known user t leaf =
+    option_and_then (λ k. k.under) (meant_by known (table_of user t)) ≡ Some (under_of leaf)
 
 -- ---- values, and the rows that a statement changes
 
@@ -227,18 +238,21 @@ value_placed a new_value.Null = Ok (literal Null)
 
 -- the rows that are inserted: those of VALUES, or of the query (13.8)
 abbrev pub IsSourceOf : Surroundings → Name → InsertSource → InsertedRows → Type 0
-IsSourceOf a user (source.Values list) (inserted.Values es) = ExprsAre (each (value_placed a) (listed list)) es
+IsSourceOf a user (source.Values list) (inserted.Values es) =
+    ExprsAre (each (value_placed a) (listed list)) es
 IsSourceOf a user (source.Query q) (inserted.Query x) = SelectIs (select_placed a (select_of user q)) x
 IsSourceOf a user _ _ = ⊥
 
 -- the column of the base table that the column of this name is
 abbrev pub leaf_named : List Column → Name → Option ℕ
-leaf_named columns name = option_and_then (slice_get (leaf_positions columns)) (position (λ c. same_name c.name name) columns)
+leaf_named columns name =
+    option_and_then (slice_get (leaf_positions columns)) (position (λ c. same_name c.name name) columns)
 
 -- the columns that get values: those that are listed, in their order, or all (13.8)
 abbrev pub AreInto : List Column → Option (CommaList Name) → List ObjectColumn → Type 0
 AreInto columns None objects = map (λ c. c.position) objects ≡ leaf_positions columns
-AreInto columns (Some list) objects = AllZip (λ name c. leaf_named columns name ≡ Some c.position) (listed list) objects
+AreInto columns (Some list) objects =
+    AllZip (λ name c. leaf_named columns name ≡ Some c.position) (listed list) objects
 
 abbrev pub IntoTable : Option KnownTable → Option (CommaList Name) → List ObjectColumn → Type 0
 IntoTable None list objects = ⊥
@@ -256,17 +270,20 @@ abbrev pub filter_on : Surroundings → Name → FromItem → Cond → Outcome P
 filter_on a user item c = clause_placed (of_lines (item ∷ []) a) (present (cond_of user c))
 
 abbrev pub filter_placed : KnownTables → List ParameterDesc → Name → TableName → Cond → Outcome PlacedClause
-filter_placed known parameters user t c = changed_item known t >>= λ item. filter_on (outside known parameters) user item c
+filter_placed known parameters user t c =
+    changed_item known t >>= λ item. filter_on (outside known parameters) user item c
 
 -- UPDATE and DELETE are of the rows that meet a condition or of all rows, or of the row of the cursor of the written name (13.6, 13.7, 13.9, 13.10)
-abbrev pub IsTargetOf : (Name → ℕ → Type 0) → (Cond → Outcome PlacedClause) → Option Where → ChangeTarget → Type 0
+abbrev pub IsTargetOf : (Name → ℕ → Type 0) → (Cond → Outcome PlacedClause) → Option Where → ChangeTarget
+    → Type 0
 IsTargetOf IsNumberOf filter None (target.Searched t) = t.condition ≡ None
 IsTargetOf IsNumberOf filter (Some (rows.Condition c)) (target.Searched t) = ClauseIs (filter c) t.condition
 IsTargetOf IsNumberOf filter (Some (rows.CurrentOf name)) (target.Positioned p) = IsNumberOf name p.cursor
 IsTargetOf IsNumberOf filter _ _ = ⊥
 
 -- a set clause gives the column of the written name its value
-pub record IsSetTo (a : Surroundings) (columns : List Column) (w : Assignment) (b : BoundAssignment) : Type 0 where
+pub record IsSetTo (a : Surroundings) (columns : List Column) (w : Assignment)
+    (b : BoundAssignment) : Type 0 where
   pub column : leaf_named columns w.column ≡ Some b.column.position
   pub value : ExprIs (value_placed a w.value) b.value
 
@@ -274,7 +291,8 @@ pub record IsSetTo (a : Surroundings) (columns : List Column) (w : Assignment) (
 abbrev pub AreSetTo : Surroundings → List Column → List Assignment → List BoundAssignment → Type 0
 AreSetTo a columns = AllZip (IsSetTo a columns)
 
-abbrev pub SetOn : Surroundings → TableName → Option KnownTable → List Assignment → List BoundAssignment → Type 0
+abbrev pub SetOn : Surroundings → TableName → Option KnownTable → List Assignment → List BoundAssignment
+    → Type 0
 SetOn a t None ws bs = ⊥
 SetOn a t (Some k) ws bs = AreSetTo (of_lines (item_at_leaf t k ∷ []) a) k.columns ws bs
 
@@ -287,37 +305,47 @@ check_placed t columns c = cond_placed (beside_columns t (map descriptor_of colu
 -- ---- statements
 
 -- SELECT INTO: the targets, and the query (13.5)
-pub record IsRowOf (known : KnownTables) (parameters : List ParameterDesc) (user : Name) (s : Select) (row : BoundSelect) : Type 0 where
+pub record IsSelectOf (known : KnownTables) (parameters : List ParameterDesc) (user : Name) (s : Select)
+    (row : BoundSelect) : Type 0 where
   pub targets : AreOutputsOf parameters row.outputs (listed s.targets)
   pub query : SelectIs (select_placed (outside known parameters) (select_of_parts user s.quantifier s.list s.table)) row.query
 
 -- INSERT: the table, its columns that get values, and the rows (13.8)
-pub record IsInsertOf (known : KnownTables) (parameters : List ParameterDesc) (user : Name) (i : Insert) (insert : BoundInsert) : Type 0 where
+pub record IsInsertOf (known : KnownTables) (parameters : List ParameterDesc) (user : Name) (i : Insert)
+    (insert : BoundInsert) : Type 0 where
   pub under : IsUnder known user i.table insert.leaf
   pub columns : IntoTable (meant_by known (table_of user i.table)) i.columns insert.columns
   pub source : IsSourceOf (outside known parameters) user i.source insert.source
 
 -- DELETE: the table, and the rows (13.6, 13.7)
-pub record IsDeleteOf (IsNumberOf : Name → ℕ → Type 0) (known : KnownTables) (parameters : List ParameterDesc) (user : Name) (d : Delete) (t : ChangeTarget) : Type 0 where
+pub record IsDeleteOf (IsNumberOf : Name → ℕ → Type 0) (known : KnownTables) (parameters : List ParameterDesc)
+    (user : Name) (d : Delete) (t : ChangeTarget) : Type 0 where
   pub is_under : IsUnder known user d.table (under t)
   pub rows : IsTargetOf IsNumberOf (filter_placed known parameters user (table_of user d.table)) d.target t
 
 -- UPDATE: the table, the rows, and the set clauses (13.9, 13.10)
-pub record IsUpdateOf (IsNumberOf : Name → ℕ → Type 0) (known : KnownTables) (parameters : List ParameterDesc) (user : Name) (u : Update) (update : BoundUpdate) : Type 0 where
+pub record IsUpdateOf (IsNumberOf : Name → ℕ → Type 0) (known : KnownTables) (parameters : List ParameterDesc)
+    (user : Name) (u : Update) (update : BoundUpdate) : Type 0 where
   pub is_under : IsUnder known user u.table (under update.target)
   pub rows : IsTargetOf IsNumberOf (filter_placed known parameters user (table_of user u.table)) u.target update.target
   pub values : SetOn (outside known parameters) (table_of user u.table) (meant_by known (table_of user u.table)) (listed u.assignments) update.assignments
 
 -- A statement in a module of the user: its cursors have the numbers that their names have, its targets are parameters of the written
 -- names, the rows that it changes are under the table of the written name, and its queries, conditions and values are the written ones.
-abbrev pub IsStatementOf : KnownTables → (Name → ℕ → Type 0) → Name → List ParameterDesc → Statement → BoundStatement → Type 0
+abbrev pub IsStatementOf : KnownTables → (Name → ℕ → Type 0) → Name → List ParameterDesc → Statement
+    → BoundStatement → Type 0
 IsStatementOf known IsNumberOf user parameters (tree.Open name) (statement.Open n) = IsNumberOf name n
-IsStatementOf known IsNumberOf user parameters (tree.Fetch f) (statement.Fetch x) = IsFetchOf IsNumberOf parameters f x
+IsStatementOf known IsNumberOf user parameters (tree.Fetch f) (statement.Fetch x) =
+    IsFetchOf IsNumberOf parameters f x
 IsStatementOf known IsNumberOf user parameters (tree.Close name) (statement.Close n) = IsNumberOf name n
-IsStatementOf known IsNumberOf user parameters (tree.Select s) (statement.Select x) = IsRowOf known parameters user s x
-IsStatementOf known IsNumberOf user parameters (tree.Insert i) (statement.Insert x) = IsInsertOf known parameters user i x
-IsStatementOf known IsNumberOf user parameters (tree.Update u) (statement.Update x) = IsUpdateOf IsNumberOf known parameters user u x
-IsStatementOf known IsNumberOf user parameters (tree.Delete d) (statement.Delete t) = IsDeleteOf IsNumberOf known parameters user d t
+IsStatementOf known IsNumberOf user parameters (tree.Select s) (statement.Select x) =
+    IsSelectOf known parameters user s x
+IsStatementOf known IsNumberOf user parameters (tree.Insert i) (statement.Insert x) =
+    IsInsertOf known parameters user i x
+IsStatementOf known IsNumberOf user parameters (tree.Update u) (statement.Update x) =
+    IsUpdateOf IsNumberOf known parameters user u x
+IsStatementOf known IsNumberOf user parameters (tree.Delete d) (statement.Delete t) =
+    IsDeleteOf IsNumberOf known parameters user d t
 IsStatementOf known IsNumberOf user parameters (tree.Commit work) statement.Commit = ⊤
 IsStatementOf known IsNumberOf user parameters (tree.Rollback work) statement.Rollback = ⊤
 IsStatementOf known IsNumberOf user parameters _ _ = ⊥

@@ -35,7 +35,7 @@ comparable_turn (Vary m) (Vary n) = refl
 pub value_is : (a : Surroundings) (k : Kind) (e : Expr) → new_value_bound a k (new_value.Expr e) ≡ agreeing a k (expr_of e)
 value_is a k e = λ i. value a (expr_of e) >>= λ x. must (comparable_turn x.kind k i) fault.KindMismatch >>= λ u. pure x.tree
 
--- a value of an expression is none that is seen as NULL
+-- the value of an expression is not the word NULL
 pub value_plain : (a : Surroundings) (k : Kind) (e : Expr) (before : Counts) (r : Result (Found BoundExpr) Stop) → Finds numbered_of (agreeing a k (expr_of e)) before r → IfOk r (λ found. IsPlain found.part)
 value_plain a k e before (Ok x) found = agreeing_plain a k (expr_of e) (counts_of before) (found_of numbered_of x) found.0 x.part refl
 value_plain a k e before (Err stop) s = tt

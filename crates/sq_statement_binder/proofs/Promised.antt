@@ -29,7 +29,7 @@ use Rattle.sq_cursor_binder.proofs.Promised.{names_same}
 module _ (bases : List BaseTable) (kinds : TableKinds) (known : KnownTables) (mean : NamesMean bases kinds known) (user : Name) (selects grants : TableName → Bool) (tables : NamedTables) (changes : Changes)
     (agree : NamesAgree known selects grants tables changes) (over : AreOverBases bases changes) (parameters : List ParameterDesc) (IsNumberOf : Name → ℕ → Type 0) (count : ℕ) (cursor_kinds : List (List Kind))
     (cursors : NamedCursors) (cursors_mean : CursorsMean IsNumberOf count cursor_kinds cursors) where
-  -- it fits the base tables, the cursors and the parameters, is well formed, and is the one that is written
+  -- a statement fits the base tables, the cursors and the parameters, is well formed, and is the one that is written
   abbrev pub StatementPromised : Statement → BoundStatement → Type 0
   StatementPromised = IsSo bases kinds known IsNumberOf count cursor_kinds user parameters
 

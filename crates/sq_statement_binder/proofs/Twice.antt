@@ -36,7 +36,7 @@ module _ {A : Type 0} (same : A → A → Bool) where
   pub once_more : (xs : List A) (y : A) → has_twice same xs ≡ false → has_twice same (xs ++ y ∷ []) ≡ list_any (λ x. same x y) xs
   once_more xs y once = one_behind xs y ∙ ap (λ b. list_any (λ x. same x y) xs || b) once ∙ or_none (list_any (λ x. same x y) xs)
 
-  -- and two
+  -- two more elements
   pub twice_more : (xs : List A) (y z : A) → has_twice same xs ≡ false → has_twice same (xs ++ y ∷ z ∷ []) ≡ (list_any (λ x. same x y) xs || (same y z || list_any (λ x. same x z) xs))
   twice_more xs y z once =
       ap (has_twice same) (sym (append_assoc xs (y ∷ []) (z ∷ []))) ∙ one_behind (xs ++ y ∷ []) z

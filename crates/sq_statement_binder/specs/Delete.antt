@@ -8,12 +8,14 @@ use Rattle.sq_binding.specs.Found.{Binding, ◌>>=◌, ◌>>◌, has_found, outc
 use Rattle.sq_binding.specs.Select.{Surroundings}
 use Rattle.sq_binding.specs.Whole.{needed}
 
--- from a table
-abbrev pub delete_over : UserNames → Surroundings → NamedCursors → Delete → ChangedTable → Binding NumberedChange
+-- a DELETE from a table, in these surroundings
+abbrev pub delete_over : UserNames → Surroundings → NamedCursors → Delete → ChangedTable
+    → Binding NumberedChange
 delete_over names a cursors d t = do
   rows ← reading names t (rows_bound names a cursors t d.target)
   has_found (needed (names.holds t.reference.table Privilege.delete))
   pure rows
 
 abbrev pub delete_in : UserNames → Surroundings → NamedCursors → Delete → Binding NumberedChange
-delete_in names a cursors d = outcome (changed_table names (table_of names.user d.table)) >>= delete_over names a cursors d
+delete_in names a cursors d =
+    outcome (changed_table names (table_of names.user d.table)) >>= delete_over names a cursors d

@@ -22,11 +22,12 @@ use Rattle.sq_promises.specs.There.{SourceIsPlain}
 use Rattle.sq_statement_binder.specs.Needed.{requiring}
 use Rattle.sq_statement_binder.specs.declared.receiver.Receiver.{Receiver}
 
--- it inserts into these rows of a base table
+-- an INSERT is into these rows of a base table
 abbrev pub IsInsertOver : Leaf → BoundInsert → Type 0
-IsInsertOver leaf i = (i.leaf ≡ leaf) × AllByRecursion (IsColumnOf leaf.table) i.columns × SourceIsPlain i.source
+IsInsertOver leaf i =
+    (i.leaf ≡ leaf) × AllByRecursion (IsColumnOf leaf.table) i.columns × SourceIsPlain i.source
 
--- into a table, in these surroundings
+-- an INSERT into a table, in these surroundings
 abbrev pub insert_over : UserNames → Surroundings → Insert → ChangedTable → Binding NumberedInsert
 insert_over names a i t = do
   receivers ← receivers_bound t i.columns
@@ -37,8 +38,9 @@ insert_over names a i t = do
 abbrev pub insert_in : UserNames → Surroundings → Insert → Binding NumberedInsert
 insert_in names a i = outcome (changed_table names (table_of names.user i.table)) >>= insert_over names a i
 
--- what a function ensures that puts columns that get values and their source together
-abbrev pub InsertsInto : FoundTable → (may_insert : Bool) → Result (Found (List Receiver × InsertedRows)) Stop → Result (Found BoundInsert) Stop → Type 0
+-- columns that get values and their source become an INSERT, unless one has a fault or INSERT is not held
+abbrev pub InsertsInto : FoundTable → (may_insert : Bool) → Result (Found (List Receiver × InsertedRows)) Stop
+    → Result (Found BoundInsert) Stop → Type 0
 InsertsInto t may_insert (Ok parts) (Ok i) =
     (i.part.leaf ≡ t.under.leaf.now)
     × (map (λ c. c.position) i.part.columns ≡ map (λ r. r.column) parts.part.0)

@@ -18,5 +18,6 @@ reading may_select x = requiring (not x.findings.values.reads_outermost || may_s
 
 -- the part, if no privilege is missing
 abbrev pub Permits : {A : Type 0} → Result (Found A) Stop → Result A Stop → Type 0
-Permits (Ok x) part = part ≡ (if x.brought.findings.lacks_privilege then Err (broken PrivilegeMissing) else Ok x.part)
+Permits (Ok x) part =
+    part ≡ (if x.brought.findings.lacks_privilege then Err (broken PrivilegeMissing) else Ok x.part)
 Permits (Err stop) part = part ≡ Err stop

@@ -19,7 +19,7 @@ receiver_seen r = record { name = r.name; column = r.column; kind = r.kind }
 abbrev pub receiver_at : ItemColumn → binding.Receiver
 receiver_at c = record { name = c.name; column = c.position; kind = c.kind }
 
--- they are among this many columns of the base table
+-- the columns that get values are among those of a base table with this many
 abbrev pub AreWithin : ℕ → List binding.Receiver → Type 0
 AreWithin columns = AllByRecursion (λ r. r.column < columns)
 
@@ -29,20 +29,25 @@ once again r = must_hold (not again) fault.ColumnTwice >>= λ _. Ok r
 
 -- the column of a name among these, which is not named again
 abbrev pub named_once : List binding.Receiver → Name → (again : Bool) → Outcome binding.Receiver
-named_once all name again = or_fault fault.UnknownColumn (find (λ r. same_name r.name name) all) >>= once again
+named_once all name again =
+    or_fault fault.UnknownColumn (find (λ r. same_name r.name name) all) >>= once again
 
--- what is made of it
-abbrev pub column_made : {B : Type 0} → List binding.Receiver → Name → (again : Bool) → (binding.Receiver → Binding B) → Binding B
+-- what is made of the column of a name that is not named again
+abbrev pub column_made : {B : Type 0} → List binding.Receiver → Name → (again : Bool)
+    → (binding.Receiver → Binding B) → Binding B
 column_made all name again make = λ counts. and_then (named_once all name again) (λ r. make r counts)
 
--- each of a list, with the names of those before it
+-- each element of a list, with the names of the elements before it
 abbrev pub with_names : {A : Type 0} → (A → Name) → List Name → List A → List (List Name × A)
 with_names name_of before [] = []
 with_names name_of before (x ∷ xs) = (before, x) ∷ with_names name_of (before ++ name_of x ∷ []) xs
 
-abbrev pub column_after : {A B : Type 0} → List binding.Receiver → (A → Name) → (A → binding.Receiver → Binding B) → List Name × A → Binding B
-column_after all name_of make p = column_made all (name_of p.1) (has_name_twice (p.0 ++ name_of p.1 ∷ [])) (make p.1)
+abbrev pub column_after : {A B : Type 0} → List binding.Receiver → (A → Name)
+    → (A → binding.Receiver → Binding B) → List Name × A → Binding B
+column_after all name_of make p =
+    column_made all (name_of p.1) (has_name_twice (p.0 ++ name_of p.1 ∷ [])) (make p.1)
 
--- what is made of the columns of a list, each named once
-abbrev pub columns_made : {A B : Type 0} → List binding.Receiver → (A → Name) → (A → binding.Receiver → Binding B) → List A → Binding (List B)
+-- what is made of each column that a list names, where none is named twice
+abbrev pub columns_made : {A B : Type 0} → List binding.Receiver → (A → Name)
+    → (A → binding.Receiver → Binding B) → List A → Binding (List B)
 columns_made all name_of make xs = each (column_after all name_of make) (with_names name_of [] xs)

@@ -16,13 +16,15 @@ use Rattle.sq_binding.specs.Targets.{targets_bound}
 use Rattle.sq_binder.specs.declared.found.Found.{Found}
 use Rattle.sq_binder.specs.declared.stop.Stop.{Stop}
 
--- in these surroundings, in the text of a user
+-- a SELECT INTO in these surroundings, in the text of a user
 abbrev pub row_in : Name → Surroundings → SelectStatement → Binding NumberedRow
 row_in own a s = do
   x ← select_bound a (select_of_statement own s)
   targets ← outcome (targets_bound a.parameters (listed s.targets) (map (λ c. c.kind) (columns_of x)))
   pure (record { query = x; targets = targets })
 
-abbrev pub with_outputs : Found BoundSpecification → Result (List Output) Stop → Result (Found BoundSelect) Stop
-with_outputs query (Ok outputs) = Ok (record { part = record { query = query.part; outputs = outputs }; brought = query.brought })
+abbrev pub with_outputs : Found BoundSpecification → Result (List Output) Stop
+    → Result (Found BoundSelect) Stop
+with_outputs query (Ok outputs) =
+    Ok (record { part = record { query = query.part; outputs = outputs }; brought = query.brought })
 with_outputs query (Err stop) = Err stop

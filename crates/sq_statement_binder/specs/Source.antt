@@ -31,7 +31,10 @@ abbrev pub unless : {A : Type 0} → Option BindingFault → A → Result A Stop
 unless None x = Ok x
 unless (Some f) x = Err (broken f)
 
--- what a function ensures that inserts the rows of a query
-abbrev pub Inserts : List Receiver → Result (Found BoundSpecification) Stop → Result (Found InsertedRows) Stop → Type 0
-Inserts receivers (Ok query) rows = rows ≡ unless (column_fault (out-BoundSpecification query.part).columns receivers) (record { part = inserted.Query query.part; brought = query.brought })
+-- the rows of a query are inserted, if its columns fit those that get values
+abbrev pub Inserts : List Receiver → Result (Found BoundSpecification) Stop → Result (Found InsertedRows) Stop
+    → Type 0
+Inserts receivers (Ok query) rows =
+    rows ≡ unless (column_fault (out-BoundSpecification query.part).columns receivers)
+    (record { part = inserted.Query query.part; brought = query.brought })
 Inserts receivers (Err stop) rows = rows ≡ Err stop

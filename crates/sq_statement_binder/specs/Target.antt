@@ -23,14 +23,16 @@ abbrev pub all_set : List PlacedParameter → List ℕ
 all_set targets = flat_map set_by targets
 
 -- a further target, where it sets no parameter again
-abbrev pub set_unless : (again : Bool) → List PlacedParameter → PlacedParameter → Outcome (List PlacedParameter)
+abbrev pub set_unless : (again : Bool) → List PlacedParameter → PlacedParameter
+    → Outcome (List PlacedParameter)
 set_unless again targets t = must_hold (not again) fault.TargetTwice >>= λ _. Ok (targets ++ t ∷ [])
 
 abbrev pub set_once : List PlacedParameter → PlacedParameter → Outcome (List PlacedParameter)
 set_once targets t = set_unless (has_twice nat_eq (all_set targets ++ set_by t)) targets t
 
 -- the targets that are bound so far, and the next one
-abbrev pub target_step : List Declared → List PlacedParameter → Parameter × Kind → Outcome (List PlacedParameter)
+abbrev pub target_step : List Declared → List PlacedParameter → Parameter × Kind
+    → Outcome (List PlacedParameter)
 target_step parameters targets t = target_bound parameters t >>= set_once targets
 
 -- ---- a target that sets a parameter again

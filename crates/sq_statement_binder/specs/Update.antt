@@ -27,24 +27,29 @@ IsAssignmentOf base a = IsColumnOf base a.column × IsPlain a.value
 abbrev pub AreAssignmentsOf : BaseTable → List BoundAssignment → Type 0
 AreAssignmentsOf base = AllByRecursion (IsAssignmentOf base)
 
--- it updates these rows of a base table
+-- an UPDATE is of these rows of a base table
 abbrev pub IsUpdateOver : Leaf → BoundUpdate → Type 0
 IsUpdateOver leaf u = (under u.target ≡ leaf) × AreAssignmentsOf leaf.table u.assignments
 
 -- a set clause where columns of the table may stand; the user holds these privileges on it
-abbrev pub assignment_in : (holds : Privilege → Bool) → Surroundings → Assignment → Receiver → Binding NumberedAssignment
+abbrev pub assignment_in : (holds : Privilege → Bool) → Surroundings → Assignment → Receiver
+    → Binding NumberedAssignment
 assignment_in holds a s receiver = do
   value ← new_value_bound a receiver.kind s.value
   has_found (needed (holds (Privilege.update s.column)))
   pure (record { column = receiver.column; value = value })
 
--- of a table, in these surroundings
-abbrev pub update_over : UserNames → Surroundings → NamedCursors → Update → ChangedTable → Binding NumberedUpdate
+-- an UPDATE of a table, in these surroundings
+abbrev pub update_over : UserNames → Surroundings → NamedCursors → Update → ChangedTable
+    → Binding NumberedUpdate
 update_over names a cursors u t = reading names t (update_parts names a cursors t u)
 
 abbrev pub update_in : UserNames → Surroundings → NamedCursors → Update → Binding NumberedUpdate
-update_in names a cursors u = outcome (changed_table names (table_of names.user u.table)) >>= update_over names a cursors u
+update_in names a cursors u =
+    outcome (changed_table names (table_of names.user u.table)) >>= update_over names a cursors u
 
-abbrev pub updated : Result (Found (List BoundAssignment × ChangeTarget)) Stop → Result (Found BoundUpdate) Stop
-updated (Ok x) = Ok (record { part = record { target = x.part.1; assignments = x.part.0 }; brought = x.brought })
+abbrev pub updated : Result (Found (List BoundAssignment × ChangeTarget)) Stop
+    → Result (Found BoundUpdate) Stop
+updated (Ok x) =
+    Ok (record { part = record { target = x.part.1; assignments = x.part.0 }; brought = x.brought })
 updated (Err stop) = Err stop

@@ -58,7 +58,8 @@ fn with_columns<T: ChangeableTables>(
     before: Counts,
 ) -> AssignmentsResult
     requires { AreWithin (length table.now.under.leaf.now.table.columns) (map receiver_seen receivers.now) }
-    ensures finds { Finds (map assignment_seen) (columns_made (map receiver_seen receivers.now) (λ s. s.column)
+    ensures finds { Finds (map assignment_seen)
+        (columns_made (map receiver_seen receivers.now) (λ s. s.column)
         (assignment_in ((T.changes at.now.tables.now).holds (table_name table.now))
         (of_lines (item_at_leaf (changed_of table.now) ∷ []) (surroundings T.named at.now)))
         (listed list.now)) before result }
@@ -81,7 +82,8 @@ fn over_item<'s, T: ChangeableTables>(
     before: Counts,
 ) -> AssignmentsResult
     requires { AreWithin (length table.now.under.leaf.now.table.columns) (map receiver_seen receivers.now) }
-    ensures finds { Finds (map assignment_seen) (columns_made (map receiver_seen receivers.now) (λ s. s.column)
+    ensures finds { Finds (map assignment_seen)
+        (columns_made (map receiver_seen receivers.now) (λ s. s.column)
         (assignment_in ((T.changes at.now.tables.now).holds (table_name table.now))
         (of_lines (item_of item.now ∷ []) (surroundings T.named at.now))) (listed list.now)) before result }
     ensures columns { IfOk result
@@ -106,7 +108,8 @@ fn in_turn<T: ChangeableTables>(
     before: Counts,
 ) -> AssignmentsResult
     requires { AreWithin (length table.now.under.leaf.now.table.columns) (map receiver_seen receivers.now) }
-    ensures finds { Finds (map assignment_seen) (columns_made (map receiver_seen receivers.now) (λ s. s.column)
+    ensures finds { Finds (map assignment_seen)
+        (columns_made (map receiver_seen receivers.now) (λ s. s.column)
         (assignment_in ((T.changes at.now.tables.now).holds (table_name table.now))
         (surroundings T.named at.now)) (listed list.now)) before result }
     ensures columns { IfOk result
@@ -151,7 +154,8 @@ fn bind_assignment<T: ChangeableTables>(
     before: Counts,
 ) -> Result<Found<BoundAssignment>, Stop>
     requires { AreWithin (length table.now.under.leaf.now.table.columns) (map receiver_seen receivers.now) }
-    ensures finds { Finds assignment_seen (column_made (map receiver_seen receivers.now) assignment.now.column again
+    ensures finds { Finds assignment_seen
+        (column_made (map receiver_seen receivers.now) assignment.now.column again
         (assignment_in ((T.changes at.now.tables.now).holds (table_name table.now))
         (surroundings T.named at.now) assignment.now)) before result }
     ensures column { IfOk result

@@ -18,7 +18,7 @@ fn needed(is_held: bool) -> QueryFindings
     }
 }
 
-/// The same, of a part that needs a privilege.
+/// What a part that needs a privilege brings along.
 pub fn requiring(brought: Brought, is_held: bool) -> Brought
     ensures { (brought_of result ≡ requiring is_held (brought_of brought)) × (result.next ≡ brought.next) }
 {
@@ -28,7 +28,7 @@ pub fn requiring(brought: Brought, is_held: bool) -> Brought
     }
 }
 
-/// The same, of a part that needs a privilege if it reads a column of the table that is changed (own rule).
+/// What a part that needs SELECT if it reads a column of the table that is changed brings along (own rule).
 pub fn reading(brought: Brought, may_select: bool) -> Brought
     ensures { (brought_of result ≡ reading may_select (brought_of brought)) × (result.next ≡ brought.next) }
 {

@@ -49,7 +49,7 @@ fn is_next(orientation: FetchOrientation) -> bool
     matches!(orientation, FetchOrientation::Next)
 }
 
-/// Where no orientation is written, NEXT is implicit.
+/// The orientation that is written, or else NEXT.
 fn orientation_if(
     written: Option<Orientation>,
     parameters: &[ParameterDesc],

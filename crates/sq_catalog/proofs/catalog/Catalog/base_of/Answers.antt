@@ -18,7 +18,7 @@ assembled-requires-clause-references c =
     let bound = rw c.in_ok-bound.ensures.values.0 at c.bound_references-bound.ensures.refer in
     let parts = rw c.in_ok-bound.ensures.values.1 at c.base_parts-parts.ensures.count in
     by_keys_at (keys_with c.bases.result.now c.args.draft.now.keys.columns) (length c.in_ok-bound.parts.columns) (length c.args.columns.now) c.in_ok-bound.bound.references
-    (parts ∙ sym c.requires.width) bound
+    (parts ∙ sym c.requires.columns.width) bound
 
 pub returns-clause-checks : goal.returns-clause-checks
 returns-clause-checks c =
@@ -32,7 +32,7 @@ returns-in_err-bound-clause-exact c =
     let columns = c.args.columns.now in
     let before = c.bases.result.now in
     handed_on _ _ c.from_residual.result c.in_err-bound.field-0.0 c.from_residual.ensures.1
-    (base_stop catalog c.args.user c.args.name.now draft columns before c.requires.of c.requires.named c.requires.seen (ap length c.bases.ensures ∙ sym c.next_base-place.ensures.place ∙ c.next_base-place.ensures.exact)
+    (base_stop catalog c.args.user c.args.name.now draft columns before c.requires.draft.of c.requires.draft.named c.requires.columns.seen (ap length c.bases.ensures ∙ sym c.next_base-place.ensures.place ∙ c.next_base-place.ensures.exact)
     (λ bound. (bound.references, bound.are_permitted)) (λ parts. (map cond_seen parts.checks, held_declared draft.columns.items parts.columns)) c.bound_references-bound.result c.base_parts-parts.result
     (subst (λ (fs : List FoundReference). Makes (λ bound. (bound.references, bound.are_permitted)) (references_made (bound_reference catalog c.args.user (own_here catalog c.args.user c.args.name.now draft columns before)) (map found_seen fs)) c.bound_references-bound.result)
     c.as_slice.ensures.value c.bound_references-bound.ensures.exact)
@@ -48,7 +48,7 @@ returns-clause-exact c =
     let parts = c.in_ok-bound.parts in
     let references = subst (λ (fs : List FoundReference). Makes (λ bound. (bound.references, bound.are_permitted)) (references_made (bound_reference catalog c.args.user (own_here catalog c.args.user c.args.name.now draft columns before)) (map found_seen fs)) c.bound_references-bound.result)
     c.as_slice.ensures.value c.bound_references-bound.ensures.exact in
-    base_is catalog c.args.user c.args.name.now draft columns before c.requires.of c.requires.named c.requires.seen (ap length c.bases.ensures ∙ sym c.next_base-place.ensures.place ∙ c.next_base-place.ensures.exact)
+    base_is catalog c.args.user c.args.name.now draft columns before c.requires.draft.of c.requires.draft.named c.requires.columns.seen (ap length c.bases.ensures ∙ sym c.next_base-place.ensures.place ∙ c.next_base-place.ensures.exact)
     c.assembled.result.0 c.assembled.result.1 parts.columns parts.checks
     (subst (Makes (λ bound. (bound.references, bound.are_permitted)) (references_here catalog c.args.user c.args.name.now draft columns before)) c.in_ok-bound.ensures.values.0 references ∙ (λ i. Ok (sym c.assembled.ensures.references i, sym c.assembled.ensures.permitted i)))
     (subst (Makes (λ parts. (map cond_seen parts.checks, held_declared draft.columns.items parts.columns)) (parts_here catalog c.args.user c.args.name.now draft columns before)) c.in_ok-bound.ensures.values.1 c.base_parts-parts.ensures.exact)

@@ -34,7 +34,7 @@ returns-in-Ok-clause-exact c =
     let base = c.in_ok-base.base in
     let permitted = c.in_ok-base.may_reference in
     table_made catalog c.args.user draft.definition.now (draft_seen draft) (base_declared c.args.name.now c.args.columns.now base) permitted c.in_ok-check_keys.ensures.exact c.in_ok-base.ensures.exact
-    (rest_here catalog c.args.user draft.definition.now (draft_seen draft) c.args.name.now c.args.columns.now base permitted c.requires.named c.in_ok-base.ensures.kinds ∙ c.in-Ok.ensures.exact)
+    (rest_here catalog c.args.user draft.definition.now (draft_seen draft) c.args.name.now c.args.columns.now base permitted c.requires.draft.named c.in_ok-base.ensures.base.kinds ∙ c.in-Ok.ensures.exact)
 
 pub returns-in-Err-clause-exact : goal.returns-in-Err-clause-exact
 returns-in-Err-clause-exact c =
@@ -43,4 +43,4 @@ returns-in-Err-clause-exact c =
     let base = c.in_ok-base.base in
     let permitted = c.in_ok-base.may_reference in
     rest_stops catalog c.args.user draft.definition.now (draft_seen draft) (base_declared c.args.name.now c.args.columns.now base) permitted c.in-Err.fault c.in_ok-check_keys.ensures.exact c.in_ok-base.ensures.exact
-    (stops_same _ _ c.in-Err.fault (rest_here catalog c.args.user draft.definition.now (draft_seen draft) c.args.name.now c.args.columns.now base permitted c.requires.named c.in_ok-base.ensures.kinds) c.in-Err.ensures.exact)
+    (stops_same _ _ c.in-Err.fault (rest_here catalog c.args.user draft.definition.now (draft_seen draft) c.args.name.now c.args.columns.now base permitted c.requires.draft.named c.in_ok-base.ensures.base.kinds) c.in-Err.ensures.exact)

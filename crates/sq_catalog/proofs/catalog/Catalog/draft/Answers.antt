@@ -13,7 +13,7 @@ returns-in-Ok-clause-of c =
     let parts = c.in-Ok.ensures in
     let made = c.draft_of.ensures in
     is_draft_of c.draft_of.result c.args.definition.now made.definition ((λ i. typed_definitions (made.columns i).items) ∙ parts.columns ∙ written.columns)
-    ((λ i. (made.keys i).has_two_primary) ∙ parts.two ∙ ap (λ ks. nat_lt 1 (length (primaries ks))) written.keys) ((λ i. (made.keys i).primary) ∙ parts.primary ∙ ap primary_among written.keys)
+    ((λ i. (made.keys i).has_two_primary) ∙ parts.named.two_primary ∙ ap (λ ks. nat_lt 1 (length (primaries ks))) written.keys) ((λ i. (made.keys i).primary) ∙ parts.named.primary ∙ ap primary_among written.keys)
     ((λ i. conditions_lent (made.written i).checks.items) ∙ written.checks)
 
 pub returns-in-Ok-clause-exact : goal.returns-in-Ok-clause-exact

@@ -1,17 +1,16 @@
-use Rattle.std.proofs.Common.{IfOk, List, ap, map, subst, sym, ◌∙◌}
+use Rattle.std.proofs.Common.{ℕ, IfOk, List, ap, length, map, subst, sym, vec_len, ◌∙◌}
 use Rattle.std.specs.Borrow.{Bor}
 use Rattle.sq_lex.specs.declared.name.Name.{Name}
 use Rattle.sq_tree.specs.declared.schema.ColumnDefinition.{ColumnDefinition}
 use Rattle.sq_rules.specs.Schema.{has_name_twice}
 use Rattle.sq_rules.specs.declared.refusal.SchemaFault.TheVariants.{NameTwice}
 use Rattle.sq_declaring.specs.Outcome.{refused_if}
-use Rattle.sq_catalog.specs.Draft.{written_names}
+use Rattle.sq_catalog.specs.Draft.{NamesAreFound, written_names}
 use Rattle.sq_catalog.specs.Exact.{declared, name_in}
 use Rattle.sq_catalog.specs.Fault.{Makes, Stops}
-use Rattle.sq_catalog.specs.Keys.{KeysStandAt}
-use Rattle.sq_catalog.specs.Reference.{found_seen, reference_seen}
+use Rattle.sq_catalog.specs.Reference.{constraints_lent, found_seen, reference_seen}
 use Rattle.sq_catalog.specs.Table.{names_found}
-use Rattle.sq_catalog.specs.Written.{definitions_lent}
+use Rattle.sq_catalog.specs.Written.{definitions_lent, names_at}
 use Rattle.sq_catalog.specs.declared.written.WrittenKey.{WrittenKey}
 use Rattle.sq_catalog.proofs.Turns.{handed_on, stops_then, then_makes}
 use Rattle.sq_catalog.proofs.catalog.Catalog.found_in.Goals as goal
@@ -35,7 +34,12 @@ returns-clause-exact c =
     (ap (λ (ds : List (Bor ColumnDefinition)). refused_if NameTwice (has_name_twice (map (λ d. d.name) (definitions_lent ds)))) (sym c.as_slice.ensures.value) ∙ c.in_ok-named.ensures.exact)
     (subst (λ (ns : List Name). Makes (λ found. (found.0.columns, map found_seen found.1.items)) (names_found catalog c.args.user own ns keys references) c.found_names-found.result) names c.found_names-found.ensures.exact)
 
-pub returns-clause-keys : goal.returns-clause-keys
-returns-clause-keys c =
+pub returns-clause-named : goal.returns-clause-named
+returns-clause-named c =
+    let w = c.args.written.now in
+    let found = c.found_names-found.result in
     let names = c.in_ok-named.ensures.names ∙ ap (λ (ds : List (Bor ColumnDefinition)). map (λ d. d.name) (definitions_lent ds)) c.as_slice.ensures.value in
-    subst (λ (ns : List Name). IfOk c.found_names-found.result (λ found. KeysStandAt ns c.args.written.now.keys.items found.0.columns)) names c.found_names-found.ensures.named
+    let count = c.in_ok-named.ensures.count ∙ ap (λ (ds : List (Bor ColumnDefinition)). length ds) c.as_slice.ensures.value ∙ sym w.columns.ok.0 in
+    let are_found : List Name → ℕ → Type 0
+    = λ ns n. IfOk found (λ f. NamesAreFound c.args.self.now c.args.user c.args.name.now ns n w.keys.items (constraints_lent w.references.items) f.0 f.1.items) in
+    subst (λ (ns : List Name). are_found ns (vec_len w.columns)) names (subst (λ (n : ℕ). are_found (names_at c.in_ok-named.named) n) count c.found_names-found.ensures.named)

@@ -16,7 +16,7 @@ returns-clause-exact c =
     let names = names_at c.args.columns.now in
     let found = found_reference (declared c.args.self.now) c.args.user (name_in c.args.full_name.now) names in
     both_makes (λ keys. keys.columns) (λ references. map found_seen references.items) (each (positions_of names) (map (λ (key : WrittenKey). key.columns) c.args.written.now.keys.items))
-    (each found (map reference_seen c.args.written.now.references.items)) c.keys_of-keys.result c.references_of-references.result
-    (subst (λ (ws : List WrittenKey). Makes (λ keys. keys.columns) (each (positions_of names) (map (λ (key : WrittenKey). key.columns) ws)) c.keys_of-keys.result) c.as_slice.ensures.value c.keys_of-keys.ensures.exact)
+    (each found (map reference_seen c.args.written.now.references.items)) c.keys_by_position-keys.result c.references_of-references.result
+    (subst (λ (ws : List WrittenKey). Makes (λ keys. keys.columns) (each (positions_of names) (map (λ (key : WrittenKey). key.columns) ws)) c.keys_by_position-keys.result) c.as_slice.ensures.value c.keys_by_position-keys.ensures.exact)
     (subst (λ (ws : List WrittenReference). Makes (λ references. map found_seen references.items) (each found (map reference_seen ws)) c.references_of-references.result) c.as_slice-2.ensures.value c.references_of-references.ensures.exact)
     c.pair_of.result c.pair_of.ensures.values c.pair_of.ensures.fault

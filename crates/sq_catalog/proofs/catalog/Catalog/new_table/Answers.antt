@@ -8,6 +8,7 @@ use Rattle.sq_catalog.specs.Table.{typed_definitions}
 use Rattle.sq_catalog.specs.Written.{conditions_lent}
 use Rattle.sq_catalog.proofs.Bases.{base_made}
 use Rattle.sq_catalog.proofs.References.{references_made}
+use Rattle.sq_catalog.proofs.TablesMade.{if_ok_more}
 use Rattle.sq_catalog.proofs.Turns.{handed_on, stops_then, then_makes}
 use Rattle.sq_catalog.proofs.catalog.Catalog.new_table.Goals as goal
 
@@ -17,14 +18,16 @@ returns-clause-base c =
     let found = c.in_ok-draft.ensures in
     let made = c.table_of-table.ensures in
     base_made c.args.name.now c.args.definition.now (typed_definitions draft.columns.items) draft.keys.columns draft.keys.primary (conditions_lent draft.written.checks.items)
-    found.columns found.keys found.primary found.checks c.table_of-table.result made.columns made.base_columns made.keys made.primary made.checks
+    found.columns found.named.keys_stand found.named.primary found.checks c.table_of-table.result made.columns (if_ok_more c.table_of-table.result (λ new base. base.columns) made.base)
+    (if_ok_more c.table_of-table.result (λ new base. base.keys) made.base) (if_ok_more c.table_of-table.result (λ new base. base.primary) made.base) made.checks
 
 pub returns-clause-references : goal.returns-clause-references
 returns-clause-references c =
     let draft = c.in_ok-draft.draft in
     let made = c.table_of-table.ensures in
     references_made c.table_of-table.result c.args.self.now c.args.user c.args.name.now c.args.definition.now (typed_definitions draft.columns.items) draft.keys.columns draft.keys.primary (vec_len draft.written.columns) draft.references.items
-    c.in_ok-draft.ensures.columns made.own made.columns made.keys made.primary c.in_ok-draft.ensures.references c.in_ok-draft.ensures.found made.references
+    c.in_ok-draft.ensures.columns made.own made.columns (if_ok_more c.table_of-table.result (λ new base. base.keys) made.base)
+    (if_ok_more c.table_of-table.result (λ new base. base.primary) made.base) c.in_ok-draft.ensures.named.meant c.in_ok-draft.ensures.named.found (if_ok_more c.table_of-table.result (λ new base. base.references) made.base)
 
 pub returns-in_err-draft-clause-exact : goal.returns-in_err-draft-clause-exact
 returns-in_err-draft-clause-exact c =

@@ -17,12 +17,10 @@ loop-opener-init c =
     let none = c.requires.none in
     record {
       procedures = refl;
-      fits = c.requires.fits;
-      well_formed = c.requires.well_formed;
+      in_order = c.requires.in_order;
       openable = openable_none (column_kinds c.args.catalog.now) cursors c.args.numbers.now.entries none c.args.«module».now.procedures.items;
       grows = ([], sym (append-nil cursors));
       there = subst (AreThere _) (sym none) refl;
-      apart = c.requires.apart;
       opened_by = opened_by_none c.args.«module».now.name cursors c.requires.others;
       others = λ name other of. of;
       written = λ m of. subst (AreNumbers (known c.args.catalog.now) m cursors) (sym none) tt;
@@ -42,12 +40,10 @@ loop-opener-preserved c =
     let once = c.requires.once in
     record {
       procedures = c.add_opened.ensures.procedures ∙ c.loop-opener.invariant.procedures;
-      fits = c.in_ok-add_opened.ensures.fits;
-      well_formed = c.in_ok-add_opened.ensures.well_formed;
+      in_order = c.in_ok-add_opened.ensures.in_order;
       openable = c.in_ok-add_opened.ensures.openable procedures (only_opener a index opener below is once) c.loop-opener.invariant.openable;
       grows = grow_on c.args.self.now.cursors.items c.loop-opener.self.cursors.items new c.loop-opener.invariant.grows c.in_ok-add_opened.ensures.grows;
       there = c.in_ok-add_opened.ensures.there;
-      apart = c.in_ok-add_opened.ensures.apart;
       opened_by = opened_by_turn a.name procedures index opener new below is (c.in_ok-add_opened.ensures.opened_by (take index procedures) c.loop-opener.invariant.opened_by);
       others = λ name other of. c.in_ok-add_opened.ensures.others name other (c.loop-opener.invariant.others name other of);
       written = λ m of. c.in_ok-add_opened.ensures.written m of (all_at (IsProcedureOf m.items) procedures index opener below is of.procedures) (c.loop-opener.invariant.written m of);

@@ -15,9 +15,7 @@ add_module-requires-clause-once c = (admitted_at [] c.args.modules.now c.loop-mo
 pub loop-module-init : goal.loop-module-init
 loop-module-init c = record {
   procedures = refl;
-  fits = c.requires.fits;
-  well_formed = c.requires.well_formed;
-  apart = c.requires.apart;
+  in_order = c.requires.in_order;
   of_some = λ n none. c.requires.others n;
   written = λ texts of before. before;
   computed = λ texts of before. before;
@@ -26,9 +24,7 @@ loop-module-init c = record {
 pub loop-module-preserved : goal.loop-module-preserved
 loop-module-preserved c = record {
   procedures = grind (arith, common_steps);
-  fits = c.in_ok-add_module.ensures.fits;
-  well_formed = c.in_ok-add_module.ensures.well_formed;
-  apart = c.in_ok-add_module.ensures.apart;
+  in_order = c.in_ok-add_module.ensures.in_order;
   of_some = some_next c.args.modules.now c.loop-module.module-index c.module-item.result c.loop-module.self.cursors.items _ c.loop-module-test.true c.module-item.is
       c.in_ok-add_module.ensures.others c.loop-module.invariant.of_some;
   written = λ texts of before.

@@ -1,4 +1,5 @@
 use Rattle.std.proofs.Common.{[], ◌∷◌, ◌++◌, ◌∙◌, IfOk, ap, refl, subst, sym}
+use Rattle.std.specs.Result.{OnOk}
 use Rattle.std.proofs.lemmas.List.{append-nil}
 use Rattle.std.specs.Borrow.{Bor}
 use Rattle.std.specs.Option.{option_map}
@@ -7,11 +8,13 @@ use Rattle.sq_bound.specs.WellFormed.{kinds_of_parameters}
 use Rattle.sq_catalog.specs.Catalog.{column_kinds, known}
 use Rattle.sq_catalog.specs.UserTables.{names_in}
 use Rattle.sq_tree.specs.declared.module.Cursor.{Cursor}
-use Rattle.sq_module.specs.Written.{IsCursorNamed, IsOpenedIn}
+use Rattle.sq_module.specs.Program.{ProgramIsWellFormed}
+use Rattle.sq_module.specs.Written.{AreApart, IsCursorNamed, IsOpenedIn}
 use Rattle.sq_module.specs.Refusal.{opened_by}
 use Rattle.sq_module.proofs.Apart.{kinds_found, new_found, opened_by_more, opens_last}
 use Rattle.sq_module.proofs.Computed.{next_is}
 use Rattle.sq_module.proofs.Named.{named_absent, named_in_text, named_none}
+use Rattle.sq_module.proofs.Openers.{on_both}
 use Rattle.sq_module.proofs.Opening.{opens_nothing}
 use Rattle.sq_module.proofs.Written.{cursor_found}
 use Rattle.sq_module.proofs.program.Program.add_opened.Goals as goal
@@ -44,6 +47,21 @@ pub add_cursor-requires-clause-new : goal.add_cursor-requires-clause-new
 add_cursor-requires-clause-new c =
     new_found c.args.«module».now c.args.self.now.cursors.items c.args.opener.now c.in-Open.name _ c.in-Open.is (sym c.in-Some.ensures.value) c.requires.new
 
+pub add_cursor-requires-clause-apart : goal.add_cursor-requires-clause-apart
+add_cursor-requires-clause-apart c = c.requires.in_order.apart
+
+pub returns-in-Some-clause-in_order : goal.returns-in-Some-clause-in_order
+returns-in-Some-clause-in_order c =
+    let added = c.add_cursor.result in
+    let columns = column_kinds c.args.catalog.now in
+    let kinds = kinds_of_parameters c.args.opener.now.parameters in
+    let bound_is = rw c.as_slice-parameters.ensures at c.bound_cursor-bound.ensures.well_formed in
+    let fits = c.add_cursor.ensures.fits c.args.catalog.now.bases c.requires.in_order.fits c.bound_cursor-bound.ensures.fits in
+    let well_formed = c.add_cursor.ensures.well_formed columns kinds c.requires.in_order.well_formed bound_is in
+    let both : OnOk added (ProgramIsWellFormed columns c.add_cursor.new.self × AreApart [] c.add_cursor.new.self.cursors.items)
+    = on_both added well_formed c.add_cursor.ensures.apart (λ formed apart. (formed, apart)) in
+    on_both added fits both (λ fit rest. record { fits = fit; well_formed = rest.0; apart = rest.1 })
+
 pub returns-in-Some-clause-opened_by : goal.returns-in-Some-clause-opened_by
 returns-in-Some-clause-opened_by c =
     λ before all.
@@ -74,12 +92,10 @@ pub returns-in_default : goal.returns-in_default
 returns-in_default c = record {
   there = c.requires.there;
   procedures = refl;
-  fits = c.requires.fits;
-  well_formed = c.requires.well_formed;
+  in_order = c.requires.in_order;
   written = λ m of procedure numbers. numbers;
   grows = ([], sym (append-nil c.args.self.now.cursors.items));
   openable = λ procedures only before. before;
-  apart = c.requires.apart;
   others = λ name other of. of;
   opened_by = λ before all. opened_by_more c.args.«module».now.name before c.args.opener.now c.args.self.now.cursors.items all;
   named = λ m before of only are.

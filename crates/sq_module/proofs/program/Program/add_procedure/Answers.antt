@@ -13,18 +13,23 @@ use Rattle.sq_module.proofs.Computed.{procedure_computed, procedures_computed}
 use Rattle.sq_module.proofs.Written.{procedure_next}
 use Rattle.sq_module.proofs.program.Program.add_procedure.Goals as goal
 
-pub returns-clause-fits : goal.returns-clause-fits
-returns-clause-fits c =
-    let one : FitsProcedure c.args.catalog.now.bases (length c.args.self.now.cursors.items) c.in_ok-bound.bound = rw c.as_slice.ensures.value at c.in_ok-bound.ensures.fits in
-    on_ok_weaker c.inserted.result (λ is. (c.requires.fits.0, procedure_added (FitsProcedure _ _) _ _ _ _ is c.requires.fits.1 one)) c.inserted.ensures.entries
-
-pub returns-clause-well_formed : goal.returns-clause-well_formed
-returns-clause-well_formed c =
-    let one : ProcedureIsWellFormed (column_kinds c.args.catalog.now) (kinds_of_cursors c.args.self.now.cursors.items) c.in_ok-bound.bound
-    = rw c.as_slice.ensures.value at c.in_ok-bound.ensures.well_formed in
-    let opens : ProcedureOpens (column_kinds c.args.catalog.now) c.args.self.now.cursors.items c.in_ok-bound.bound = rw c.as_slice.ensures.value at c.in_ok-bound.ensures.opens in
-    on_ok_weaker c.inserted.result (λ is. (c.requires.well_formed.0, procedure_added (ProcedureIsWellFormed _ _) _ _ _ _ is c.requires.well_formed.1 one, procedure_added (ProcedureOpens _ _) _ _ _ _ is c.requires.well_formed.2 opens))
-    c.inserted.ensures.entries
+pub returns-clause-in_order : goal.returns-clause-in_order
+returns-clause-in_order c =
+    let columns = column_kinds c.args.catalog.now in
+    let cursors = c.args.self.now.cursors.items in
+    let before = c.requires.in_order in
+    let fits : FitsProcedure c.args.catalog.now.bases (length cursors) c.in_ok-bound.bound = rw c.as_slice.ensures.value at c.in_ok-bound.ensures.fits in
+    let formed : ProcedureIsWellFormed columns (kinds_of_cursors cursors) c.in_ok-bound.bound = rw c.as_slice.ensures.value at c.in_ok-bound.ensures.well_formed in
+    let opens : ProcedureOpens columns cursors c.in_ok-bound.bound = rw c.as_slice.ensures.value at c.in_ok-bound.ensures.opens in
+    on_ok_weaker c.inserted.result (λ is. record {
+      fits = (before.fits.0, procedure_added (FitsProcedure _ _) _ _ _ _ is before.fits.1 fits);
+      well_formed = (
+        before.well_formed.0,
+        procedure_added (ProcedureIsWellFormed _ _) _ _ _ _ is before.well_formed.1 formed,
+        procedure_added (ProcedureOpens _ _) _ _ _ _ is before.well_formed.2 opens,
+      );
+      apart = before.apart;
+    }) c.inserted.ensures.entries
 
 pub returns-clause-written : goal.returns-clause-written
 returns-clause-written c =

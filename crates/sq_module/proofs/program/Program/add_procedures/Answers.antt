@@ -29,8 +29,7 @@ loop-admitted-preserved c =
     record {
       procedures = grind (arith, common_steps);
       cursors = c.add_procedure.ensures.cursors ∙ c.loop-admitted.invariant.cursors;
-      fits = c.in_ok-add_procedure.ensures.fits;
-      well_formed = c.in_ok-add_procedure.ensures.well_formed;
+      in_order = c.in_ok-add_procedure.ensures.in_order;
       written = λ texts m among of found before.
           c.in_ok-add_procedure.ensures.written texts m among of (all_at (IsProcedureOf m.items) procedures index c.admitted-item.result below is of.procedures)
           (subst (λ cs. AreNumbers (known c.args.catalog.now) m cs.items numbers) (sym c.loop-admitted.invariant.cursors) found)

@@ -2,12 +2,13 @@ use Rattle.std.proofs.Common.{◌≡◌, List, map, take}
 use Rattle.std.specs.Map.{keys_of}
 use Rattle.std.specs.List.{IsAmong}
 use Rattle.sq_tree.specs.declared.module.ModuleText.{ModuleText}
-use Rattle.sq_catalog.specs.Catalog.{column_kinds, known}
+use Rattle.sq_catalog.specs.Catalog.{known}
 use Rattle.sq_catalog.specs.UserTables.{names_in}
+use Rattle.sq_module.specs.Added.{IsInOrder}
 use Rattle.sq_module.specs.Admitted.{name_of}
 use Rattle.sq_module.specs.Computed.{AreComputedProcedures}
 use Rattle.sq_module.specs.Named.{AreNamedAs}
-use Rattle.sq_module.specs.Program.{FitsProgram, ProgramIsWellFormed, with_procedures}
+use Rattle.sq_module.specs.Program.{with_procedures}
 use Rattle.sq_module.specs.Written.{AreFrom, AreNumbers, IsOfText}
 use Rattle.sq_module.proofs.program.Program.add_procedures.Given as goal
 
@@ -15,8 +16,7 @@ abbrev pub invariant-loop-admitted : goal.invariant-loop-admitted
 invariant-loop-admitted l = record {
   procedures : keys_of l.self.procedures.entries ≡ with_procedures (keys_of l.fn.self.procedures.entries) (map (name_of l.«module».name) (take l.admitted-index l.«module».procedures.items));
   cursors : l.self.cursors ≡ l.fn.self.cursors;
-  fits : FitsProgram l.catalog.bases l.self;
-  well_formed : ProgramIsWellFormed (column_kinds l.catalog) l.self;
+  in_order : IsInOrder l.catalog l.self;
   written : (texts : List ModuleText) (m : ModuleText) → IsAmong texts m → IsOfText m l.«module» → AreNumbers (known l.catalog) m l.fn.self.cursors.items l.numbers.entries
       → AreFrom (known l.catalog) texts l.fn.self → AreFrom (known l.catalog) texts l.self;
   computed : (texts : List ModuleText) (m : ModuleText) → IsAmong texts m → IsOfText m l.«module»

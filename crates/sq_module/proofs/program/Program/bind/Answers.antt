@@ -1,16 +1,17 @@
-use Rattle.std.proofs.Common.{[], ap, subst, sym}
+use Rattle.std.proofs.Common.{ap, subst, sym}
 use Rattle.std.specs.List.{list_any}
 use Rattle.sq_catalog.specs.Catalog.{known}
 use Rattle.sq_catalog.specs.UserTables.{names_in}
 use Rattle.sq_module.specs.Computed.{AreComputedCursors, AreComputedProcedures}
 use Rattle.sq_module.specs.Opened.{is_in}
-use Rattle.sq_module.specs.Written.{AreApart, AreFromTexts}
+use Rattle.sq_module.specs.Written.{AreFromTexts}
+use Rattle.sq_module.proofs.Fitting.{begun}
 use Rattle.sq_module.proofs.program.Program.bind.Goals as goal
 
 pub returns-in-Ok-clause-written : goal.returns-in-Ok-clause-written
 returns-in-Ok-clause-written c =
     λ texts of.
-    record { procedures = c.in-Ok.ensures.written texts of (subst (AreFromTexts (known c.args.catalog.now) texts c.new-2.result.items) (sym c.new.ensures.empty) tt); cursors = c.in-Ok.ensures.apart }
+    record { procedures = c.in-Ok.ensures.written texts of (subst (AreFromTexts (known c.args.catalog.now) texts c.new-2.result.items) (sym c.new.ensures.empty) tt); cursors = c.in-Ok.ensures.in_order.apart }
 
 pub returns-in-Ok-clause-computed : goal.returns-in-Ok-clause-computed
 returns-in-Ok-clause-computed c =
@@ -24,5 +25,11 @@ returns-in-Ok-clause-computed c =
 pub add_modules-requires-clause-others : goal.add_modules-requires-clause-others
 add_modules-requires-clause-others c = λ name. ap (list_any (is_in name)) c.new-2.ensures.items
 
-pub add_modules-requires-clause-apart : goal.add_modules-requires-clause-apart
-add_modules-requires-clause-apart c = subst (AreApart []) (sym c.new-2.ensures.items) tt
+pub add_modules-requires-clause-in_order : goal.add_modules-requires-clause-in_order
+add_modules-requires-clause-in_order c = begun c.args.catalog.now _ c.new-2.ensures.items c.new.ensures.empty
+
+pub returns-in-Ok-clause-fits : goal.returns-in-Ok-clause-fits
+returns-in-Ok-clause-fits c = c.in-Ok.ensures.in_order.fits
+
+pub returns-in-Ok-clause-well_formed : goal.returns-in-Ok-clause-well_formed
+returns-in-Ok-clause-well_formed c = c.in-Ok.ensures.in_order.well_formed

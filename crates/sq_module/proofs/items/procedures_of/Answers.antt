@@ -9,7 +9,7 @@ use Rattle.sq_rules.specs.declared.refusal.ModuleFault.TheVariants as fault
 use Rattle.sq_module.proofs.Places.{none_found, none_next, place_found}
 use Rattle.sq_module.proofs.Refused.{refused_there}
 use Rattle.sq_module.proofs.Written.{among_at}
-use Rattle.sq_module.proofs.admission.procedures_of.Goals as goal
+use Rattle.sq_module.proofs.items.procedures_of.Goals as goal
 
 pub loop-place-preserved : goal.loop-place-preserved
 loop-place-preserved c = record {

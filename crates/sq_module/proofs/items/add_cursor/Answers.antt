@@ -11,7 +11,7 @@ use Rattle.sq_module.proofs.Listed.{cursor_listed}
 use Rattle.sq_module.proofs.Names.{keys_insert}
 use Rattle.sq_module.proofs.Refused.{fault_there}
 use Rattle.sq_module.proofs.Written.{all_entries}
-use Rattle.sq_module.proofs.admission.add_cursor.Goals as goal
+use Rattle.sq_module.proofs.items.add_cursor.Goals as goal
 
 pub returns-in-Ok-None-clause-written : goal.returns-in-Ok-None-clause-written
 returns-in-Ok-None-clause-written c =

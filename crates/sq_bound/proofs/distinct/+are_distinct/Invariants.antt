@@ -1,5 +1,5 @@
 use Rattle.std.proofs.Common.{length}
-use Rattle.sq_cursor_binder.proofs.updatable.+are_distinct.Given as goal
+use Rattle.sq_bound.proofs.distinct.+are_distinct.Given as goal
 
 abbrev pub decreases-are_distinct : goal.decreases-are_distinct
 decreases-are_distinct l = length l.columns.now

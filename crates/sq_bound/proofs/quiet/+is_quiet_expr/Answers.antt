@@ -3,7 +3,7 @@ use Rattle.sq_meaning.specs.Quiet.{is_quiet_expr}
 use Rattle.sq_bound.specs.Expression.{expr_of}
 use Rattle.sq_bound.specs.declared.expression.BoundExpr.{BoundExpr}
 use Rattle.sq_bound.proofs.QuietLaws.{alone, quiet-Signed, no_operation, operations, false_not}
-use Rattle.sq_bound.proofs.quiet.+is_sure_expr.Goals as goal
+use Rattle.sq_bound.proofs.quiet.+is_quiet_expr.Goals as goal
 
 abbrev is_quiet_bound : BoundExpr → Bool
 is_quiet_bound e = is_quiet_expr (expr_of [] e)
@@ -24,11 +24,11 @@ pub returns-in-Literal-5 : goal.returns-in-Literal-5
 returns-in-Literal-5 t c = sym (alone _ c.in-Literal.is)
 
 pub returns-in-Signed : goal.returns-in-Signed
-returns-in-Signed t c = c.is_sure_expr.ensures ∙ ap is_quiet_bound c.get.ensures ∙ sym (ap is_quiet_bound c.in-Signed.is ∙ quiet-Signed _ _)
+returns-in-Signed t c = c.is_quiet_expr.ensures ∙ ap is_quiet_bound c.get.ensures ∙ sym (ap is_quiet_bound c.in-Signed.is ∙ quiet-Signed _ _)
 
 pub returns-then-is_empty : goal.returns-then-is_empty
 returns-then-is_empty t c =
-    c.is_sure_expr-then-is_empty.ensures ∙ ap is_quiet_bound c.get-then-is_empty.ensures
+    c.is_quiet_expr-then-is_empty.ensures ∙ ap is_quiet_bound c.get-then-is_empty.ensures
     ∙ sym (ap is_quiet_bound c.in-Operations.is ∙ no_operation c.in-Operations.first c.in-Operations.rest (c.is_empty.ensures.0 c.if-is_empty.true))
 
 pub returns-else-is_empty : goal.returns-else-is_empty

@@ -7,7 +7,7 @@ use Rattle.sq_rules.specs.ModuleRefusal.{cursor_name, names_before}
 use Rattle.sq_module.specs.Admitted.{cursors_written}
 use Rattle.sq_module.specs.Written.{IsCursorIn}
 use Rattle.sq_module.proofs.Repeats.{AreNotUsed}
-use Rattle.sq_module.proofs.admission.cursors_of.Given as goal
+use Rattle.sq_module.proofs.items.cursors_of.Given as goal
 
 abbrev pub invariant-loop-place : goal.invariant-loop-place
 invariant-loop-place l = record {

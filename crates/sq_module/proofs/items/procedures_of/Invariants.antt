@@ -6,7 +6,7 @@ use Rattle.sq_module.specs.Admitted.{admitted_written, opening_in, openings, pro
 use Rattle.sq_module.specs.Program.{names_in}
 use Rattle.sq_module.specs.Written.{IsProcedureOf}
 use Rattle.std.specs.List.{AllByRecursion, list_any}
-use Rattle.sq_module.proofs.admission.procedures_of.Given as goal
+use Rattle.sq_module.proofs.items.procedures_of.Given as goal
 
 abbrev pub invariant-loop-place : goal.invariant-loop-place
 invariant-loop-place l = record {

@@ -12,7 +12,7 @@ use Rattle.sq_module.specs.Written.{Declare, IsStatementIn}
 use Rattle.sq_module.proofs.Computed.{kept_computed}
 use Rattle.sq_module.proofs.Opening.{kept_is, opens_openable}
 use Rattle.sq_module.proofs.Written.{statement_found}
-use Rattle.sq_module.proofs.program.bound_procedure.Goals as goal
+use Rattle.sq_module.proofs.procedure.bound_procedure.Goals as goal
 
 pub returns-in-Ok-clause-fits : goal.returns-in-Ok-clause-fits
 returns-in-Ok-clause-fits c =

@@ -9,7 +9,7 @@ use Rattle.sq_module.proofs.Listed.{listed_next, listed_whole}
 use Rattle.sq_module.proofs.Refused.{refused_there}
 use Rattle.sq_module.proofs.Repeats.{before_next, none_repeated, not_used_next, repeated}
 use Rattle.sq_module.proofs.Written.{among_at}
-use Rattle.sq_module.proofs.admission.cursors_of.Goals as goal
+use Rattle.sq_module.proofs.items.cursors_of.Goals as goal
 
 pub loop-place-preserved : goal.loop-place-preserved
 loop-place-preserved c =

@@ -1,0 +1,14 @@
+//! Lists of columns in which each stands once (ISO/IEC 9075:1992, 7.9 and 11.7).
+
+ghost use Rattle.std.specs.Prelude.{◌≡◌};
+ghost use Rattle.sq_meaning.specs.Target.{are_distinct};
+
+/// Whether no column stands twice.
+pub fn are_distinct(columns: &[usize]) -> bool
+    ensures { result ≡ are_distinct columns.now }
+{
+    match columns {
+        [] => true,
+        [column, others @ ..] => !others.contains(column) && are_distinct(others),
+    }
+}
