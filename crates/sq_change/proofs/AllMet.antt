@@ -13,11 +13,11 @@ use Rattle.sq_expression.proofs.Expressions.{handed_on}
 
 -- ---- what is demanded
 
--- it holds
+-- a demand that holds is met
 pub is_met : (holds : Bool) (s : Status) → holds ≡ true → demanded holds s ≡ Ok tt
 is_met holds s h = ap (λ (b : Bool). demanded b s) h
 
--- it is the same as another test
+-- demands of equal tests are met alike
 pub met_so : (r : Result (Unit {0}) Fault) (holds other : Bool) (s : Status) → holds ≡ other → Meets r (demanded other s) → Meets r (demanded holds s)
 met_so r holds other s same h = subst (λ (b : Bool). Meets r (demanded b s)) (sym same) h
 
@@ -47,7 +47,7 @@ each_meets test h [] = refl
 each_meets test h (x ∷ xs) = ap (λ (b : Bool). b && list_all test xs) (h x) ∙ each_meets test h xs
 
 module _ {X : Type 0} (test : X → Bool) (xs : List X) where
-  -- so many of the first elements meet it
+  -- the elements before this one pass the test
   abbrev pub MetTo : ℕ → Type 0
   MetTo i = list_all test (take i xs) ≡ true
 

@@ -26,7 +26,7 @@ module _ {X : Type 0} (test : X → Outcome (Unit {0})) where
   pub first_fails : (x : X) (xs : List X) (e : Fault) → Meets {A = Unit {0}} (Err e) (test x) → Meets {A = Unit {0}} (Err e) (all_satisfied test (x ∷ xs))
   first_fails x xs e failed = fails_then e (test x) (λ _. all_satisfied test xs) failed
 
-  -- so much is met
+  -- the elements before this one are satisfied
   abbrev pub SatisfiedTo : List X → ℕ → Type 0
   SatisfiedTo xs i = all_satisfied test xs ≡ all_satisfied test (drop i xs)
 
@@ -79,7 +79,7 @@ module _ (test : List Value → Outcome (Unit {0})) (changes : List Change) (i :
 -- ---- a loop that looks for one element
 
 module _ {X : Type 0} (test : X → Bool) (xs : List X) where
-  -- it is none of the first
+  -- no element before this one passes the test
   abbrev pub NoneTo : ℕ → Type 0
   NoneTo i = list_any test xs ≡ list_any test (drop i xs)
 

@@ -42,7 +42,7 @@ pub hands_on : {A B : Type 0} (r : Result A Fault) (f : Fault) (o : Outcome B) �
 hands_on (Ok x) f o is h = tt
 hands_on {A} {B} (Err g) f o is h = subst (λ (x : Fault). Fails {A = B} x o) (sym is) h
 
--- where changes can fail for want of memory alone
+-- changes that can fail by a refusal of memory alone
 pub memory_fails : {A B C : Type 0} (changes : Result A Fault) (r : Result B Fault) (o : Outcome C) → IfErr changes (λ f. f ≡ fault.NoMemory)
     → IfErr r (λ f. (f ≡ fault.NoMemory) ⊎ (changes ≡ Err f)) → IfErr r (λ f. Fails f o)
 memory_fails changes (Ok x) o memory h = tt

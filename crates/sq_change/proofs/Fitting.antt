@@ -69,7 +69,7 @@ in_domain_of_kind (Numeric p s) (Chars t) is = absurd is
 in_domain_of_kind (Char m) (Chars t) is = is
 in_domain_of_kind (VarChar m) (Chars t) is = is
 
--- so a row of a base table is of the kinds of its columns
+-- a row of a base table is of the kinds of its columns
 row_of_kinds : (columns : List BaseColumn) (row : Row) → IsRowIn columns row → IsRowOf (map (λ c. kind_of c.domain) columns) row
 row_of_kinds [] [] is = tt
 row_of_kinds [] (v ∷ row) is = absurd is
@@ -141,7 +141,7 @@ new_fits columns parameters c e scopes inputs name (inr is) given =
     = sym (value_alone columns parameters x.tree scopes inputs name (x.stands no_rows)) ∙ sym (ap of (x.is_tree [])) in
     subst (Answers (FitsKind c.domain)) same (tree_fits c is.0 _ is.2 (tree_answers columns parameters [] is.0 e [] inputs name x given tt))
 
--- so does what a set clause gives for a column on a row of the base table (13.9)
+-- what a set clause gives for a column on a row of the base table fits the column (13.9)
 pub assigned_fits : (columns : TableKinds) (parameters : List Kind) (b : BaseTable) (c : ObjectColumn) (e : BoundExpr) (row : Row) (inputs : List Input) (name : Name)
     → IsNewValue columns parameters (of_base b) c e → columns (Base b.place) ≡ Ok (base_kinds b) → IsRowIn b.columns row → AreInputsOf parameters inputs
     → Answers (FitsKind c.domain) (value (by_place no_rows) (expr_of [] e) (record { scopes = alone [] (row ∷ []) ∷ []; inputs = inputs; user = name }))

@@ -10,7 +10,7 @@ module _ {X Y : Type 0} (f : X → List Y) where
   one_more (y ∷ ys) (suc i) x d lt e = ap (λ (zs : List Y). f y ++ zs) (one_more ys i x d (omega arith) e) ∙ sym (append_assoc (f y) (flat_map f (take i ys)) (f x))
 
   module _ (xs : List X) (before : List Y) where
-    -- those of so many elements stand behind what there was
+    -- what the elements before this one give stands behind what there was
     abbrev pub GatheredTo : ℕ → List Y → Type 0
     GatheredTo i done = done ≡ before ++ flat_map f (take i xs)
 

@@ -68,7 +68,7 @@ wide_changed_by n t (Remove number ∷ changes) h k =
 
 -- ---- columns of keys and references
 
--- positions of so many columns are columns of a row that has a value for each
+-- positions below a number of columns are columns of a row with that many values
 row_has : (n : ℕ) (columns : List ℕ) (row : List Value) → are_positions n columns ≡ true → length row ≡ n → has_columns columns row ≡ true
 row_has n columns row h e = subst (λ (m : ℕ). list_all (λ c. nat_lt c m) columns ≡ true) (sym e) h
 

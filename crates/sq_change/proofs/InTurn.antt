@@ -10,7 +10,7 @@ use Rattle.sq_query.proofs.Bases.{all_same}
 use Rattle.sq_query.proofs.Unions.{one_more, pair_at, zip_length}
 
 module _ {X A : Type 0} (f : X → Outcome A) (xs : List X) where
-  -- so much is made of the first elements, and the others are left
+  -- the elements before this one are made, and the others are left
   abbrev pub MadeTo : ℕ → List A → Type 0
   MadeTo i done = each f xs ≡ after done (each f (map (λ x. x) (drop i xs)))
 

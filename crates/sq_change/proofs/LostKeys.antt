@@ -12,7 +12,7 @@ use Rattle.sq_change.specs.Reference.{LosesAll, LosesAssigned, is_assigned}
 
 -- ---- UPDATE
 
--- of the first keys
+-- the keys before this one that have an assigned column
 abbrev pub LosesFirst : Keys → List BoundAssignment → List ℕ → ℕ → Type 0
 LosesFirst keys assignments lost i =
     (key : ℕ) (columns : List ℕ) → key < i → slice_get keys key ≡ Some columns → list_any (nat_eq key) lost ≡ false → is_assigned columns assignments ≡ false

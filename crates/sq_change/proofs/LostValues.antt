@@ -82,7 +82,7 @@ referred_there bases lost b r c d h = filter_there (is_referred bases r.table) l
     there : Contains lost r.key
     there = let a = Any-from_list_any (nat_eq r.key) lost h in subst (Contains lost) (sym (eqb-true r.key a.1 a.4)) (a.0, a.2, a.3)
 
--- they are keys of the table
+-- lost keys that are referred to are keys of the table
 pub referred_within : (bases : List BaseTable) (t : BaseTable) (lost : List ℕ) → all_refer bases ≡ true → IsBase bases t → list_all (λ key. nat_lt key (length t.keys)) (referred_keys bases t.place lost) ≡ true
 referred_within bases t lost refer base = all_from (λ key. nat_lt key (length t.keys)) (referred_keys bases t.place lost) (λ key c. within key (passes (is_referred bases t.place) lost key c))
   where

@@ -47,7 +47,7 @@ all_removed t (number ∷ numbers) = all_removed (removed t number) numbers
 -- ---- changes, and what else is found for them
 
 module _ (changes : Result (Vec Change Global) Fault) (r : Result Changed Fault) (same : IfOk r (λ changed. changes ≡ Ok changed.changes)) where
-  -- of the chosen rows
+  -- the changes replace the chosen rows
   pub replacements_kept : (s : Seen) (u : BoundUpdate) (on : Option ℕ) (numbers : List ℕ) → Chosen s u.target on numbers → IfOk changes (λ cs. AreReplacements numbers cs.items)
       → ((shown : Shown) → MeetsAs rows_replaced_in changes (rows_updated shown s u.assignments (base_of u.target) numbers))
       → IfOk r (λ changed. Replacements s u on changed.changes.items)
@@ -74,7 +74,7 @@ module _ (changes : Result (Vec Change Global) Fault) (r : Result Changed Fault)
         all = subst (λ (o : Result (Vec Change Global) Fault). IfOk o (λ cs. cs.items ≡ map Remove numbers)) same all;
       }
 
-  -- and what comes of them is what was meant
+  -- the changes that were made are what was meant
   pub changed_meets : (o : Outcome (List Numbered)) → MeetsAs rows_replaced_in changes o → IfErr r (λ f. (f ≡ fault.NoMemory) ⊎ (changes ≡ Err f)) → MeetsAs changed_in r o
   changed_meets o meant fails = of r same fails
     where

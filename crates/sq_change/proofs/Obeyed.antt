@@ -4,12 +4,14 @@ use Rattle.std.specs.List.{Contains, enumerate_from, list_all}
 use Rattle.std.proofs.lemmas.Bool.{and_from, and_parts, eqb-true}
 use Rattle.sq_store.specs.Change.{rows_put}
 use Rattle.sq_store.specs.Content.{Content, changed_by, table_at, with_table}
+use Rattle.sq_store.specs.Keys.{Keys}
 use Rattle.sq_store.specs.declared.change.Change.{Change}
 use Rattle.sq_store.specs.declared.table.Numbered.{Numbered}
 use Rattle.sq_store.specs.declared.table.Table.{Table}
-use Rattle.sq_bound.specs.Fits.{IsBase, all_refer, has_its_values, holds, not_nulls_hold}
+use Rattle.sq_bound.specs.Fits.{AreInDomains, IsBase, all_refer, has_its_values, holds, keys_of_bases, not_nulls_hold}
 use Rattle.sq_bound.specs.declared.names.BaseTable.{BaseTable}
 use Rattle.sq_change.specs.Constraints.{constraints_hold, references_met}
+use Rattle.sq_change.specs.Statement.{KeepsTables}
 use Rattle.sq_meaning.specs.declared.status.Status.{Status}
 use Rattle.sq_model.specs.Constraints.{demanded}
 use Rattle.sq_expression.specs.Fault.{Meets}
@@ -55,6 +57,10 @@ module _ (bases : List BaseTable) (before after : Content) (t : BaseTable) (lost
 
 pub not_nulls_of : (bases : List BaseTable) (content : Content) → constraints_hold bases content ≡ true → not_nulls_hold bases content ≡ true
 not_nulls_of bases content held = (and_parts (not_nulls_hold bases content) (references_met bases content) held).0
+
+pub keeps_tables : (bases : List BaseTable) (content : Content) (own_keys : List Keys) → holds bases content ≡ true → AreInDomains bases content → own_keys ≡ keys_of_bases bases
+    → constraints_hold bases content ≡ true → KeepsTables bases content own_keys
+keeps_tables bases content own_keys tables in_domains keys held = record { tables = tables; in_domains = in_domains; keys = keys; not_null = not_nulls_of bases content held }
 
 pub references_of : (bases : List BaseTable) (content : Content) → constraints_hold bases content ≡ true → references_met bases content ≡ true
 references_of bases content held = (and_parts (not_nulls_hold bases content) (references_met bases content) held).1

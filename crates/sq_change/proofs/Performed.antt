@@ -92,7 +92,7 @@ module _ (shown : Shown) (s : Seen) (bases : List BaseTable) (leaf : Leaf) (rows
         ap (λ (o : Outcome (Unit {0})). and_then o (λ _. and_then (keys_met leaf.table changed) (λ _. tail))) admitted
         ∙ ap (λ (o : Outcome (Unit {0})). and_then o (λ _. tail)) h
 
-    -- and then references decide
+    -- where keys are met, references decide
     pub references_end : (r : Result (Unit {0}) Fault) (after : Content) → keys_met leaf.table changed ≡ Ok tt
         → Meets r (demanded (references_met bases (with_table s.tables leaf.table.place changed)) status.IntegrityConstraintViolation)
         → (r ≡ Ok tt → after ≡ with_table s.tables leaf.table.place changed)

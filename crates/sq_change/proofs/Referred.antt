@@ -50,13 +50,13 @@ module _ (row : Row) (r : Reference) (found : Option Row) (is : found ≡ values
   referred_none h = ap (λ (b : Bool). one_unless b (asked_for r (in_columns row r.by_key))) (asks_none h)
 
   module _ (keys : List Keys) (content : Content) where
-    -- it is met where the row that is asked for is there
+    -- a reference is met where the row that it asks for is there
     pub met_where_there : (values : Row) → found ≡ Some values → is_met_in keys content r row ≡ is_row_there keys content (asked_for r values)
     met_where_there values h =
         ap (λ (b : Bool). b || is_row_there keys content (asked_for r (in_columns row r.by_key))) (asks values h).0
         ∙ ap (λ (v : Row). is_row_there keys content (asked_for r v)) (asks values h).1
 
-    -- and where none is asked for
+    -- a reference that asks for no row is met
     pub met_unasked : found ≡ None → is_met_in keys content r row ≡ true
     met_unasked h = ap (λ (b : Bool). b || is_row_there keys content (asked_for r (in_columns row r.by_key))) (asks_none h)
 
@@ -67,9 +67,9 @@ joined : {A : Type 0} (done next part rest left whole : List A) → next ≡ don
 joined {A} done next part rest left whole grown split so_far =
     ap (λ (xs : List A). xs ++ rest) grown ∙ append_assoc done part rest ∙ ap (λ (xs : List A). done ++ xs) (sym split) ∙ so_far
 
--- those of a row, reference by reference
+-- what the references of a row ask for, one after the other
 module _ (row : Row) (references : List Reference) (before : List Referenced) where
-  -- so many of the references gave theirs
+  -- the references before this one gave what they ask for
   abbrev pub ReferredTo : ℕ → List Referenced → Type 0
   ReferredTo i done = done ++ flat_map (referred row) (drop i references) ≡ before ++ flat_map (referred row) references
 
@@ -92,9 +92,9 @@ module _ (row : Row) (references : List Reference) (before : List Referenced) wh
   all_referred done i past so_far =
       sym (append-nil done) ∙ ap (λ (rs : List Reference). done ++ flat_map (referred row) rs) (sym (drop_of_length-le references past)) ∙ so_far
 
--- those of the rows that changes put in
+-- what the references of the rows ask for that changes put in
 module _ (references : List Reference) (changes : List Change) where
-  -- so many of the changes gave theirs
+  -- the changes before this one gave what their rows ask for
   abbrev pub PutTo : ℕ → List Referenced → Type 0
   PutTo i done = done ++ referred_by references (rows_put (drop i changes)) ≡ referred_by references (rows_put changes)
 

@@ -18,7 +18,7 @@ pub demanded_not : (o : Outcome Truth) (t : Truth) (e : Fault) → o ≡ Ok t �
 demanded_not o t fault.NoMemory has fails = tt
 demanded_not o t (fault.Status s) has fails = ap (λ (x : Outcome Truth). and_then (is_true x) is_or_violates) has ∙ fails
 
--- it has none
+-- a status in place of a truth is the outcome
 pub demanded_fails : (o : Outcome Truth) (e : Fault) → Meets {A = Truth} (Err e) o → Meets {A = Unit {0}} (Err e) (and_then (is_true o) is_or_violates)
 demanded_fails o fault.NoMemory h = tt
 demanded_fails o (fault.Status s) h = ap (λ (x : Outcome Truth). and_then (is_true x) is_or_violates) h

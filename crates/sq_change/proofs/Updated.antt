@@ -28,7 +28,7 @@ module _ (shown : Shown) (s : Seen) (row : Row) (a : BoundAssignment) where
   value_lacking fault.NoMemory h = tt
   value_lacking (fault.Status st) h = rw h refl
 
--- so many of the set clauses are performed, with these values
+-- the set clauses before this one are performed, with these values
 pub record SetSoFar (s : Seen) (assignments : List BoundAssignment) (row : Row) (i : ℕ) (updated : List Value) : Type 0 where
   pub given : List (ℕ × Value)
   pub is : updated ≡ with_values given row

@@ -32,7 +32,7 @@ numbers_with rows = map (λ found. found.0) rows.items
 abbrev pub new_rows_in : Vec Change Global → List (List Value)
 new_rows_in changes = rows_put changes.items
 
--- the rows have a value for each of so many columns
+-- each row has this many values
 abbrev pub are_wide : ℕ → List (List Value) → Bool
 are_wide columns rows = list_all (λ row. nat_eq (length row) columns) rows
 
@@ -42,11 +42,13 @@ AreRowsPut columns changes = AllByRecursion (IsRowIn columns) (rows_put changes)
 
 -- the conditions are well formed on each row that changes put in a table
 abbrev pub AreOnRowsPut : TableKinds → List Kind → List BoundCond → List Change → Type 0
-AreOnRowsPut columns parameters conditions changes = AllByRecursion (λ row. AllByRecursion (IsOnRow columns parameters row) conditions) (rows_put changes)
+AreOnRowsPut columns parameters conditions changes =
+    AllByRecursion (λ row. AllByRecursion (IsOnRow columns parameters row) conditions) (rows_put changes)
 
 -- each row that changes put in a table is there after all of them
 abbrev pub ArePutThere : Table → List Change → Type 0
-ArePutThere t changes = AllByRecursion (λ row. Any (λ r. r.row ≡ row) (changed_by t changes).rows) (rows_put changes)
+ArePutThere t changes =
+    AllByRecursion (λ row. Any (λ r. r.row ≡ row) (changed_by t changes).rows) (rows_put changes)
 
 -- only new rows
 abbrev pub is_insertion : Change → Bool
@@ -84,7 +86,8 @@ pub record Replacements (s : Seen) (u : BoundUpdate) (on : Option ℕ) (changes 
   pub numbers : List ℕ
   pub chosen : Chosen s u.target on numbers
   pub all : AreReplacements numbers changes
-  pub made : (shown : Shown) → rows_updated shown s u.assignments (base_of u.target) numbers ≡ Ok (rows_replaced changes)
+  pub made : (shown : Shown) → rows_updated shown s u.assignments (base_of u.target) numbers
+      ≡ Ok (rows_replaced changes)
 
 -- the removal of the rows under the numbers
 pub record Removals (s : Seen) (t : ChangeTarget) (on : Option ℕ) (changes : List Change) : Type 0 where

@@ -28,7 +28,8 @@ condition_met shown s row c = is_true (truth_on_row shown s.values s.user row c)
 
 -- each of them is, from inside out (11.19)
 abbrev pub check_option_met : Shown → Seen → Leaf → Row → Outcome (Unit {0})
-check_option_met shown s leaf row = all_satisfied (condition_met shown s row) (take leaf.demanded leaf.conditions)
+check_option_met shown s leaf row =
+    all_satisfied (condition_met shown s row) (take leaf.demanded leaf.conditions)
 
 -- no column is null that may not be (11.4)
 abbrev pub not_null_met : BaseTable → Row → Outcome (Unit {0})
@@ -47,15 +48,19 @@ row_met shown s t row = not_null_met t row >>= λ _. all_satisfied (check_met sh
 -- some referencing column is null, or a row of the other table has the same values in the referenced key
 abbrev pub is_met_in : List Keys → Content → Reference → Row → Bool
 is_met_in keys content r row =
-    has_null (in_columns row r.by_key) || is_some (with_key (table_at content r.table) (key_at keys r.table r.key) (in_columns row r.by_key))
+    has_null (in_columns row r.by_key)
+    || is_some (with_key (table_at content r.table) (key_at keys r.table r.key) (in_columns row r.by_key))
 
 -- every row of the table at a place meets its reference
 abbrev pub reference_met_in : List Keys → Content → ℕ → Reference → Bool
-reference_met_in keys content place r = list_all (λ n. is_met_in keys content r n.row) (table_at content place).rows
+reference_met_in keys content place r =
+    list_all (λ n. is_met_in keys content r n.row) (table_at content place).rows
 
 -- every row meets each reference of its table
 abbrev pub references_met : List BaseTable → Content → Bool
-references_met bases content = list_all (λ p. list_all (reference_met_in (keys_of_bases bases) content p.0) p.1.references) (enumerate_from 0 bases)
+references_met bases content =
+    list_all (λ p. list_all (reference_met_in (keys_of_bases bases) content p.0) p.1.references)
+    (enumerate_from 0 bases)
 
 -- ---- what holds of the tables between statements, besides keys
 
@@ -67,7 +72,9 @@ constraints_hold bases content = not_nulls_hold bases content && references_met 
 
 -- check options come before NOT NULL and CHECK, of all rows
 abbrev pub rows_met : Shown → Seen → Leaf → List Row → Outcome (Unit {0})
-rows_met shown s leaf rows = all_satisfied (check_option_met shown s leaf) rows >>= λ _. all_satisfied (row_met shown s leaf.table) rows
+rows_met shown s leaf rows =
+    all_satisfied (check_option_met shown s leaf) rows
+    >>= λ _. all_satisfied (row_met shown s leaf.table) rows
 
 -- no two rows have the same key (11.7)
 abbrev pub keys_met : BaseTable → Table → Outcome (Unit {0})
@@ -78,5 +85,6 @@ abbrev pub completed : Shown → Seen → List BaseTable → Leaf → List Row �
 completed shown s bases leaf rows changed = do
   _ ← rows_met shown s leaf rows
   _ ← keys_met leaf.table changed
-  _ ← demanded (references_met bases (with_table s.tables leaf.table.place changed)) status.IntegrityConstraintViolation
+  _ ← demanded (references_met bases (with_table s.tables leaf.table.place changed))
+      status.IntegrityConstraintViolation
   Ok (with_table s.tables leaf.table.place changed)

@@ -29,7 +29,8 @@ AreStored = AllZip (λ c v. IsInDomain c.domain v)
 
 -- the value is in the domain of a column at this position
 abbrev pub IsStoredFor : List ObjectColumn → ℕ → Value → Type 0
-IsStoredFor columns position v = (c : ObjectColumn) × Contains columns c × (c.position ≡ position) × IsInDomain c.domain v
+IsStoredFor columns position v =
+    (c : ObjectColumn) × Contains columns c × (c.position ≡ position) × IsInDomain c.domain v
 
 -- ---- what may be stored (9.2)
 
@@ -37,9 +38,10 @@ IsStoredFor columns position v = (c : ObjectColumn) × Contains columns c × (c.
 abbrev pub FitColumns : List ObjectColumn → List Value → Type 0
 FitColumns = AllZip (λ c v. FitsKind c.domain v)
 
--- where the expression has a value on the line, it is such a one for the domain, and else it ends with no 42000
+-- the value of an expression on a line is null or of the domain's kind, and where it ends with a status, that is not 42000
 abbrev pub IsStorable : Domain → BoundExpr → Line → List Value → Name → Type 0
-IsStorable domain e line parameters user = (r : Result Value Fault) → HasValueOn r e line parameters user → IfOk r (FitsKind domain) × IfErr r MayEnd
+IsStorable domain e line parameters user =
+    (r : Result Value Fault) → HasValueOn r e line parameters user → IfOk r (FitsKind domain) × IfErr r MayEnd
 
 -- an expression for each column, whose value may be stored there
 abbrev pub AreStorable : List ObjectColumn → List BoundExpr → List Value → Name → Type 0
@@ -47,13 +49,15 @@ AreStorable columns es parameters user = AllZip (λ c e. IsStorable c.domain e [
 
 -- the values of set clauses on a row may be stored in their columns
 abbrev pub AreAssignable : List BoundAssignment → Row → List Value → Name → Type 0
-AreAssignable assignments row parameters user = AllByRecursion (λ a. IsStorable a.column.domain a.value (row ∷ []) parameters user) assignments
+AreAssignable assignments row parameters user =
+    AllByRecursion (λ a. IsStorable a.column.domain a.value (row ∷ []) parameters user) assignments
 
 -- ---- statements
 
 -- the source of an insert statement is well formed where the parameters, which have these values, are of some kinds; its query
 -- may read these tables
-pub record MayGive (bases : List BaseTable) (queries : List BoundSpecification) (columns : TableKinds) (content : Content) (user : Name)
+pub record MayGive (bases : List BaseTable) (queries : List BoundSpecification) (columns : TableKinds)
+    (content : Content) (user : Name)
     (values : List Value) (objects : List ObjectColumn) (source : InsertedRows) : Type 0 where
   pub parameters : List Kind
   pub tables : TablePlace → Outcome (List Row)
@@ -62,7 +66,8 @@ pub record MayGive (bases : List BaseTable) (queries : List BoundSpecification) 
 
 -- a statement may find the rows that it changes: its conditions are well formed where the parameters, which have these values, are
 -- of some kinds, and may read these tables
-pub record MayChoose (bases : List BaseTable) (queries : List BoundSpecification) (columns : TableKinds) (content : Content) (user : Name)
+pub record MayChoose (bases : List BaseTable) (queries : List BoundSpecification) (columns : TableKinds)
+    (content : Content) (user : Name)
     (values : List Value) (t : ChangeTarget) : Type 0 where
   pub parameters : List Kind
   pub tables : TablePlace → Outcome (List Row)
@@ -70,7 +75,8 @@ pub record MayChoose (bases : List BaseTable) (queries : List BoundSpecification
   pub target : IsChangeTarget columns parameters t
 
 -- the set clauses of an update statement of the base table are well formed where the parameters are of some kinds
-pub record MayAssign (columns : TableKinds) (values : List Value) (table : BaseTable) (assignments : List BoundAssignment) : Type 0 where
+pub record MayAssign (columns : TableKinds) (values : List Value) (table : BaseTable)
+    (assignments : List BoundAssignment) : Type 0 where
   pub parameters : List Kind
   pub inputs : IsRowOf parameters values
   pub assigned : AllByRecursion (IsAssignment columns parameters table) assignments

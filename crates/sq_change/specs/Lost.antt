@@ -73,12 +73,16 @@ referred_keys bases table keys = filter (is_referred bases table) keys
 -- by a reference of the table at a place no row refers to the values, or a row has them still
 abbrev pub is_free : List Keys → Content → ℕ → Reference → LostKey → Bool
 is_free keys content place r l =
-    not (nat_eq l.key r.key) || (not (is_some (with_key (table_at content place) r.by_key l.values)) || is_some (with_key (table_at content r.table) (key_at keys r.table r.key) l.values))
+    not (nat_eq l.key r.key) || (not (is_some (with_key (table_at content place) r.by_key l.values))
+    || is_some (with_key (table_at content r.table) (key_at keys r.table r.key) l.values))
 
 -- all values of keys of a table
 abbrev pub free_by : List Keys → Content → ℕ → List LostKey → ℕ → Reference → Bool
-free_by keys content table lost place r = not (nat_eq r.table table) || list_all (is_free keys content place r) lost
+free_by keys content table lost place r =
+    not (nat_eq r.table table) || list_all (is_free keys content place r) lost
 
 -- by all references
 abbrev pub are_free : List BaseTable → Content → ℕ → List LostKey → Bool
-are_free bases content table lost = list_all (λ p. list_all (free_by (keys_of_bases bases) content table lost p.0) p.1.references) (enumerate_from 0 bases)
+are_free bases content table lost =
+    list_all (λ p. list_all (free_by (keys_of_bases bases) content table lost p.0) p.1.references)
+    (enumerate_from 0 bases)

@@ -64,7 +64,9 @@ Fails {A} f outcome = Meets {A = A} (Err f) outcome
 
 -- searched: the numbers of the rows for which each condition in turn is true, of which there has to be one (13.7, 13.10)
 abbrev pub numbers_found : Shown → Seen → Target → Outcome (List ℕ)
-numbers_found shown s t = stored_numbered s.tables t.base >>= numbers_chosen (is_true_of shown s.values s.user) (conditions_of t) >>= if_some
+numbers_found shown s t =
+    stored_numbered s.tables t.base >>= numbers_chosen (is_true_of shown s.values s.user) (conditions_of t)
+    >>= if_some
 
 -- positioned: the number of the row that the cursor is on (13.6, 13.9)
 abbrev pub number_given : Option ℕ → Outcome (List ℕ)
@@ -78,26 +80,32 @@ numbers_changed shown s (target.Positioned p) on = number_given on
 
 -- the value of an expression on a line, as a column of the domain stores it
 abbrev pub value_stored : Shown → Seen → Line → Domain → BoundExpr → Outcome Value
-value_stored shown s line d e = value (by_place shown) (expr_of [] e) (outside line s.values s.user) >>= assigned d
+value_stored shown s line d e =
+    value (by_place shown) (expr_of [] e) (outside line s.values s.user) >>= assigned d
 
 -- ---- UPDATE (13.9, 13.10)
 
 -- the values of set clauses and the positions of their columns; all read the row as it was
 abbrev pub value_set : Shown → Seen → Row → BoundAssignment → Outcome (ℕ × Value)
-value_set shown s row a = value_stored shown s (row ∷ []) a.column.domain a.value >>= λ v. Ok (a.column.position, v)
+value_set shown s row a =
+    value_stored shown s (row ∷ []) a.column.domain a.value >>= λ v. Ok (a.column.position, v)
 
 abbrev pub row_updated : Shown → Seen → List BoundAssignment → Row → Outcome Row
-row_updated shown s assignments row = each (value_set shown s row) assignments >>= λ given. Ok (with_values given row)
+row_updated shown s assignments row =
+    each (value_set shown s row) assignments >>= λ given. Ok (with_values given row)
 
 -- the row under a number, after the set clauses
 abbrev pub numbered_updated : Shown → Seen → List BoundAssignment → Numbered → Outcome Numbered
-numbered_updated shown s assignments r = row_updated shown s assignments r.row >>= λ row. Ok (record { number = r.number; row = row })
+numbered_updated shown s assignments r =
+    row_updated shown s assignments r.row >>= λ row. Ok (record { number = r.number; row = row })
 
 abbrev pub updated_under : Shown → Seen → List BoundAssignment → Table → ℕ → Outcome Numbered
-updated_under shown s assignments t number = well_formed (row_at t number) >>= numbered_updated shown s assignments
+updated_under shown s assignments t number =
+    well_formed (row_at t number) >>= numbered_updated shown s assignments
 
 abbrev pub rows_updated : Shown → Seen → List BoundAssignment → ℕ → List ℕ → Outcome (List Numbered)
-rows_updated shown s assignments place numbers = each (updated_under shown s assignments (table_at s.tables place)) numbers
+rows_updated shown s assignments place numbers =
+    each (updated_under shown s assignments (table_at s.tables place)) numbers
 
 -- ---- INSERT (13.8)
 
@@ -126,7 +134,8 @@ rows_given shown s columns (source.Query q) = rows_found shown s q >>= each (row
 
 -- the value that is given for the column at a position
 abbrev pub value_at : List ObjectColumn → Row → ℕ → Option Value
-value_at columns given place = option_and_then (slice_get given) (position (λ c. nat_eq c.position place) columns)
+value_at columns given place =
+    option_and_then (slice_get given) (position (λ c. nat_eq c.position place) columns)
 
 -- a column without a value gets its default (11.5); USER is the caller
 abbrev pub default_stored : Name → Domain → ColumnDefault → Outcome Value
@@ -145,7 +154,8 @@ abbrev pub row_completed : Name → BaseTable → List ObjectColumn → Row → 
 row_completed user t columns given = each (value_completed user columns given) (enumerate_from 0 t.columns)
 
 abbrev pub rows_made : Shown → Seen → BaseTable → List ObjectColumn → InsertedRows → Outcome (List Row)
-rows_made shown s t columns source = rows_given shown s columns source >>= each (row_completed s.user t columns)
+rows_made shown s t columns source =
+    rows_given shown s columns source >>= each (row_completed s.user t columns)
 
 -- new rows take the next numbers, up to the greatest (own rule)
 abbrev pub numbers_suffice : ℕ → Table → List Row → Bool
@@ -154,5 +164,6 @@ numbers_suffice row_numbers t rows = nat_le (t.next + length rows) (row_numbers 
 abbrev pub rows_inserted : Shown → Seen → ℕ → BoundInsert → Outcome (List Row)
 rows_inserted shown s row_numbers i = do
   rows ← rows_made shown s i.leaf.table i.columns i.source
-  _ ← demanded (numbers_suffice row_numbers (table_at s.tables i.leaf.table.place) rows) status.NoRowNumberLeft
+  _ ← demanded (numbers_suffice row_numbers (table_at s.tables i.leaf.table.place) rows)
+      status.NoRowNumberLeft
   Ok rows

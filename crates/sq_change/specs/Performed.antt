@@ -16,14 +16,18 @@ use Rattle.sq_change.specs.Statement.{update_made, with_replaced, with_rows, wit
 -- new rows stand behind those that were there (13.8)
 abbrev pub insert_outcome : Shown → Seen → List BaseTable → ℕ → BoundInsert → Outcome Content
 insert_outcome shown s bases row_numbers i =
-    rows_inserted shown s row_numbers i >>= λ rows. completed shown s bases i.leaf rows (with_rows (table_at s.tables i.leaf.table.place) rows)
+    rows_inserted shown s row_numbers i
+    >>= λ rows. completed shown s bases i.leaf rows (with_rows (table_at s.tables i.leaf.table.place) rows)
 
 -- the chosen rows have the values of the set clauses (13.9, 13.10)
 abbrev pub update_outcome : Shown → Seen → List BaseTable → BoundUpdate → Option ℕ → Outcome Content
 update_outcome shown s bases u on =
-    update_made shown s u on >>= λ rows. completed shown s bases (under u.target) (map (λ r. r.row) rows) (with_replaced (table_at s.tables (under u.target).table.place) rows)
+    update_made shown s u on >>= λ rows. completed shown s bases (under u.target) (map (λ r. r.row) rows)
+    (with_replaced (table_at s.tables (under u.target).table.place) rows)
 
 -- the chosen rows go (13.6, 13.7)
 abbrev pub delete_outcome : Shown → Seen → List BaseTable → ChangeTarget → Option ℕ → Outcome Content
 delete_outcome shown s bases t on =
-    numbers_changed shown s t on >>= λ numbers. completed shown s bases (under t) [] (without (table_at s.tables (under t).table.place) numbers)
+    numbers_changed shown s t on
+    >>= λ numbers. completed shown s bases (under t) []
+    (without (table_at s.tables (under t).table.place) numbers)

@@ -30,20 +30,23 @@ are_of_keys keys rows = list_all (is_of_key keys) rows
 
 -- ---- the rows that are referred to
 
--- the row that a reference of a row asks for: none where a referencing column is null
+-- the row that a reference of a row asks for, unless a referencing column is null
 abbrev pub referred : Row → Reference → List Referenced
-referred row r = if has_null (in_columns row r.by_key) then [] else record { table = r.table; key = r.key; values = in_columns row r.by_key } ∷ []
+referred row r =
+    if has_null (in_columns row r.by_key) then []
+    else record { table = r.table; key = r.key; values = in_columns row r.by_key } ∷ []
 
 -- the rows that rows ask for, one after the other
 abbrev pub referred_by : List Reference → List Row → List Referenced
 referred_by references rows = flat_map (λ row. flat_map (referred row) references) rows
 
--- the values of a row in some columns: none where one is null
+-- the values of a row in some columns, unless one is null
 abbrev pub values_in : Row → List ℕ → Option Row
 values_in row columns = if has_null (in_columns row columns) then None else Some (in_columns row columns)
 
 abbrev pub is_row_there : List Keys → Content → Referenced → Bool
-is_row_there keys content r = is_some (with_key (table_at content r.table) (key_at keys r.table r.key) r.values)
+is_row_there keys content r =
+    is_some (with_key (table_at content r.table) (key_at keys r.table r.key) r.values)
 
 abbrev pub are_rows_there : List Keys → Content → List Referenced → Bool
 are_rows_there keys content rows = list_all (is_row_there keys content) rows
@@ -54,16 +57,19 @@ are_rows_there keys content rows = list_all (is_row_there keys content) rows
 abbrev pub KeepsKeys : Keys → List ℕ → Table → Table → Type 0
 KeepsKeys keys lost before after =
     (key : ℕ) (columns : List ℕ) → slice_get keys key ≡ Some columns → list_any (nat_eq key) lost ≡ false
-    → (values : List Value) → is_some (with_key before columns values) ≡ true → is_some (with_key after columns values) ≡ true
+    → (values : List Value) → is_some (with_key before columns values) ≡ true
+    → is_some (with_key after columns values) ≡ true
 
 -- a set clause assigns one of the columns
 abbrev pub is_assigned : List ℕ → List BoundAssignment → Bool
-is_assigned columns assignments = list_any (λ a. list_any (λ c. nat_eq c a.column.position) columns) assignments
+is_assigned columns assignments =
+    list_any (λ a. list_any (λ c. nat_eq c a.column.position) columns) assignments
 
 -- each key with a column that a set clause assigns is one of these
 abbrev pub LosesAssigned : Keys → List BoundAssignment → List ℕ → Type 0
 LosesAssigned keys assignments lost =
-    (key : ℕ) (columns : List ℕ) → slice_get keys key ≡ Some columns → list_any (nat_eq key) lost ≡ false → is_assigned columns assignments ≡ false
+    (key : ℕ) (columns : List ℕ) → slice_get keys key ≡ Some columns → list_any (nat_eq key) lost ≡ false
+    → is_assigned columns assignments ≡ false
 
 -- all keys are among these
 abbrev pub LosesAll : Keys → List ℕ → Type 0

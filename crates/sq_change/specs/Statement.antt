@@ -1,11 +1,14 @@
 -- What INSERT, UPDATE and DELETE do to the tables where they are performed (ISO/IEC 9075:1992, 13.6 to 13.10). One base table changes, and
 -- no other. Performed says when they are.
-use Rattle.std.specs.Prelude.{⊤, IsSome, ◌≡◌, ℕ, List, Option, fold, Ok}
+use Rattle.std.specs.Prelude.{⊤, IsSome, ◌≡◌, ℕ, true, List, Option, fold, Ok}
 use Rattle.sq_value.specs.declared.value.Value.{Value}
 use Rattle.sq_store.specs.declared.table.Numbered.{Numbered}
 use Rattle.sq_store.specs.declared.table.Table.{Table}
-use Rattle.sq_store.specs.Content.{inserted, removed, replaced}
+use Rattle.sq_store.specs.Content.{Content, inserted, removed, replaced}
+use Rattle.sq_store.specs.Keys.{Keys}
 use Rattle.sq_meaning.specs.Status.{Outcome, ◌>>=◌}
+use Rattle.sq_bound.specs.Fits.{AreInDomains, holds, keys_of_bases, not_nulls_hold}
+use Rattle.sq_bound.specs.declared.names.BaseTable.{BaseTable}
 use Rattle.sq_bound.specs.declared.statement.BoundUpdate.{BoundUpdate}
 use Rattle.sq_bound.specs.declared.statement.ChangeTarget.{ChangeTarget}
 use Rattle.sq_bound.specs.declared.statement.ChangeTarget.TheVariants as target
@@ -15,6 +18,14 @@ use Rattle.sq_change.specs.Made.{Seen, Shown, numbers_changed, rows_updated}
 -- these are the rows of the tables and views that the statement sees
 abbrev pub IsShown : Seen → Shown → Type 0
 IsShown s shown = AreMeant s.views s.tables s.user shown
+
+-- What a store with these tables and keys keeps for the base tables: each has its rows, with values in the domains of its columns, its keys,
+-- and no null in a column with NOT NULL.
+pub record KeepsTables (bases : List BaseTable) (content : Content) (own_keys : List Keys) : Type 0 where
+  pub tables : holds bases content ≡ true
+  pub in_domains : AreInDomains bases content
+  pub keys : own_keys ≡ keys_of_bases bases
+  pub not_null : not_nulls_hold bases content ≡ true
 
 -- ---- INSERT (13.8)
 
@@ -46,7 +57,8 @@ with_replaced t rows = fold (λ u r. replaced u r.number r.row) t rows
 
 -- each of the chosen rows has the values of the set clauses
 abbrev pub update_made : Shown → Seen → BoundUpdate → Option ℕ → Outcome (List Numbered)
-update_made shown s u on = numbers_changed shown s u.target on >>= rows_updated shown s u.assignments (base_of u.target)
+update_made shown s u on =
+    numbers_changed shown s u.target on >>= rows_updated shown s u.assignments (base_of u.target)
 
 -- ---- DELETE (13.6, 13.7)
 

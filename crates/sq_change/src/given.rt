@@ -9,7 +9,7 @@ ghost use Rattle.sq_value.specs.declared.domain.Kind.{Kind};
 ghost use Rattle.sq_value.specs.declared.value.Value.{Value as AnyValue};
 ghost use Rattle.sq_meaning.specs.Status.{Outcome, each};
 ghost use Rattle.sq_meaning.specs.WellFormed.{AreRowsOf};
-ghost use Rattle.sq_bound.specs.Fits.{IsColumnOf, IsRowIn, keys_of_bases, not_nulls_hold};
+ghost use Rattle.sq_bound.specs.Fits.{IsColumnOf, IsRowIn};
 ghost use Rattle.sq_bound.specs.WellFormed.{IsSelect, kinds_of_select};
 ghost use Rattle.sq_bound.specs.declared.condition.TablePlace.{TablePlace};
 ghost use Rattle.sq_expression.specs.Fault.{Meets, MeetsAs, rows_in};
@@ -19,7 +19,7 @@ ghost use Rattle.sq_change.specs.Changed.{AreRowsPut, are_insertions, are_wide, 
 ghost use Rattle.sq_change.specs.Given.{AreStorable, AreStored, FitColumns, IsStoredFor, MayGive};
 ghost use Rattle.sq_change.specs.Made.{Shown, or_default, row_completed, row_stored, seen_by, value_at, values_given};
 ghost use Rattle.sq_change.specs.Made.{rows_found, rows_given, rows_made};
-ghost use Rattle.sq_change.specs.Statement.{IsShown};
+ghost use Rattle.sq_change.specs.Statement.{IsShown, KeepsTables};
 
 use crate::setting::Setting;
 use crate::storing::{assigned, stored_value};
@@ -44,11 +44,10 @@ pub(crate) fn new_rows<N: Names, S: Store>(
     requires columns { AllByRecursion (IsColumnOf table.now) insert.now.columns }
     requires given { MayGive (N.base_tables setting.now.names.now) (N.view_queries setting.now.names.now)
         (N.column_kinds setting.now.names.now)
-        (S.content_now setting.now.store.now) setting.now.user setting.now.parameters.now insert.now.columns insert.now.source }
-    requires keys { S.key_columns setting.now.store.now
-        ≡ keys_of_bases (N.base_tables setting.now.names.now) }
-    requires not_null { not_nulls_hold (N.base_tables setting.now.names.now)
-        (S.content_now setting.now.store.now) ≡ true }
+        (S.content_now setting.now.store.now) setting.now.user setting.now.parameters.now
+        insert.now.columns insert.now.source }
+    requires kept { KeepsTables (N.base_tables setting.now.names.now) (S.content_now setting.now.store.now)
+        (S.key_columns setting.now.store.now) }
     ensures made { let seen = seen_by (N.view_queries setting.now.names.now)
         (S.content_now setting.now.store.now) setting.now.user
         setting.now.parameters.now in (shown : Shown) → IsShown seen shown
@@ -72,11 +71,10 @@ fn given_rows<N: Names, S: Store>(
 ) -> Result<Vec<Row>, Fault>
     requires given { MayGive (N.base_tables setting.now.names.now) (N.view_queries setting.now.names.now)
         (N.column_kinds setting.now.names.now)
-        (S.content_now setting.now.store.now) setting.now.user setting.now.parameters.now insert.now.columns insert.now.source }
-    requires keys { S.key_columns setting.now.store.now
-        ≡ keys_of_bases (N.base_tables setting.now.names.now) }
-    requires not_null { not_nulls_hold (N.base_tables setting.now.names.now)
-        (S.content_now setting.now.store.now) ≡ true }
+        (S.content_now setting.now.store.now) setting.now.user setting.now.parameters.now
+        insert.now.columns insert.now.source }
+    requires kept { KeepsTables (N.base_tables setting.now.names.now) (S.content_now setting.now.store.now)
+        (S.key_columns setting.now.store.now) }
     ensures made { let seen = seen_by (N.view_queries setting.now.names.now)
         (S.content_now setting.now.store.now) setting.now.user
         setting.now.parameters.now in (shown : Shown) → IsShown seen shown
@@ -109,7 +107,8 @@ fn given_values<N: Names, S: Store>(
     requires { AreStorable columns.now values.now setting.now.parameters.now setting.now.user }
     ensures meant { (shown : Shown)
         → Meets result (values_given shown (seen_by (N.view_queries setting.now.names.now)
-        (S.content_now setting.now.store.now) setting.now.user setting.now.parameters.now) columns.now values.now) }
+        (S.content_now setting.now.store.now) setting.now.user setting.now.parameters.now)
+        columns.now values.now) }
     ensures stored { IfOk result (AreStored columns.now) }
     ensures right { IfErr result MayEnd }
 {
@@ -128,10 +127,8 @@ fn rows_found<N: Names, S: Store>(
 ) -> Result<Vec<Row>, Fault>
     requires finds { FindsSelect (N.base_tables setting.now.names.now)
         (N.column_kinds setting.now.names.now) query.now }
-    requires keys { S.key_columns setting.now.store.now
-        ≡ keys_of_bases (N.base_tables setting.now.names.now) }
-    requires not_null { not_nulls_hold (N.base_tables setting.now.names.now)
-        (S.content_now setting.now.store.now) ≡ true }
+    requires kept { KeepsTables (N.base_tables setting.now.names.now) (S.content_now setting.now.store.now)
+        (S.key_columns setting.now.store.now) }
     ensures found { let seen = seen_by (N.view_queries setting.now.names.now)
         (S.content_now setting.now.store.now) setting.now.user
         setting.now.parameters.now in (parameters : List Kind) (shown : Shown)

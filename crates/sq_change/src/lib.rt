@@ -18,4 +18,4 @@ mod storing;
 mod target;
 
 pub use statement::{delete, insert, update};
-pub use storing::{assigned, fits_kind};
+pub use storing::assigned;

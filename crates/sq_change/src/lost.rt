@@ -48,7 +48,7 @@ pub(crate) fn lost_by<N: Names, S: Store>(
     lost_in(setting, table, changes, keys.as_slice())
 }
 
-/// Those of a table's keys to which there are references.
+/// The lost keys of a table to which there are references.
 fn referred_keys<N: Names>(
     alloc: Global,
     names: &N,

@@ -1,10 +1,10 @@
 //! The three statements that change a table.
 
-ghost use Rattle.std.specs.Prelude.{◌≡◌, ◌⊎◌, ◌<◌, ◌≤◌, ◌+◌, ◌-◌, true, length, vec_len, Err, IfErr, IfOk, IfSome, IsSome, Ok, OnErr, OnOk};
+ghost use Rattle.std.specs.Prelude.{◌≡◌, ◌⊎◌, ◌<◌, ◌≤◌, ◌+◌, ◌-◌, true, length, vec_len, Err, IfErr, IfOk, IfSome, IsSome, Ok, OnErr};
 ghost use Rattle.std.specs.List.{AllByRecursion};
 ghost use Rattle.sq_store.specs.Change.{insert_count, rows_put};
 ghost use Rattle.sq_store.specs.Content.{row_at, table_at};
-ghost use Rattle.sq_bound.specs.Fits.{AreInDomains, IsBase, IsColumnOf, are_columns, holds, keys_of_bases, not_nulls_hold, under};
+ghost use Rattle.sq_bound.specs.Fits.{AreInDomains, IsBase, IsColumnOf, are_columns, holds, keys_of_bases, under};
 ghost use Rattle.sq_bound.specs.WellFormed.{IsLeaf};
 ghost use Rattle.sq_expression.specs.Fault.{MeetsAs};
 ghost use Rattle.sq_query.specs.Keyed.{IsKeyedChange};
@@ -14,7 +14,7 @@ ghost use Rattle.sq_change.specs.Constraints.{constraints_hold};
 ghost use Rattle.sq_change.specs.Given.{MayAssign, MayChoose, MayGive};
 ghost use Rattle.sq_change.specs.Made.{Fails, Shown, numbers_changed, rows_inserted, seen_by};
 ghost use Rattle.sq_change.specs.Performed.{delete_outcome, insert_outcome, update_outcome};
-ghost use Rattle.sq_change.specs.Statement.{IsGiven, IsShown, update_made};
+ghost use Rattle.sq_change.specs.Statement.{IsGiven, IsShown, KeepsTables, update_made};
 
 use crate::complete::{Changed, complete};
 use crate::given::new_rows;
@@ -80,11 +80,10 @@ fn inserted<N: Names, S: Store>(
     requires columns { AllByRecursion (IsColumnOf insert.now.leaf.table) insert.now.columns }
     requires given { MayGive (N.base_tables setting.now.names.now) (N.view_queries setting.now.names.now)
         (N.column_kinds setting.now.names.now)
-        (S.content_now setting.now.store.now) setting.now.user setting.now.parameters.now insert.now.columns insert.now.source }
-    requires keys { S.key_columns setting.now.store.now
-        ≡ keys_of_bases (N.base_tables setting.now.names.now) }
-    requires not_null { not_nulls_hold (N.base_tables setting.now.names.now)
-        (S.content_now setting.now.store.now) ≡ true }
+        (S.content_now setting.now.store.now) setting.now.user setting.now.parameters.now
+        insert.now.columns insert.now.source }
+    requires kept { KeepsTables (N.base_tables setting.now.names.now) (S.content_now setting.now.store.now)
+        (S.key_columns setting.now.store.now) }
     ensures made { let seen = seen_by (N.view_queries setting.now.names.now)
         (S.content_now setting.now.store.now) setting.now.user
         setting.now.parameters.now in (shown : Shown) → IsShown seen shown
@@ -183,17 +182,11 @@ fn updated<N: Names, S: Store>(
         (λ n. IsSome (row_at
         (table_at (S.content_now setting.now.store.now) (under update.now.target).table.place)
         n)) }
-    requires tables { holds (N.base_tables setting.now.names.now) (S.content_now setting.now.store.now)
-        ≡ true }
-    requires keys { S.key_columns setting.now.store.now
-        ≡ keys_of_bases (N.base_tables setting.now.names.now) }
-    requires not_null { not_nulls_hold (N.base_tables setting.now.names.now)
-        (S.content_now setting.now.store.now) ≡ true }
+    requires kept { KeepsTables (N.base_tables setting.now.names.now) (S.content_now setting.now.store.now)
+        (S.key_columns setting.now.store.now) }
     requires base { IsBase (N.base_tables setting.now.names.now) (under update.now.target).table }
     requires columns { are_columns (length (under update.now.target).table.columns) update.now.assignments
         ≡ true }
-    requires in_domains { AreInDomains (N.base_tables setting.now.names.now)
-        (S.content_now setting.now.store.now) }
     requires domains { AllByRecursion
         (λ a. IsColumnOf (under update.now.target).table a.column) update.now.assignments }
     requires assigned { MayAssign (N.column_kinds setting.now.names.now) setting.now.parameters.now
@@ -304,12 +297,8 @@ fn deleted<N: Names, S: Store>(
     requires may { MayChoose (N.base_tables setting.now.names.now) (N.view_queries setting.now.names.now)
         (N.column_kinds setting.now.names.now)
         (S.content_now setting.now.store.now) setting.now.user setting.now.parameters.now target.now }
-    requires tables { holds (N.base_tables setting.now.names.now) (S.content_now setting.now.store.now)
-        ≡ true }
-    requires keys { S.key_columns setting.now.store.now
-        ≡ keys_of_bases (N.base_tables setting.now.names.now) }
-    requires not_null { not_nulls_hold (N.base_tables setting.now.names.now)
-        (S.content_now setting.now.store.now) ≡ true }
+    requires kept { KeepsTables (N.base_tables setting.now.names.now) (S.content_now setting.now.store.now)
+        (S.key_columns setting.now.store.now) }
     requires base { IsBase (N.base_tables setting.now.names.now) (under target.now).table }
     ensures keeps { IfOk result
         (KeepsRest (under target.now).table (table_at (S.content_now setting.now.store.now)

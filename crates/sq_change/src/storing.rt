@@ -1,13 +1,13 @@
 //! Values as the columns of a base table store them (ISO/IEC 9075:1992, 9.2).
 
-ghost use Rattle.std.specs.Prelude.{◌≡◌, ◌≢◌, ◌↔◌, Err, IfErr, IfOk, IsTrue, false};
+ghost use Rattle.std.specs.Prelude.{◌≡◌, ◌≢◌, Err, IfErr, IfOk, false};
 ghost use Rattle.std.specs.Option.{option_copied};
 ghost use Rattle.sq_meaning.specs.Assignment as spec;
 ghost use Rattle.sq_expression.specs.Fault.{Meets};
 ghost use Rattle.sq_query.specs.MayRead.{MayEnd};
 ghost use Rattle.sq_expression.specs.declared.fault.Fault.TheVariants.{NoMemory};
 ghost use Rattle.sq_query.specs.Row.{line_of};
-ghost use Rattle.sq_value.specs.Domain.{FitsKind, IsDomain, IsInDomain, is_of_numbers};
+ghost use Rattle.sq_value.specs.Domain.{FitsKind, IsDomain, IsInDomain};
 ghost use Rattle.sq_value.specs.Memory.{takes_memory};
 ghost use Rattle.sq_change.specs.Given.{IsStorable};
 ghost use Rattle.sq_change.specs.Made.{Shown, seen_by, value_stored};
@@ -53,26 +53,5 @@ pub fn assigned(alloc: Global, domain: Domain, value: &Value) -> Result<Value, F
     match store(alloc, value, domain) {
         Ok(stored) => Ok(stored),
         Err(fault) => Err(Fault::from(fault)),
-    }
-}
-
-/// Whether the value is null, a number for a domain of numbers, or a text for one of texts.
-pub fn fits_kind(domain: Domain, value: &Value) -> bool
-    ensures { IsTrue result ↔ FitsKind domain value.now }
-{
-    match value {
-        Value::Null => true,
-        Value::Num(_) => is_of_numbers(domain),
-        Value::Chars(_) => !is_of_numbers(domain),
-    }
-}
-
-/// Whether the domain is one of numbers.
-fn is_of_numbers(domain: Domain) -> bool
-    ensures { result ≡ is_of_numbers domain }
-{
-    match domain {
-        Domain::Small | Domain::Int | Domain::Numeric(_, _) => true,
-        Domain::Char(_) | Domain::VarChar(_) => false,
     }
 }

@@ -4,7 +4,7 @@ ghost use Rattle.std.specs.Prelude.{◌≡◌, ◌<◌, ◌≤◌, ◌+◌, ◌�
 ghost use Rattle.std.specs.List.{AllByRecursion};
 ghost use Rattle.sq_store.specs.Change.{rows_put};
 ghost use Rattle.sq_store.specs.Content.{row_at, table_at};
-ghost use Rattle.sq_bound.specs.Fits.{AreInDomains, IsBase, IsColumnOf, IsRowIn, are_columns, holds, keys_of_bases, not_nulls_hold, under};
+ghost use Rattle.sq_bound.specs.Fits.{IsBase, IsColumnOf, IsRowIn, are_columns, under};
 ghost use Rattle.sq_bound.specs.declared.names.BaseTable.{BaseTable as AnyTable};
 ghost use Rattle.sq_query.specs.Keyed.{IsKeyedChange};
 ghost use Rattle.sq_query.specs.MayRead.{MayEnd};
@@ -15,7 +15,7 @@ ghost use Rattle.sq_change.specs.Changed.{AreReplacements, AreRowsPut, are_wide,
 ghost use Rattle.sq_change.specs.Given.{AreAssignable, MayAssign, MayChoose};
 ghost use Rattle.sq_change.specs.Made.{Shown, numbers_changed, row_updated, rows_updated, seen_by};
 ghost use Rattle.sq_change.specs.Reference.{LosesAll, LosesAssigned, is_assigned};
-ghost use Rattle.sq_change.specs.Statement.{IsGiven, IsShown};
+ghost use Rattle.sq_change.specs.Statement.{IsGiven, IsShown, KeepsTables};
 
 use crate::setting::Setting;
 use crate::storing::stored_value;
@@ -24,7 +24,7 @@ use sq_expression::{Failure, Fault};
 use sq_items::Items;
 use sq_query::{numbers_of, rows_of};
 use sq_store::{Change, Meter, Store};
-use sq_value::{Row, Value, copy_row};
+use sq_value::{Row, copy_row};
 use std::alloc::{AllocError, Global};
 
 /// What is under the table that a statement changes.
@@ -46,12 +46,8 @@ pub(crate) fn numbers_changed<N: Names, S: Store>(
     meter: &mut Meter,
 ) -> Result<Vec<u64>, Fault>
     requires given { IsGiven target.now on }
-    requires tables { holds (N.base_tables setting.now.names.now) (S.content_now setting.now.store.now)
-        ≡ true }
-    requires keys { S.key_columns setting.now.store.now
-        ≡ keys_of_bases (N.base_tables setting.now.names.now) }
-    requires not_null { not_nulls_hold (N.base_tables setting.now.names.now)
-        (S.content_now setting.now.store.now) ≡ true }
+    requires kept { KeepsTables (N.base_tables setting.now.names.now) (S.content_now setting.now.store.now)
+        (S.key_columns setting.now.store.now) }
     requires base { IsBase (N.base_tables setting.now.names.now) (under target.now).table }
     requires may { MayChoose (N.base_tables setting.now.names.now) (N.view_queries setting.now.names.now)
         (N.column_kinds setting.now.names.now)
@@ -114,12 +110,8 @@ pub(crate) fn rows_changed<'a, N: Names, S: Store>(
     requires there { IfSome on
         (λ n. IsSome (row_at
         (table_at (S.content_now setting.now.store.now) (under target.now).table.place) n)) }
-    requires tables { holds (N.base_tables setting.now.names.now) (S.content_now setting.now.store.now)
-        ≡ true }
-    requires keys { S.key_columns setting.now.store.now
-        ≡ keys_of_bases (N.base_tables setting.now.names.now) }
-    requires not_null { not_nulls_hold (N.base_tables setting.now.names.now)
-        (S.content_now setting.now.store.now) ≡ true }
+    requires kept { KeepsTables (N.base_tables setting.now.names.now) (S.content_now setting.now.store.now)
+        (S.key_columns setting.now.store.now) }
     requires base { IsBase (N.base_tables setting.now.names.now) (under target.now).table }
     requires may { MayChoose (N.base_tables setting.now.names.now) (N.view_queries setting.now.names.now)
         (N.column_kinds setting.now.names.now)
@@ -204,12 +196,10 @@ pub(crate) fn replaced<N: Names, S: Store>(
 ) -> Result<Vec<Change>, Fault>
     requires there { AreRowsThere (table_at (S.content_now setting.now.store.now) table.now.place)
         (map numbered_row rows.now) }
-    requires tables { holds (N.base_tables setting.now.names.now) (S.content_now setting.now.store.now)
-        ≡ true }
+    requires kept { KeepsTables (N.base_tables setting.now.names.now) (S.content_now setting.now.store.now)
+        (S.key_columns setting.now.store.now) }
     requires base { IsBase (N.base_tables setting.now.names.now) table.now }
     requires columns { are_columns (length table.now.columns) assignments.now ≡ true }
-    requires in_domains { AreInDomains (N.base_tables setting.now.names.now)
-        (S.content_now setting.now.store.now) }
     requires domains { AllByRecursion (λ a. IsColumnOf table.now a.column) assignments.now }
     requires assigned { MayAssign
         (N.column_kinds setting.now.names.now) setting.now.parameters.now table.now assignments.now }

@@ -38,7 +38,7 @@ means_same r o p same h right = meets_by r o p same (h (right_same o p same righ
 pub means_as_same : {A B : Type 0} (view : A → B) (r : Result A Fault) (o p : Outcome B) → o ≡ p → MeansAs view r p → MeansAs view r o
 means_as_same view r o p same h right = meets_as_same view r o p same (h (right_same o p same right))
 
--- of a step whose answer follows from that of its part
+-- a step means its outcome where its answer follows from that of its part
 pub means_by : {A B : Type 0} (r : Result A Fault) (s : Result B Fault) (o : Outcome B) (step : Outcome B → Outcome A)
     → (IsRight (step o) → IsRight o) → ((o : Outcome B) → Meets s o → Meets r (step o)) → Means s o → Means r (step o)
 means_by r s o step part follows h right = follows o (h (part right))

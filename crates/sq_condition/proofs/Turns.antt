@@ -1,4 +1,4 @@
--- AND and OR over a list: truths are joined one after another, and the first that decides is the outcome.
+-- Truths of a list joined by AND or OR, one after another: the first that decides is the outcome.
 use Rattle.std.proofs.Common.{◌≡◌, ◌≢◌, ℕ, ◌+◌, ◌<◌, ◌≤◌, List, [], ◌∷◌, length, drop, get_or, refl, sym, ◌∙◌, ap, Ok, Err}
 use Rattle.std.proofs.lemmas.List.{drop_more}
 use Rattle.std.proofs.Math.ListN.{drop_of_length-le}
@@ -130,7 +130,7 @@ module _ {X : Type 0} (join : Outcome Truth → Outcome Truth → Outcome Truth)
       ∙ laws.regroups so_far t (turns (drop (i + 1) xs))
       ∙ ap (λ (s : Truth). join (Ok s) (turns (drop (i + 1) xs))) (sym nexts)
 
-  -- it stops
+  -- the turn stops at a truth that decides
   pub turn_last : (so_far t next : Truth) (xs : List X) (i : ℕ) (x : X)
       → i < length xs → x ≡ get_or xs i x → whole ≡ join (Ok so_far) (turns (drop i xs))
       → test x ≡ Ok t → next ≡ joined so_far t → next ≡ last

@@ -27,6 +27,6 @@ test_on frame = test_of (map literal (group_values frame))
 abbrev pub predicate_on : Frame → Predicate → PlacedCond
 predicate_on frame = predicate_of (map literal (group_values frame))
 
--- of a condition without a subquery: its truth on the line, or the status that it ends with
+-- a condition without a subquery: the result is its truth on the line, or the status that it ends with
 abbrev pub HasTruth : Result Truth Fault → Frame → Context → PlacedCond → Type 0
 HasTruth result frame context c = has_subquery c ≡ false → Meets result (truth_in frame context c)

@@ -53,5 +53,6 @@ pub record IsTableIndex (context : Context) (at : TableColumn) (index : Index) :
 -- all that is kept is what the subqueries end with, and the rows of the tables
 pub record IsMemoOf (context : Context) (meant : Meant) (memo : Memo) : Type 0 where
   pub outcomes : (number : ℕ) → IfSome (get nat_eq memo.outcomes number) (λ kept. IsKept kept (meant number))
-  pub truths : (number : ℕ) → IfSome (get nat_eq memo.truths number) (λ truth. Means truth (existing (meant number)))
+  pub truths : (number : ℕ) → IfSome (get nat_eq memo.truths number)
+      (λ truth. Means truth (existing (meant number)))
   pub indexes : AllByRecursion (λ e. IsTableIndex context e.0 e.1) memo.indexes.entries

@@ -17,9 +17,12 @@ use Rattle.sq_expression.specs.declared.context.Context.{Context}
 use Rattle.sq_condition.specs.declared.memo.Memo.{Memo}
 
 -- A query specification with a number ends with what is meant by that number, whatever queries are around it; and all that is
--- noted of it is so.
+-- noted of it is true.
 pub record IsKnown (context : Context) (meant : Meant) (q : BoundSpecification) : Type 0 where
-  pub anywhere : IfSome (number_of q) (λ n. (scopes : List (Scope (Unit {0}))) → rows (reading context) (select_of q) (record { scopes = scopes; inputs = inputs_of context.parameters.now; user = context.user }) ≡ meant n)
+  pub anywhere : IfSome (number_of q)
+      (λ n. (scopes : List (Scope (Unit {0})))
+      → rows (reading context) (select_of q)
+      (record { scopes = scopes; inputs = inputs_of context.parameters.now; user = context.user }) ≡ meant n)
   pub noted : IsNoted q
 
 -- ---- the query specifications in a part are known, at any depth
@@ -39,10 +42,11 @@ KnowsPredicate context p meant = PredicateWith (IsKnown context meant) p
 abbrev pub KnowsGrouping : Context → Grouping → Meant → Type 0
 KnowsGrouping context g meant = GroupingWith (IsKnown context meant) g
 
--- the query specification itself is among them
+-- a query specification is known, and those in its parts
 abbrev pub KnowsQuery : Context → BoundSpecification → Meant → Type 0
 KnowsQuery context q meant = SelectWith (IsKnown context meant) q
 
 -- Where the query specifications are known, and all that is kept is what they end with, it still is, and P holds.
 abbrev pub Remembers : Context → (Meant → Type 0) → Memo → Memo → Type 0 → Type 0
-Remembers context Knows old new P = (meant : Meant) → Knows meant → IsMemoOf context meant old → IsMemoOf context meant new × P
+Remembers context Knows old new P =
+    (meant : Meant) → Knows meant → IsMemoOf context meant old → IsMemoOf context meant new × P

@@ -10,6 +10,7 @@ mod memo;
 mod own_test;
 mod predicate;
 mod product;
+mod ruled_out;
 mod specification;
 mod thinned;
 

@@ -16,7 +16,7 @@ use std::alloc::Global;
 /// The values of the first column of some rows.
 #[derive(Drop)]
 pub(crate) struct Members {
-    /// Those that are not null.
+    /// The values that are not null.
     keys: IndexSet<Key>,
     kinds: Kinds,
 }

@@ -100,7 +100,7 @@ same_behind m env functions a b (o ∷ os) same =
     ∙ ap (λ (r : Outcome Value). r >>= λ x. value m (expr_of functions o.operand) env >>= operation o.operator x) same
     ∙ sym (operation_value m env functions o b))
 
--- its status is the outcome
+-- a status of the first operand is the outcome
 stops_behind : (m : Reading (Placed TablePlace)) (env : Env (Unit {0})) (functions : List PlacedExpr) (a : PlacedExpr) (os : List Operation) (f : Fault)
     → Meets {A = Value} (Err f) (value m a env) → Meets {A = Value} (Err f) (value m (operations functions a os) env)
 stops_behind m env functions a os fault.NoMemory h = tt

@@ -40,7 +40,8 @@ group_values frame = (out-Frame frame).functions.now
 
 -- the value at a place, on which parameters and the user have no bearing
 abbrev pub column_meant : Frame → Place → Outcome Value
-column_meant frame place = value_at (record { scopes = scopes_of frame; inputs = []; user = [] }) (place_meant place)
+column_meant frame place =
+    value_at (record { scopes = scopes_of frame; inputs = []; user = [] }) (place_meant place)
 
 -- a column of a line
 abbrev pub value_in_line : Place → Line → Option Value
@@ -48,7 +49,8 @@ value_in_line place line = option_and_then (λ row. slice_get row place.column) 
 
 -- the value at a place whose depth is counted from here
 abbrev pub value_in_scopes : ℕ → Place → List (Scope (Unit {0})) → Option Value
-value_in_scopes depth place scopes = option_and_then (λ scope. value_in_line place scope.line) (slice_get scopes depth)
+value_in_scopes depth place scopes =
+    option_and_then (λ scope. value_in_line place scope.line) (slice_get scopes depth)
 
 -- parameters by position: no name of theirs is looked at
 abbrev pub inputs_of : List Value → List Input
@@ -59,7 +61,11 @@ abbrev pub on_line : Frame → BoundExpr → PlacedExpr
 on_line frame = expr_of (map literal (group_values frame))
 
 abbrev pub env_of : Frame → Context → Env (Unit {0})
-env_of frame context = record { scopes = scopes_of frame; inputs = inputs_of context.parameters.now; user = context.user }
+env_of frame context = record {
+  scopes = scopes_of frame;
+  inputs = inputs_of context.parameters.now;
+  user = context.user;
+}
 
 -- the rows of a view, or the status that its query ended with
 abbrev pub view_outcome : List Row → Option Failure → Outcome (List Row)
@@ -68,8 +74,11 @@ view_outcome rows (Some failure) = Err (status_of failure)
 
 -- the rows of the tables that the statement reads
 abbrev pub table_rows : Context → TablePlace → Outcome (List Row)
-table_rows context (Base place) = well_formed (option_map (λ t. lent t.rows.items) (find (λ t. nat_eq t.place place) context.bases.now))
-table_rows context (View place) = well_formed (find (λ t. nat_eq t.place place) context.views.now) >>= λ t. view_outcome t.rows.items t.failure
+table_rows context (Base place) =
+    well_formed (option_map (λ t. lent t.rows.items) (find (λ t. nat_eq t.place place) context.bases.now))
+table_rows context (View place) =
+    well_formed (find (λ t. nat_eq t.place place) context.views.now)
+    >>= λ t. view_outcome t.rows.items t.failure
 
 abbrev pub reading : Context → Reading (Placed TablePlace)
 reading context = by_place (table_rows context)

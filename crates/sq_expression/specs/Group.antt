@@ -19,11 +19,13 @@ use Rattle.sq_expression.specs.declared.frame.Group.{Group}
 
 -- the values of columns in a frame, on which parameters and the user have no bearing
 abbrev pub values_meant : Frame → List Place → Outcome Row
-values_meant frame columns = each (value_at (record { scopes = scopes_of frame; inputs = []; user = [] })) (map place_meant columns)
+values_meant frame columns =
+    each (value_at (record { scopes = scopes_of frame; inputs = []; user = [] })) (map place_meant columns)
 
 -- the values of the grouping columns in a line
 abbrev pub key_of_line : List Place → Option (Bor Frame) → Context → Line → Outcome Row
-key_of_line columns outer context line = grouping_values (reading context) (map place_meant columns) (line_env line outer context)
+key_of_line columns outer context line =
+    grouping_values (reading context) (map place_meant columns) (line_env line outer context)
 
 -- a line with its key
 abbrev pub keyed_line : List Place → Option (Bor Frame) → Context → Line → Outcome (Row × Line)
@@ -31,7 +33,8 @@ keyed_line columns outer context line = key_of_line columns outer context line >
 
 -- the lines by their keys
 abbrev pub classes_of : List Place → Option (Bor Frame) → Context → List Line → Outcome (List (List Line))
-classes_of columns outer context lines = each (keyed_line columns outer context) lines >>= λ keyed. Ok (grouped keyed)
+classes_of columns outer context lines =
+    each (keyed_line columns outer context) lines >>= λ keyed. Ok (grouped keyed)
 
 abbrev pub lines_of_list : Vec (Bor (List (Bor Row))) Global → List Line
 lines_of_list list = lines_lent list.items
@@ -40,12 +43,17 @@ abbrev pub line_lists : ByKey (Bor (List (Bor Row))) → List (List Line)
 line_lists classes = map lines_of_list classes.lists.items
 
 -- what the clauses behind GROUP BY see of a group: its first line, and the values of its set functions
-abbrev pub seen_of_group : List PlacedExpr → Option (Bor Frame) → Context → List Line → Outcome (Line × List Value)
-seen_of_group calls outer context group = each (λ call. value (reading context) call (group_env group outer context)) calls >>= λ values. Ok (first_line group, values)
+abbrev pub seen_of_group : List PlacedExpr → Option (Bor Frame) → Context → List Line
+    → Outcome (Line × List Value)
+seen_of_group calls outer context group =
+    each (λ call. value (reading context) call (group_env group outer context)) calls
+    >>= λ values. Ok (first_line group, values)
 
-abbrev pub seen_of_groups : List Place → List PlacedExpr → Option (Bor Frame) → Context → List Line → Outcome (List (Line × List Value))
+abbrev pub seen_of_groups : List Place → List PlacedExpr → Option (Bor Frame) → Context → List Line
+    → Outcome (List (Line × List Value))
 seen_of_groups columns calls outer context lines =
-    meaning.groups_by (reading context) (map place_meant columns) [] lines (env_around outer context) >>= each (seen_of_group calls outer context)
+    meaning.groups_by (reading context) (map place_meant columns) [] lines (env_around outer context)
+    >>= each (seen_of_group calls outer context)
 
 abbrev pub rows_of_line : Vec (Bor Row) Global → Line
 rows_of_line rows = lent rows.items

@@ -16,9 +16,10 @@ use Rattle.sq_expression.specs.declared.frame.Frame.{Frame}
 
 -- the values of a select list, where the set functions have these values
 abbrev pub row_shown : (functions : List Value) → List BoundExpr → Env (Unit {0}) → Context → Outcome Row
-row_shown functions list env context = listed_values (reading context) (expressions (map (expr_of (map literal functions)) list)) env
+row_shown functions list env context =
+    listed_values (reading context) (expressions (map (expr_of (map literal functions)) list)) env
 
--- of a group, by its first line and the values of its set functions
+-- the values of a select list over a group, which has a first line and the values of its set functions
 abbrev pub row_seen : List BoundExpr → Option (Bor Frame) → Context → Line × List Value → Outcome Row
 row_seen list outer context group = row_shown group.1 list (line_env group.0 outer context) context
 

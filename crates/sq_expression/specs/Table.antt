@@ -17,4 +17,5 @@ unless_failed view None = Ok view
 unless_failed view (Some failure) = Err (status_of failure)
 
 abbrev pub view_there : Context → ℕ → Outcome ViewRows
-view_there context place = well_formed (find (λ t. nat_eq t.place place) context.views.now) >>= λ t. unless_failed t t.failure
+view_there context place =
+    well_formed (find (λ t. nat_eq t.place place) context.views.now) >>= λ t. unless_failed t t.failure

@@ -238,7 +238,7 @@ pub(crate) fn row_of(
     Ok(row)
 }
 
-/// A row without values, with room for so many.
+/// A row without values, with room for `count` of them.
 fn row_with_room(alloc: Global, count: usize) -> Result<Row, AllocError>
     ensures { IfOk result (λ row. row ≡ []) }
 {

@@ -17,8 +17,8 @@ pub enum Fault {
     NoMemory,
 }
 
-/// What a statement ends with that has no answer: no data, or an exception (ISO/IEC 9075:1992, 22.1). Success and a
-/// warning are none.
+/// How a statement ends that has no answer: no data, or an exception (ISO/IEC 9075:1992, 22.1), but neither success nor
+/// a warning.
 #[derive(Clone, Copy, Debug, PartialEq, Eq)]
 pub enum Failure {
     NoData,
@@ -37,7 +37,7 @@ pub enum Failure {
 }
 
 impl Failure {
-    /// Its status.
+    /// The status of a failure.
     pub fn status(self) -> Status
         ensures { result ≡ status_of self }
     {

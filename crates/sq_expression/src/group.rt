@@ -117,7 +117,7 @@ fn group_of<'a>(
     Ok(Group { line, functions })
 }
 
-/// The first of these lines, and an empty one where there is none.
+/// The first of these lines, or an empty line without one.
 fn first_line<'a>(alloc: Global, lines: &[&[&'a Row]]) -> Result<Vec<&'a Row>, Fault>
     ensures { MeetsAs rows_of_line result (Ok (meaning.first_line (lines_lent lines.now))) }
 {

@@ -54,7 +54,7 @@ impl Whole {
         }
     }
 
-    /// The same number as a value.
+    /// A whole number as a value.
     pub(crate) fn value(self) -> Value
         ensures { result ≡ whole self }
     {

@@ -37,6 +37,7 @@ use Rattle.sq_bound.specs.declared.condition.BoundSpecification.{BoundSpecificat
 use Rattle.sq_bound.specs.declared.condition.Grouping.{Grouping}
 use Rattle.sq_bound.specs.declared.condition.TablePlace.{TablePlace}
 use Rattle.sq_bound.specs.declared.condition.TablePlace.TheVariants.{Base, View}
+use Rattle.sq_query.specs.Inner.{ReadsAround, around_tables}
 use Rattle.sq_query.specs.Needed.{ReadsCond, ReadsConds, ReadsClause, ReadsInside, ReadsSelect, IsNeeded, AreKnown, NeedsMore, NeedsNone, places_in, with_table, cond_tables, conds_tables, clause_tables, inside_tables, select_tables, specification_tables, specifications_tables, Adds}
 use Rattle.sq_query.specs.declared.needed.Needed.{Needed}
 
@@ -106,7 +107,7 @@ one_old P places (View q) (View p) old new h = any_old places.1 p q (list_any (i
 
 -- ---- several tables
 
--- where there are none, nothing is
+-- no table is added where there is none
 pub none_added : (before after : Needed) (ts : List TablePlace) → NeedsNone before → ts ≡ [] → Adds before ts after → NeedsNone after
 none_added before after ts none is adds =
     let same : places_in after ≡ places_in before = adds ∙ ap (fold with_table (places_in before)) is in
@@ -197,7 +198,7 @@ module _ (P : TablePlace → Type 0) where
           clause_read having (all_right P (clause_tables filter) (clause_tables having) later),
         )
 
-  -- the same of the subqueries alone
+  -- P holds of each table in the list of those in the subqueries
   inside_listed : (q : PlacedSelect) → ReadsInside P q → AllByRecursion P (inside_tables q)
   inside_listed (select distinct list from filter by having) h = all_joined P (clause_tables filter) (clause_tables having) (clause_listed filter h.0) (clause_listed having h.1)
 
@@ -235,6 +236,14 @@ module _ (before after : Needed) where
 
   pub inside_needed : (q : PlacedSelect) → Adds before (inside_tables q) after → ReadsInside (IsNeeded after) q
   inside_needed q adds = inside_read (IsNeeded after) q (own before after (inside_tables q) adds)
+
+  pub conds_needed : (cs : Conds (Placed TablePlace)) → Adds before (conds_tables cs) after → ReadsConds (IsNeeded after) cs
+  conds_needed cs adds = conds_read (IsNeeded after) cs (own before after (conds_tables cs) adds)
+
+  pub around_needed : (q : PlacedSelect) → Adds before (around_tables q) after → ReadsAround (IsNeeded after) q
+  around_needed (select distinct list from filter by having) adds =
+      let all = own before after (from ++ clause_tables having) adds in
+      (all_left (IsNeeded after) from (clause_tables having) all, clause_read (IsNeeded after) having (all_right (IsNeeded after) from (clause_tables having) all))
 
   pub cond_needed : (c : PlacedCond) → Adds before (cond_tables c) after → ReadsCond (IsNeeded after) c
   cond_needed c adds = cond_read (IsNeeded after) c (own before after (cond_tables c) adds)

@@ -55,12 +55,12 @@ pub never_ends : {A B : Type 0} (view : A → B) (r : Result A Fault) (P : B →
 never_ends view (Ok a) P o h is = tt
 never_ends {A} view (Err f) P o h is = λ e. subst (Answers P) (subst (λ (g : Fault). MeetsAs {A = A} view (Err g) o) e is) h
 
--- what is answered but for want of memory has any outcome where there is none
+-- a refusal of memory, the only fault of an answered call, meets any outcome
 pub no_answer : (A : Type 0) {B C : Type 0} (view : B → C) (f : Fault) (o : Outcome C) → IsAnswered {A = A} (Err f) → MeetsAs {A = B} view (Err f) o
 no_answer A view fault.NoMemory o h = tt
 no_answer A view (fault.Status s) o h = absurd h
 
--- the same of an answer itself
+-- a refusal of memory meets any outcome of the value itself
 pub fails_so : (A : Type 0) {B : Type 0} (f : Fault) (o : Outcome B) → IsAnswered {A = A} (Err f) → Meets {A = B} (Err f) o
 fails_so A fault.NoMemory o h = tt
 fails_so A (fault.Status s) o h = absurd h

@@ -42,7 +42,7 @@ use Rattle.sq_query.specs.Row.{outside}
 use Rattle.sq_query.proofs.AnyTables.{truth_over, value_over}
 use Rattle.sq_query.proofs.KeyTests.{column_is}
 use Rattle.sq_query.proofs.KeyedRows.{inputs_are}
-use Rattle.sq_query.proofs.LineValues.{same_on_line}
+use Rattle.sq_query.proofs.LineValues.{same_anywhere}
 use Rattle.sq_bound.specs.Fits.{lacks_value}
 use Rattle.sq_bound.specs.NotNull.{is_not_null}
 use Rattle.sq_bound.specs.declared.names.BaseColumn.{BaseColumn}
@@ -75,7 +75,7 @@ differ (kinds.Vary n) (kinds.Num s) (Chars t) (Num b) goes h g x_is y_is lacks =
 differ (kinds.Vary n) (kinds.Chars m) (Chars t) (Num b) goes h g x_is y_is lacks = absurd g
 differ (kinds.Vary n) (kinds.Vary m) (Chars t) (Num b) goes h g x_is y_is lacks = absurd g
 
--- the same of what two outcomes hold, by the kinds that are known beforehand
+-- values that differ are compared as unequal, by kinds that are known beforehand
 pub outcomes_differ : (ok : Outcome Kind) (ol : Outcome Kind) (o : Outcome Value) (y : Value) → Has (λ k. Has (λ l. IsTrue (is_comparable k l)) ol) ok → Fits IsOfKind ok o → Fits IsOfKind ol (Ok y)
     → HasValue (and_then o (λ x. Ok (comparison Equal x y)))
     → ((x : Value) → o ≡ Ok x → (is_null x ≡ false) × (is_same x y ≡ false)) → is_null y ≡ false → and_then o (λ x. Ok (comparison Equal x y)) ≡ Ok False
@@ -117,7 +117,7 @@ abbrev pub all_also : {A : Type 0} → (A → Outcome Truth) → List A → Outc
 all_also test [] = Ok True
 all_also test (x ∷ xs) = and_also (test x) (all_also test xs)
 
--- one of the first is false, and each of them has a truth
+-- AND is false where one of the first tests is, and each of them has a truth
 pub first_false : {A : Type 0} (test : A → Outcome Truth) (n : ℕ) (xs : List A) (k : ℕ) (x : A) → AllByRecursion (λ y. HasValue (test y)) (take n xs) → k < length (take n xs) → slice_index_or (take n xs) k x ≡ x → test x ≡ Ok False
     → all_also test xs ≡ Ok False
 first_false test zero xs k x all within at e = absurd (omega arith)
@@ -183,7 +183,7 @@ module _ (tables : TablePlace → Outcome (List Row)) (columns : TableKinds) (pa
       → truth (by_place tables) (compare Equal (column (record { depth = zero; item = item; column = n })) e) here ≡ Ok False
   test_false item n e v quiet well is v_is column_not lacks =
       let at : Outcome Value = value_at here (record { depth = zero; item = item; column = n }) in
-      let known_value : value (by_place tables) e here ≡ Ok v = same_on_line tables values caller (row ∷ []) e v is in
+      let known_value : value (by_place tables) e here ≡ Ok v = same_anywhere tables values caller [] (row ∷ []) e v is in
       let step : truth (by_place tables) (compare Equal (column (record { depth = zero; item = item; column = n })) e) here ≡ and_then at (λ x. Ok (comparison Equal x v)) =
       ap (λ (o : Outcome Value). and_then at (λ x. and_then o (λ y. Ok (comparison Equal x y)))) known_value in
       let agrees = places_agree no_tables columns parameters (λ t. none_fit (columns t)) in

@@ -88,7 +88,7 @@ module _ (key : List ℕ) (tests : List BoundTest) (starts : start_with_key key 
   pub firsts_name : list_all (names_one_of key) (map (test_of []) (take (length key) tests)) ≡ true
   firsts_name = ap (list_all (names_one_of key)) (sym (take-map (test_of []) (length key) tests)) ∙ both_right enough naming (both_left (enough && naming) all_named starts)
 
-  -- and each column of the key is named by one of them
+  -- each column of the key is named by one of the first tests
   pub columns_named : list_all (λ n. list_any (names_column n) (map (test_of []) (take (length key) tests))) key ≡ true
   columns_named =
       ap (λ (first : List PlacedCond). list_all (λ n. list_any (names_column n) first) key) (sym (take-map (test_of []) (length key) tests))
@@ -118,7 +118,7 @@ named_by own parameters user columns tests values found named r all values_are =
       (subst (λ (ts : List BoundTest). AllZip (IsComparedWith ts parameters user) columns values) r.firsts all);
 }
 
--- so a condition does by a key of a base table
+-- a condition that names a row by the columns of a key does so by a key of the base table
 pub key_on : (place : ℕ) (own : BoundCond) (content : Content) (keys : List Keys) (parameters : List Value) (user : Name) (key : ℕ) (columns : List ℕ) (r : Result (Option KnownKey) Fault) → place < length content
     → key < length (keys_at keys place) → columns ≡ key_at keys place key → IfOk r (λ found. IfSome found (λ known. (known.key ≡ key) × IsNamedBy columns own parameters user known.values))
     → IfOk r (λ found. IfSome found (λ known. (known.key ≡ key) × IsKeyOn place own content keys parameters user known))
@@ -133,14 +133,14 @@ key_on place own content keys parameters user key columns (Ok (Some known)) ther
   },
 )
 
--- so it is of the key that is noted for a target
+-- a key by which a target's own condition names a row is one of the target where it is noted
 pub noted_key : (t : Target) (own : BoundCond) (content : Content) (keys : List Keys) (parameters : List Value) (user : Name) (key : ℕ) (r : Result (Option KnownKey) Fault) → t.condition ≡ Some own → t.key ≡ Some key
     → IfOk r (λ found. IfSome found (λ known. (known.key ≡ key) × IsKeyOn t.base own content keys parameters user known)) → IfOk r (λ found. IfSome found (IsKeyOf t content keys parameters user))
 noted_key t own content keys parameters user key (Err e) is_own is h = tt
 noted_key t own content keys parameters user key (Ok None) is_own is h = tt
 noted_key t own content keys parameters user key (Ok (Some known)) is_own is h = record { own = own; is_own = is_own; is_key = is ∙ ap Some (sym h.0); on = h.1 }
 
--- and of the shortest by which a condition names a row
+-- a condition names a row by the shortest such key
 pub shortest_names : (keys : Keys) (own : BoundCond) (key : ℕ) (found : Option ℕ) → IsShortestKey keys own found → found ≡ Some key
     → (key < length keys) × (names_key (slice_index_or keys key []) (out-BoundCond own).terms ≡ true)
 shortest_names keys own key None h is = cc
@@ -149,7 +149,7 @@ shortest_names keys own key (Some k) h is =
     subst (λ (n : ℕ). (n < length keys) × (names_key (slice_index_or keys n []) (out-BoundCond own).terms ≡ true)) same
     (slice_get_within keys k h.0 h.1, ap (λ (columns : List ℕ). names_key columns (out-BoundCond own).terms) (get_or_from_slice_get keys k h.0 [] h.1) ∙ h.2)
 
--- of one key alone it is this one
+-- the shortest of one key alone is this one
 pub only_named : (columns : List ℕ) (own : BoundCond) (key : ℕ) (found : Option ℕ) → IsShortestKey (columns ∷ []) own found → found ≡ Some key → names_key columns (out-BoundCond own).terms ≡ true
 only_named columns own key found h is = by key (shortest_names (columns ∷ []) own key found h is)
   where

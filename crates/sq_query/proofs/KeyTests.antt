@@ -42,7 +42,7 @@ zip_more {A} {B} R xs i d ys next y within all last grown =
 pub zip_all : {A B : Type 0} (R : A → B → Type 0) (xs : List A) (i : ℕ) (ys : List B) → length xs ≤ i → AllZip R (take i xs) ys → AllZip R xs ys
 zip_all {A} R xs i ys past all = subst (λ (l : List A). AllZip R l ys) (take_all i xs past) all
 
--- what is so of all of them is so at an index
+-- a test that all elements pass is passed at an index
 pub test_at : {A : Type 0} (test : A → Bool) (xs : List A) (k : ℕ) (d : A) → list_all test xs ≡ true → k < length xs → test (slice_index_or xs k d) ≡ true
 test_at test [] k d h within = absurd (omega arith)
 test_at test (x ∷ xs) zero d h within = both_left (test x) (list_all test xs) h

@@ -83,7 +83,7 @@ module _ (columns : TableKinds) (parameters : List Kind) where
       by None h e = cc
       by (Some d) h e = let same : d ≡ own = cc in subst (IsCond columns parameters (of_base_at t.leaf.table.place) []) same h
 
-  -- so it stands on the rows of the base table
+  -- a target's own condition stands on the rows of the base table
   pub own_stands : (t : Target) (own : BoundCond) → IsTarget columns parameters t → t.condition ≡ Some own → StandsOn columns parameters (Base t.leaf.table.place) own
   own_stands t own well is rows_of =
       let c = own_well t own well is in
@@ -103,7 +103,7 @@ pub none_among : (key : List ℕ) → among key None ≡ false
 none_among [] = refl
 none_among (n ∷ key) = none_among key
 
--- is a literal or a parameter
+-- what a test of a key compares a column with is a literal or a parameter
 constant_in : (key : List ℕ) (n item : ℕ) (x : PlacedExpr) → names_one_of key (compare Equal (column (record { depth = 0; item = item; column = n })) x) ≡ true → is_constant x ≡ true
 constant_in key n item x h = by (is_constant x) refl h
   where

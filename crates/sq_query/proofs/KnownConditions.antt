@@ -51,7 +51,7 @@ use Rattle.sq_query.proofs.ReadAs.{cond_read_as}
 use Rattle.sq_query.proofs.ReadRows.{truth_answers}
 use Rattle.sq_query.proofs.SameTables.{same_truth}
 use Rattle.sq_query.proofs.TablesMeant.{known_stored}
-use Rattle.sq_query.proofs.Walk.{there_within}
+use Rattle.sq_query.proofs.WalkedRows.{there_within}
 
 -- ---- condition after condition
 
@@ -74,7 +74,7 @@ module _ (columns : TableKinds) (parameters : List Kind) (place : ℕ) where
   abbrev IsOnBase : BoundCond → Type 0
   IsOnBase = IsCond columns parameters (of_base_at place) []
 
-  -- their subqueries are known
+  -- the subqueries of conditions on a base table are known
   pub all_known_in : (context : Context) (cs : List BoundCond) → AllByRecursion IsOnBase cs → AreKnownIn context cs
   all_known_in context [] well = tt
   all_known_in context (c ∷ cs) well = (known_cond_of context c well.0.notes well.0.numbers, all_known_in context cs well.1)
@@ -83,7 +83,7 @@ module _ (columns : TableKinds) (parameters : List Kind) (place : ℕ) where
 abbrev pub ReadsIn : Needed → BoundCond → Type 0
 ReadsIn needed c = (functions : List PlacedExpr) → ReadsCond (IsNeeded needed) (cond_of functions c)
 
--- so it is of each, after the tables of one more were added
+-- the tables of each condition are needed after those of one more were added
 pub reads_more : (before after : Needed) (xs : List (Bor BoundCond)) (i : ℕ) (b : Bor BoundCond) → ((functions : List PlacedExpr) → Adds before (cond_tables (cond_of functions b.now)) after)
     → i < length xs → b ≡ get_or xs i b → AllByRecursion (ReadsIn before) (map (λ (d : Bor BoundCond). d.now) (take i xs)) → AllByRecursion (ReadsIn after) (map (λ (d : Bor BoundCond). d.now) (take (i + 1) xs))
 reads_more before after xs i b adds within is so_far =
@@ -98,7 +98,7 @@ reads_more before after xs i b adds within is so_far =
 pub all_read : (needed : Needed) (xs : List (Bor BoundCond)) (i : ℕ) → length xs ≤ i → AllByRecursion (ReadsIn needed) (map (λ (d : Bor BoundCond). d.now) (take i xs)) → AllByRecursion (ReadsIn needed) (map (λ (d : Bor BoundCond). d.now) xs)
 all_read needed xs i past = subst (λ (ys : List (Bor BoundCond)). AllByRecursion (ReadsIn needed) (map (λ (d : Bor BoundCond). d.now) ys)) (take_all i xs past)
 
--- they read the tables as they are meant
+-- conditions read the tables as they are meant
 pub all_conds_read_as : {E : Type 0} (r : Result Needed E) (content : Content) (read : Tables) → ((places : List ℕ) → IfOk r (NeedsBases places) → each (stored_base content) places ≡ Ok (bases_of read))
     → (context : Context) → context.bases.now ≡ read.bases.items → context.views.now ≡ read.views.items → (tables : TablePlace → Outcome (List Row)) → IfOk r (λ n. ReadsAsMeant n (rows_read read) tables)
     → (cs : List BoundCond) → IfOk r (λ n. AllByRecursion (ReadsIn n) cs)
@@ -175,7 +175,7 @@ pub ends_so : {A : Type 0} (r : Result A Fault) (e : Fault) → IsErrAnd r (λ g
 ends_so (Ok x) e is may = tt
 ends_so (Err g) e is may = subst MayEnd (sym is) may
 
--- want of memory is one
+-- a refusal of memory may end anything
 memory_may : (e : Fault) → e ≡ fault.NoMemory → MayEnd e
 memory_may e is other = absurd cc
 

@@ -62,7 +62,7 @@ known_if (Err e) P Q f h = tt
 pub counted_at_most : (old new : ℕ) → new ≡ counted old → new ≤ old + 1
 counted_at_most old new h = subst (λ m. m ≤ old + 1) (sym h) (min-le_left (old + 1) (2 ^ 64 - 1))
 
--- or that may be
+-- at most one row is counted where one may be found
 pub one_at_most : (found : Bool) (old new : ℕ) → new ≡ (if found then counted old else old) → new ≤ old + 1
 one_at_most true old new h = counted_at_most old new h
 one_at_most false old new h = subst (λ m. m ≤ old + 1) (sym h) (omega arith)

@@ -36,12 +36,12 @@ module _ {X : Type 0} (test : X → Outcome Truth) (whole : Outcome Bool) (xs : 
 pub levels_end : {X : Type 0} (test : X → Outcome Truth) (whole : Outcome Bool) (xs : List X) (i : ℕ) → length xs ≤ i → whole ≡ are_true test (drop i xs) → whole ≡ Ok true
 levels_end test whole xs i past left = left ∙ ap (are_true test) (drop_of_length-le xs past)
 
--- of what is lent, and of the values themselves
+-- tests in turn over what is lent are those over the values themselves
 pub are_true_lent : {X : Type 0} (test : X → Outcome Truth) (xs : List (Bor X)) → are_true (λ (b : Bor X). test b.now) xs ≡ are_true test (map (λ (b : Bor X). b.now) xs)
 are_true_lent test [] = refl
 are_true_lent test (b ∷ xs) = ap (λ (rest : Outcome Bool). is_true (test b.now) >>= λ holds. if holds then rest else Ok false) (are_true_lent test xs)
 
--- none of them is so, nor is one of them
+-- where no element passes a test, the one at an index does not
 pub none_at : {X : Type 0} (p : X → Bool) (xs : List (Bor X)) (i : ℕ) (b : Bor X)
     → i < length xs → b ≡ get_or xs i b → list_any p (map (λ (c : Bor X). c.now) xs) ≡ false → p b.now ≡ false
 none_at p [] i b within is none = let no : i < 0 = within in let never : ⊥ = omega arith in absurd never

@@ -1,3 +1,10 @@
+pub mod InnerFound
+pub mod RowTables
+pub mod InnerSearch
+pub mod AroundValues
+pub mod Grown
+pub mod InnerRows
+pub mod UnderLines
 pub mod Added
 pub mod AnyTables
 pub mod Bases
@@ -60,4 +67,4 @@ pub mod Terms
 pub mod UnionRows
 pub mod Unions
 pub mod ViewsThere
-pub mod Walk
+pub mod WalkedRows

@@ -34,7 +34,7 @@ abbrev pub AreInOrder : List BoundSpecification → Type 0
 AreInOrder queries = (place : ℕ) → IfSome (slice_get queries place) (λ q. ReadsSelect (StandsBefore place) (select_of q))
 
 module _ (queries : List BoundSpecification) (content : Content) (user : Name) (in_order : AreInOrder queries) where
-  -- where so many steps from view to view may be gone
+  -- the rows of a table, where this many steps from view to view may be gone
   tables_within : ℕ → TablePlace → Outcome (List Row)
   tables_within steps (Base n) = stored_rows content n
   tables_within zero (View n) = not_well_formed

@@ -71,7 +71,7 @@ names_not t left right n found is seen other =
 
 -- ---- tests, one after the other
 
--- one of the tests from here on names the column
+-- a test from here on names the column
 abbrev pub IsNamedFrom : ℕ → List BoundTest → ℕ → Type 0
 IsNamedFrom n tests i = list_any (names_column n) (map (test_of []) (drop i tests)) ≡ true
 

@@ -65,12 +65,12 @@ reads_weaker P Q f q h = select_read Q q (all_weaker P Q f (select_tables q) (se
 pub cond_reads_weaker : (P Q : TablePlace → Type 0) → ((t : TablePlace) → P t → Q t) → (c : PlacedCond) → ReadsCond P c → ReadsCond Q c
 cond_reads_weaker P Q f c h = cond_read Q c (all_weaker P Q f (cond_tables c) (cond_listed P c h))
 
+pub clause_weaker : (P Q : TablePlace → Type 0) → ((t : TablePlace) → P t → Q t) → (c : PlacedClause) → ReadsClause P c → ReadsClause Q c
+clause_weaker P Q f absent h = tt
+clause_weaker P Q f (present c) h = cond_reads_weaker P Q f c h
+
 pub inside_weaker : (P Q : TablePlace → Type 0) → ((t : TablePlace) → P t → Q t) → (q : PlacedSelect) → ReadsInside P q → ReadsInside Q q
-inside_weaker P Q f (select distinct list from filter by having) h = (of_clause filter h.0, of_clause having h.1)
-  where
-    of_clause : (c : PlacedClause) → ReadsClause P c → ReadsClause Q c
-    of_clause absent r = tt
-    of_clause (present c) r = cond_reads_weaker P Q f c r
+inside_weaker P Q f (select distinct list from filter by having) h = (clause_weaker P Q f filter h.0, clause_weaker P Q f having h.1)
 
 -- ---- what stands before a view
 

@@ -91,7 +91,7 @@ pub rows_there : {X : Type 0} (r : Result (Vec (ℕ × Bor Row) Global) Fault) (
 rows_there (Err e) content base row_numbers test xs rises h = tt
 rows_there (Ok rows) content base row_numbers test xs rises h = subst (λ (o : Outcome (List Numbered)). IfOk o (AreRowsThere (table_at content base))) h (chosen_there content base row_numbers test xs rises)
 
--- and their numbers
+-- the number of a row that is there is there
 some_there : (t : Table) (n : ℕ) (r : Numbered) → row_at t n ≡ Some r → IsSome (row_at t n)
 some_there t n r is = ap (λ (o : Option Numbered). is_some o) is
 

@@ -12,7 +12,7 @@ use Rattle.sq_meaning.specs.Query.{is_true}
 use Rattle.sq_meaning.specs.Target.{has_subquery}
 use Rattle.sq_bound.specs.Condition.{cond_of}
 use Rattle.sq_bound.specs.Names.{option_all}
-use Rattle.sq_bound.specs.Quiet.{are_sure, is_sure}
+use Rattle.sq_bound.specs.Quiet.{are_quiet_conds, is_quiet_cond}
 use Rattle.sq_bound.specs.declared.condition.BoundCond.{BoundCond}
 use Rattle.sq_bound.specs.declared.condition.TablePlace.{TablePlace}
 use Rattle.sq_bound.specs.declared.query.Target.{Target}
@@ -28,11 +28,11 @@ use Rattle.sq_query.proofs.KeyedRows.{both_are}
 
 -- ---- no subquery
 
-sure_plain : (cs : List BoundCond) → are_sure cs ≡ true → AllByRecursion (λ c. has_subquery (cond_of [] c) ≡ false) cs
+sure_plain : (cs : List BoundCond) → are_quiet_conds cs ≡ true → AllByRecursion (λ c. has_subquery (cond_of [] c) ≡ false) cs
 sure_plain [] h = tt
-sure_plain (c ∷ cs) h = (quiet_plain (cond_of [] c) (both_left (is_sure c) (are_sure cs) h), sure_plain cs (both_right (is_sure c) (are_sure cs) h))
+sure_plain (c ∷ cs) h = (quiet_plain (cond_of [] c) (both_left (is_quiet_cond c) (are_quiet_conds cs) h), sure_plain cs (both_right (is_quiet_cond c) (are_quiet_conds cs) h))
 
-own_plain : (own : Option BoundCond) → option_all is_sure own ≡ true → IfSome own (λ c. has_subquery (cond_of [] c) ≡ false)
+own_plain : (own : Option BoundCond) → option_all is_quiet_cond own ≡ true → IfSome own (λ c. has_subquery (cond_of [] c) ≡ false)
 own_plain None h = tt
 own_plain (Some c) h = quiet_plain (cond_of [] c) h
 
@@ -42,10 +42,10 @@ no_subquery (c ∷ cs) h = rw h.0 (no_subquery cs h.1)
 
 pub are_plain : (t : Target) → t.is_quiet ≡ true → list_any (λ c. has_subquery (cond_of [] c)) (conditions_of t) ≡ false
 are_plain t h =
-    let sure : (are_sure t.leaf.conditions && option_all is_sure t.condition) ≡ true = sym t.quiet ∙ h in
+    let sure : (are_quiet_conds t.leaf.conditions && option_all is_quiet_cond t.condition) ≡ true = sym t.quiet ∙ h in
     no_subquery (conditions_of t) (both_are (λ c. has_subquery (cond_of [] c) ≡ false) t.leaf.conditions t.condition
-    (sure_plain t.leaf.conditions (both_left (are_sure t.leaf.conditions) (option_all is_sure t.condition) sure))
-    (own_plain t.condition (both_right (are_sure t.leaf.conditions) (option_all is_sure t.condition) sure)))
+    (sure_plain t.leaf.conditions (both_left (are_quiet_conds t.leaf.conditions) (option_all is_quiet_cond t.condition) sure))
+    (own_plain t.condition (both_right (are_quiet_conds t.leaf.conditions) (option_all is_quiet_cond t.condition) sure)))
 
 -- what is answered without any table is what is meant, whatever the tables are
 pub quiet_meant : (r : Result Bool Fault) (t : Target) (row : Row) (values : List Value) (user : Name) → t.is_quiet ≡ true → IsChosen r (conditions_of t) row values user
@@ -115,7 +115,7 @@ pub one_chosen : (c : BoundCond) (row : Row) (values : List Value) (user : Name)
 one_chosen c row values user r h none tables =
     subst (λ (o : Outcome Bool). Meets r o) (after_true (is_true (truth_on_row tables values user row c))) (h (neither_left (has_subquery (cond_of [] c)) false none) tables)
 
--- none of them is so, nor is one of them
+-- where no element passes a test, the one at an index does not
 pub none_of : {X : Type 0} (p : X → Bool) (xs : List X) (i : ℕ) (x : X) → i < length xs → x ≡ get_or xs i x → list_any p xs ≡ false → p x ≡ false
 none_of p [] i x within is none = absurd (omega (arith, within))
 none_of {X} p (y ∷ xs) zero x within is none = subst (λ (z : X). p z ≡ false) (sym is) (neither_left (p y) (list_any p xs) none)

@@ -49,6 +49,11 @@ pub read_in : (context : Context) (read : Tables) → context.bases.now ≡ read
 read_in context read bases_are views_are rows_of s reads =
     reads_weaker (λ t. rows_read read t ≡ rows_of t) (λ t. table_rows context t ≡ rows_of t) (λ t h. table_same context t ∙ (λ i. rows_among (bases_are i) (views_are i) t) ∙ h) (select_of s) reads
 
+pub cond_read_in : (context : Context) (read : Tables) → context.bases.now ≡ read.bases.items → context.views.now ≡ read.views.items → (rows_of : TablePlace → Outcome (List Row)) (c : BoundCond)
+    → ReadsCond (λ t. rows_read read t ≡ rows_of t) (cond_of [] c) → ReadsCond (λ t. table_rows context t ≡ rows_of t) (cond_of [] c)
+cond_read_in context read bases_are views_are rows_of c reads =
+    cond_reads_weaker (λ t. rows_read read t ≡ rows_of t) (λ t. table_rows context t ≡ rows_of t) (λ t h. table_same context t ∙ (λ i. rows_among (bases_are i) (views_are i) t) ∙ h) (cond_of [] c) reads
+
 -- ---- there is no answer where nothing was known to be needed
 
 abbrev Seen : Type 0
@@ -87,7 +92,7 @@ module _ {E : Type 0} (r : Result Needed E) (content : Content) (read : Tables) 
 
 -- ---- conditions on a row
 
--- its truth is that over the tables that it reads
+-- the truth of a condition is that over the tables that it reads
 pub truth_of_cond : (context : Context) (tables : TablePlace → Outcome (List Row)) (columns : TableKinds) (parameters : List Kind) (row : Row) (c : BoundCond) (result : Result Truth Fault) → IsOnRow columns parameters row c
     → ((meant : Meant) → KnowsCond context c meant → Means result (truth_on_row (table_rows context) context.parameters.now context.user row c))
     → ReadsCond (λ t. table_rows context t ≡ tables t) (cond_of [] c) → Answers (λ t. ⊤) (truth_on_row tables context.parameters.now context.user row c)

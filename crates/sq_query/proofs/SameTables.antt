@@ -18,7 +18,7 @@ use Rattle.sq_query.specs.Needed.{ReadsCond, ReadsConds, ReadsClause, ReadsSelec
 use Rattle.sq_query.proofs.AnyTables.{value_over, compared_over, like_over, scopes_over, listed_over}
 
 module _ (f g : TablePlace → Outcome (List Row)) where
-  same_each : (ts : List TablePlace) → AllByRecursion (λ t. f t ≡ g t) ts → each f ts ≡ each g ts
+  pub same_each : (ts : List TablePlace) → AllByRecursion (λ t. f t ≡ g t) ts → each f ts ≡ each g ts
   same_each [] same = refl
   same_each (t ∷ ts) same = λ i. and_then (same.0 i) (λ y. and_then (same_each ts same.1 i) (λ ys. Ok (y ∷ ys)))
 

@@ -56,7 +56,7 @@ use Rattle.sq_query.proofs.KeySearch.{decided, rows_kept}
 use Rattle.sq_query.proofs.NeededViews.{inside_weaker, reads_weaker}
 use Rattle.sq_query.proofs.OnlyOne.{found_is}
 use Rattle.sq_query.proofs.SameTables.{same_over, wanted_of}
-use Rattle.sq_query.proofs.Walk.{there_within}
+use Rattle.sq_query.proofs.WalkedRows.{there_within}
 
 -- ---- the tree of such a query specification
 
@@ -71,13 +71,13 @@ tree_of : (q : BoundSpecification) (t : TablePlace) (own : BoundCond) → IsOver
 tree_of q t own over is_where =
     select_of-out q ∙ (λ i. select_by (out-BoundSpecification q).distinct (out-BoundSpecification q).list (over i) (clause_of [] (is_where i)) (groups_in q))
 
--- its table is read
+-- the only table of a query specification is read
 pub only_read : (P : TablePlace → Type 0) (q : BoundSpecification) (t : TablePlace) → IsOver q t → ReadsSelect P (select_of q) → P t
 only_read P q t over reads =
     let from : AllByRecursion P (out-BoundSpecification q).from.tables = (subst (ReadsSelect P) (select_of-out q) reads).0 in
     (subst (AllByRecursion P) over from).0
 
--- and so are those of its subqueries
+-- the tables of the subqueries of a query specification are read
 pub inside_read : (P : TablePlace → Type 0) (q : PlacedSelect) → ReadsSelect P q → ReadsInside P q
 inside_read P (select distinct list from filter by having) reads = (reads.1, reads.2)
 
@@ -87,7 +87,7 @@ both_read P q t own over is_where first inside =
     let others = subst (ReadsInside P) tree inside in
     subst (ReadsSelect P) (sym tree) ((first, tt), others.0, others.1)
 
--- its WHERE clause may stand on the rows of its table
+-- the WHERE clause of a query specification may stand on the rows of its only table
 pub where_stands : (columns : TableKinds) (parameters : List Kind) (q : BoundSpecification) (t : TablePlace) (own : BoundCond) → IsOver q t → IsWhere q own → IsSelect columns parameters [] q → StandsOn columns parameters t own
 where_stands columns parameters q t own over is_where well rows_of =
     (subst (WellFormedSelect (by_place rows_of) (kinds_by_place columns parameters) (IsDeclaredAt parameters) []) (tree_of q t own over is_where) (well.stands rows_of)).2
@@ -242,7 +242,7 @@ read_by_key content keys search tables own read (Ok all) at are as_meant bases v
       others_are = λ t here. (λ i. rows_among (bases i) (views i) t) ∙ others_behind own read.bases.items read.views.items search.base found at are tables t (as_meant t here);
     }
 
--- so is a view that stands before the others
+-- a view that stands before the others is found, and they are behind it
 module _ (own : ViewRows) (bases : List BaseRows) (views : List ViewRows) (place : ℕ) (found : Outcome (List Row)) (at : own.place ≡ place) (are : view_outcome own.rows.items own.failure ≡ found) where
   pub view_first : rows_among bases (own ∷ views) (View place) ≡ found
   view_first = ap (λ (b : Bool). and_then (well_formed (cond b (Some own) (find (λ t. nat_eq t.place place) views))) (λ t. view_outcome t.rows.items t.failure)) (eq-eqb own.place place at) ∙ are
@@ -264,7 +264,7 @@ read_with_view view found others tables own read (Ok all) at are as_meant bases 
   others_are = λ t here. (λ i. rows_among (bases i) (views i) t) ∙ behind_view own read.bases.items read.views.items view found at are tables t (as_meant t here);
 }
 
--- want of memory is an answer
+-- a refusal of memory is an answer
 pub answered_memory : (e : Fault) → e ≡ fault.NoMemory → IsAnswered {A = Tables} (Err e)
 answered_memory e is = subst (λ (f : Fault). IsAnswered {A = Tables} (Err f)) (sym is) tt
 

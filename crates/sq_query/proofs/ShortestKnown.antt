@@ -22,7 +22,7 @@ Columns = List ℕ
 
 -- ---- lists
 
--- one of the first few is one of more of them
+-- an index among the first few is one among more of them
 within_more : {A : Type 0} (m n k : ℕ) (xs : List A) → m ≤ n → k < length (take m xs) → k < length (take n xs)
 within_more zero n k xs le h = absurd (omega arith)
 within_more (suc m) n k [] le h = absurd (omega arith)

@@ -27,7 +27,7 @@ use Rattle.sq_bound.specs.Condition.{PlacedClause, PlacedCond, PlacedSelect, cla
 use Rattle.sq_bound.specs.Expression.{PlacedExpr, expr_of}
 use Rattle.sq_bound.specs.Keyed.{own_column}
 use Rattle.sq_bound.specs.Names.{option_all}
-use Rattle.sq_bound.specs.Quiet.{is_sure}
+use Rattle.sq_bound.specs.Quiet.{is_quiet_cond}
 use Rattle.sq_bound.specs.WellFormed.{IsSelect, TableKinds}
 use Rattle.sq_bound.specs.declared.condition.BoundCond.{BoundCond}
 use Rattle.sq_bound.specs.declared.condition.BoundSpecification.{BoundSpecification, out-BoundSpecification}
@@ -58,7 +58,7 @@ abbrev pub shown_by : {A B : Type 0} → (A → B) → (A → Bool) → List A �
 shown_by show keep [] = []
 shown_by show keep (x ∷ xs) = if keep x then show x ∷ shown_by show keep xs else shown_by show keep xs
 
--- what is so of each is so, in its way, of what is shown
+-- what holds of each element gives what holds of each that is shown
 pub shown_all : {A B : Type 0} (show : A → B) (keep : A → Bool) (P : A → Type 0) (Q : B → Type 0) → ((x : A) → P x → Q (show x)) → (xs : List A) → AllByRecursion P xs → AllByRecursion Q (shown_by show keep xs)
 shown_all show keep P Q f [] h = tt
 shown_all {A} {B} show keep P Q f (x ∷ xs) h = by (keep x) (shown_all show keep P Q f xs h.1)
@@ -67,7 +67,7 @@ shown_all {A} {B} show keep P Q f (x ∷ xs) h = by (keep x) (shown_all show kee
     by true later = (f x h.0, later)
     by false later = later
 
--- those that are left of what is shown are what is shown of those that are left
+-- filtering what is shown is showing what was filtered
 pub left_shown : {A B : Type 0} (show : A → B) (keep has : A → Bool) (was : B → Bool) → ((x : A) → was (show x) ≡ has x) → (xs : List A) → shown_by show keep (filter has xs) ≡ filter was (shown_by show keep xs)
 left_shown show keep has was same [] = refl
 left_shown {A} {B} show keep has was same (x ∷ xs) = by (keep x) refl (has x) refl (left_shown show keep has was same xs)
@@ -157,15 +157,15 @@ module _ (columns : TableKinds) (t : TablePlace) where
         λ i. and_then (first i) (λ y. and_then (others i) (λ ys. Ok (y ∷ ys)))
 
     -- a condition that is never a fault has a truth
-    clause_there : (c : Option BoundCond) → option_all is_sure c ≡ true → IsClauseOn (clause_of [] c) → HasValue (clause_truth (by_place no_tables) (clause_of [] c) here)
+    clause_there : (c : Option BoundCond) → option_all is_quiet_cond c ≡ true → IsClauseOn (clause_of [] c) → HasValue (clause_truth (by_place no_tables) (clause_of [] c) here)
     clause_there None sure w = tt
     clause_there (Some c) sure w = test_answers no_tables columns [] [] caller row t fits tt (cond_of [] c) w sure
 
-    clause_same : (c : Option BoundCond) → option_all is_sure c ≡ true → clause_truth (by_place f) (clause_of [] c) here ≡ clause_truth (by_place no_tables) (clause_of [] c) here
+    clause_same : (c : Option BoundCond) → option_all is_quiet_cond c ≡ true → clause_truth (by_place f) (clause_of [] c) here ≡ clause_truth (by_place no_tables) (clause_of [] c) here
     clause_same None sure = refl
     clause_same (Some c) sure = truth_over f no_tables (cond_of [] c) here (quiet_plain (cond_of [] c) sure)
 
-    pub keeps_so : (c : Option BoundCond) → option_all is_sure c ≡ true → IsClauseOn (clause_of [] c) → is_true (clause_truth (by_place f) (clause_of [] c) listed) ≡ Ok (keeps c caller row)
+    pub keeps_so : (c : Option BoundCond) → option_all is_quiet_cond c ≡ true → IsClauseOn (clause_of [] c) → is_true (clause_truth (by_place f) (clause_of [] c) listed) ≡ Ok (keeps c caller row)
     keeps_so c sure w =
         ap is_true (clause_alone f (tt ∷ []) (row ∷ []) (outermost [] caller) c ∙ clause_same c sure)
         ∙ passed_is (is_true (clause_truth (by_place no_tables) (clause_of [] c) here)) (truth_there (clause_truth (by_place no_tables) (clause_of [] c) here) (clause_there c sure w))
@@ -191,7 +191,7 @@ mutual
   all_read P no_cond h = tt
   all_read P (a_cond c cs) h = (quiet_reads P c (both_left (is_quiet c) (are_quiet cs) h), all_read P cs (both_right (is_quiet c) (are_quiet cs) h))
 
-clause_reads : (P : TablePlace → Type 0) (c : Option BoundCond) → option_all is_sure c ≡ true → ReadsClause P (clause_of [] c)
+clause_reads : (P : TablePlace → Type 0) (c : Option BoundCond) → option_all is_quiet_cond c ≡ true → ReadsClause P (clause_of [] c)
 clause_reads P None sure = tt
 clause_reads P (Some c) sure = quiet_reads P (cond_of [] c) sure
 
@@ -203,7 +203,7 @@ tree_is q t plain =
     select_of-out q
     ∙ (λ i. select_by (plain.is_all i) (out-BoundSpecification q).list (plain.over i) (clause_of [] (out-BoundSpecification q).condition) (groups_if (option_map groups_of (plain.ungrouped i))))
 
--- it reads this table alone
+-- the query of a plain view reads its only table alone
 pub plain_reads : (P : TablePlace → Type 0) (q : BoundSpecification) (t : TablePlace) → IsPlainOver q t → P t → ReadsSelect P (select_of q)
 plain_reads P q t plain first = subst (ReadsSelect P) (sym (tree_is q t plain)) ((first, tt), clause_reads P (out-BoundSpecification q).condition plain.sure, tt)
 

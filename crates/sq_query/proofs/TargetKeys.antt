@@ -1,22 +1,24 @@
 -- The key by which a target names a row, through views too.
-use Rattle.std.proofs.Common.{◌≡◌, ◌∙◌, ℕ, true, List, [], Option, Some, None, Result, sym, ap, subst, Ok, Err}
-use Rattle.std.specs.Prelude.{IfOk, IfSome, IsSome, slice_index_or}
+use Rattle.std.proofs.Common.{◌≡◌, ◌∙◌, ◌&&◌, ℕ, true, List, [], Option, Some, None, Result, sym, ap, subst, Ok, Err}
+use Rattle.std.specs.Prelude.{IfOk, IfSome, slice_index_or}
 use Rattle.std.proofs.lemmas.Option.{slice_get-get_or}
 use Rattle.sq_lex.specs.declared.name.Name.{Name}
 use Rattle.sq_value.specs.declared.domain.Kind.{Kind}
 use Rattle.sq_value.specs.declared.value.Value.{Value}
 use Rattle.sq_store.specs.Content.{Content}
 use Rattle.sq_store.specs.Keys.{Keys}
+use Rattle.sq_bound.specs.Condition.{cond_of}
 use Rattle.sq_bound.specs.Keyed.{IsShortestKey, is_shortest_of}
 use Rattle.sq_bound.specs.Names.{option_all}
-use Rattle.sq_bound.specs.Quiet.{are_sure}
+use Rattle.sq_bound.specs.Quiet.{are_quiet_conds, is_quiet_cond}
 use Rattle.sq_bound.specs.WellFormed.{IsTarget, TableKinds}
 use Rattle.sq_bound.specs.declared.condition.BoundCond.{BoundCond, out-BoundCond}
 use Rattle.sq_bound.specs.declared.condition.TablePlace.TheVariants.{Base}
 use Rattle.sq_bound.specs.declared.query.Target.{Target}
+use Rattle.sq_bound.proofs.QuietTruths.{both_left, both_right, quiet_plain}
 use Rattle.sq_expression.specs.declared.fault.Fault.{Fault}
 use Rattle.sq_query.specs.Key.{IsKeyOf, IsKeyOn, StandsOn}
-use Rattle.sq_query.specs.Keyed.{IsKeyed, IsKeyedBy, IsKeyedUnder}
+use Rattle.sq_query.specs.Keyed.{IsKeyed, IsKeyedBy, IsKeyedTarget, IsKeyedUnder}
 use Rattle.sq_query.specs.Meant.{IsKeyUnder}
 use Rattle.sq_query.specs.declared.key.KnownKey.{KnownKey}
 use Rattle.sq_query.proofs.KeyNames.{key_there, no_view, own_named}
@@ -30,9 +32,9 @@ module _ (t : Target) (content : Content) (keys : List Keys) (parameters : List 
   pub noted_under : (r : Result (Option KnownKey) Fault) → IfOk r (λ found. IfSome found (IsKeyOf t content keys parameters user)) → IfOk r (λ found. IfSome found (IsKeyUnder t content keys parameters user))
   noted_under (Err e) h = tt
   noted_under (Ok None) h = tt
-  noted_under (Ok (Some known)) h = record { own = h.own; is_own = h.is_own; sure = ap are_sure (no_element t.leaf.conditions (no_view t known.key h.is_key)); on = h.on }
+  noted_under (Ok (Some known)) h = record { own = h.own; is_own = h.is_own; sure = ap are_quiet_conds (no_element t.leaf.conditions (no_view t known.key h.is_key)); on = h.on }
 
-  -- or the conditions of those that are are never a fault
+  -- a key is found through views whose conditions are never a fault
   pub views_under : (own : BoundCond) (r : Result (Option KnownKey) Fault) → t.condition ≡ Some own → t.leaf.is_quiet ≡ true → IfOk r (λ found. IfSome found (IsKeyOn t.base own content keys parameters user))
       → IfOk r (λ found. IfSome found (IsKeyUnder t content keys parameters user))
   views_under own (Err e) is quiet h = tt
@@ -51,7 +53,7 @@ module _ (t : Target) (parameters : List Value) (user : Name) where
     sym (ap (λ (o : Option BoundCond). is_shortest_of t.leaf o key) is_own) ∙ sym (ap (option_all (is_shortest_of t.leaf t.condition)) is) ∙ t.shortest,
   )
 
-  -- so where the values of some key are known, those of the one that is noted are
+  -- where the values of some key are known, those of the noted one are
   pub noted_known : (key : ℕ) → t.key ≡ Some key → IsKeyedUnder t parameters user → IsKeyed t parameters user
   noted_known key is keyed = record {
     key = key;
@@ -67,13 +69,20 @@ module _ (t : Target) (parameters : List Value) (user : Name) where
       subst (λ (ks : Keys). IsKeyedBy ks own parameters user) (sym keys_are)
       (subst (λ (c : BoundCond). IsKeyedBy t.leaf.table.keys c parameters user) (same_some keyed.own own t.condition keyed.is_own is_own) keyed.by_key)
 
+  -- a search finds the row of a target by a key that its own condition names, where no condition is ever a fault
+  pub quiet_keyed : t.is_quiet ≡ true → IsKeyedUnder t parameters user → IsKeyedTarget t parameters user
+  quiet_keyed quiet keyed =
+      let all : (are_quiet_conds t.leaf.conditions && option_all is_quiet_cond t.condition) ≡ true = sym t.quiet ∙ quiet in
+      record {
+        under = keyed;
+        quiet_views = t.leaf.quiet ∙ both_left (are_quiet_conds t.leaf.conditions) (option_all is_quiet_cond t.condition) all;
+        plain = λ none.
+            quiet_plain (cond_of [] keyed.own)
+            (sym (ap (option_all is_quiet_cond) keyed.is_own) ∙ both_right (are_quiet_conds t.leaf.conditions) (option_all is_quiet_cond t.condition) all);
+      }
+
   pub none_known : t.condition ≡ None → IsKeyedUnder t parameters user → ⊥
   none_known none keyed = let some : t.condition ≡ Some keyed.own = keyed.is_own in cc
-
--- what is found where a key is noted is found of no target that notes none
-pub none_noted : (r : Result (Option KnownKey) Fault) (Q : Type 0) → (Q → ⊥) → IfOk r (λ found. Q → IsSome found)
-none_noted (Ok found) Q none = λ q. absurd (none q)
-none_noted (Err e) Q none = tt
 
 -- the target's own condition stands on the rows of the base table
 pub own_on_base : (columns : TableKinds) (parameters : List Kind) (t : Target) (own : BoundCond) → IsTarget columns parameters t → t.condition ≡ Some own → StandsOn columns parameters (Base t.base) own

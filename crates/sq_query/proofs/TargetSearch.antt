@@ -19,7 +19,7 @@ use Rattle.sq_meaning.specs.WellFormed.{Has, HasValue, IsDeclaredAt, IsRowOf, We
 use Rattle.sq_meaning.proofs.AnswerLaws.{all_weaker}
 use Rattle.sq_bound.specs.Condition.{cond_of}
 use Rattle.sq_bound.specs.Fits.{IsBase, keys_of_bases, not_nulls_hold}
-use Rattle.sq_bound.specs.Quiet.{are_sure, is_sure}
+use Rattle.sq_bound.specs.Quiet.{are_quiet_conds, is_quiet_cond}
 use Rattle.sq_bound.specs.WellFormed.{IsCond, IsCondOn, IsTarget, TableKinds, base_kinds, of_base, of_base_at}
 use Rattle.sq_bound.specs.declared.condition.BoundCond.{BoundCond}
 use Rattle.sq_bound.specs.declared.condition.TablePlace.{TablePlace}
@@ -185,22 +185,22 @@ module _ (tables : TablePlace → Outcome (List Row)) (columns : TableKinds) (pa
 
   -- a condition of a view that is never a fault has a truth on each row of the base table
   module _ (b : BaseTable) (kinds_are : columns (Base b.place) ≡ Ok (base_kinds b)) where
-    view_truth : (c : BoundCond) → IsCondOn columns b c → is_sure c ≡ true → (r : Numbered) → IsRowOf (base_kinds b) r.row → HasValue (tested truth_at c r)
+    view_truth : (c : BoundCond) → IsCondOn columns b c → is_quiet_cond c ≡ true → (r : Numbered) → IsRowOf (base_kinds b) r.row → HasValue (tested truth_at c r)
     view_truth c well sure r is_row =
         let wide : IsCond columns parameters (of_base b) [] c = is_cond_wider columns columns [] parameters (λ t kinds e. e) (λ n k e. cc) (of_base b) [] c well in
         truth_there (truth_at c r)
         (test_answers tables columns parameters values caller r.row (Base b.place) (subst (Has (λ ks. IsRowOf ks r.row)) (sym kinds_are) is_row) given (cond_of [] c)
         (subst (WellFormedCond (by_place no_tables) (kinds_by_place columns parameters) (IsDeclaredAt parameters) (of_base_at b.place)) (sym (wide.is_tree [])) (wide.stands no_tables)) sure)
 
-    row_truths : (r : Numbered) → IsRowOf (base_kinds b) r.row → (cs : List BoundCond) → AllByRecursion (IsCondOn columns b) cs → are_sure cs ≡ true → AllByRecursion (λ c. HasValue (tested truth_at c r)) cs
+    row_truths : (r : Numbered) → IsRowOf (base_kinds b) r.row → (cs : List BoundCond) → AllByRecursion (IsCondOn columns b) cs → are_quiet_conds cs ≡ true → AllByRecursion (λ c. HasValue (tested truth_at c r)) cs
     row_truths r is_row [] well sure = tt
-    row_truths r is_row (c ∷ cs) well sure = (view_truth c well.0 (both_left (is_sure c) (are_sure cs) sure) r is_row, row_truths r is_row cs well.1 (both_right (is_sure c) (are_sure cs) sure))
+    row_truths r is_row (c ∷ cs) well sure = (view_truth c well.0 (both_left (is_quiet_cond c) (are_quiet_conds cs) sure) r is_row, row_truths r is_row cs well.1 (both_right (is_quiet_cond c) (are_quiet_conds cs) sure))
 
-    view_truths : (rows : List Numbered) → AllByRecursion (λ (r : Numbered). IsRowOf (base_kinds b) r.row) rows → (cs : List BoundCond) → AllByRecursion (IsCondOn columns b) cs → are_sure cs ≡ true → HaveTruths truth_at rows cs
+    view_truths : (rows : List Numbered) → AllByRecursion (λ (r : Numbered). IsRowOf (base_kinds b) r.row) rows → (cs : List BoundCond) → AllByRecursion (IsCondOn columns b) cs → are_quiet_conds cs ≡ true → HaveTruths truth_at rows cs
     view_truths rows rows_are [] well sure = tt
     view_truths rows rows_are (c ∷ cs) well sure = (
-      all_weaker (λ (r : Numbered). IsRowOf (base_kinds b) r.row) (λ r. HasValue (tested truth_at c r)) (view_truth c well.0 (both_left (is_sure c) (are_sure cs) sure)) rows rows_are,
-      view_truths rows rows_are cs well.1 (both_right (is_sure c) (are_sure cs) sure),
+      all_weaker (λ (r : Numbered). IsRowOf (base_kinds b) r.row) (λ r. HasValue (tested truth_at c r)) (view_truth c well.0 (both_left (is_quiet_cond c) (are_quiet_conds cs) sure)) rows rows_are,
+      view_truths rows rows_are cs well.1 (both_right (is_quiet_cond c) (are_quiet_conds cs) sure),
     )
 
   module _ (bases : List BaseTable) (content : Content) (keys : List Keys) (t : Target) (known : KnownKey) (k : IsKeyUnder t content keys values caller known)

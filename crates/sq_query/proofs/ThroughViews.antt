@@ -47,7 +47,7 @@ use Rattle.sq_query.proofs.NeededViews.{reads_known}
 use Rattle.sq_query.proofs.Searched.{line_test, only_read, read_of_search, same_over_few, with_own}
 use Rattle.sq_query.proofs.ShownRows.{keeps, rows_shown, shown_by, shows}
 use Rattle.sq_query.proofs.Thinned.{AreThoseWith, IsKnownIn, has_values, kept_left, left_all, those_shown, those_stored}
-use Rattle.sq_query.proofs.Walk.{there_within}
+use Rattle.sq_query.proofs.WalkedRows.{there_within}
 
 -- ---- the table under a plain view is known
 
@@ -63,7 +63,7 @@ module _ (columns : TableKinds) (view : ℕ) where
   pub known_under : (queries : List BoundSpecification) (t : TablePlace) → IsPlainView columns queries view t → HasValue (before_view view columns t)
   known_under queries t v = only_read (λ u. HasValue (before_view view columns u)) v.query t v.plain.over (reads_known (before_view view columns) [] [] v.query v.well)
 
--- so is the base table
+-- the base table at the end of a path is known
 pub base_of_path : (columns : TableKinds) (queries : List BoundSpecification) (view base : ℕ) (views : List ℕ) → IsPath columns queries (view ∷ views) base → HasValue (columns (Base base))
 base_of_path columns queries view base [] path = known_under columns view queries (Base base) path.0
 base_of_path columns queries view base (under ∷ views) path = base_of_path columns queries under base views path.1
@@ -92,7 +92,7 @@ module _ (tables : TablePlace → Outcome (List Row)) (columns : TableKinds) (ca
 
   -- ---- what views show of all rows, and of the one with the key
 
-  -- of all rows of the first table of a path, those that it shows of the row with the key have its values in these columns
+  -- the rows of the first table of a path, of which those that it shows of the row with the key have its values in these columns
   record IsThinned (views : List ℕ) (shown : List ℕ) : Type 0 where
     all : List Row
     few : List Row
@@ -204,7 +204,7 @@ module _ (tables : TablePlace → Outcome (List Row)) (columns : TableKinds) (ca
       same_by_shown_key =
           same_over_few tables (with_rows (View view) few_shown tables) q (View view) own over is_where values caller others here.all here.few here.all_are (with_own (View view) few_shown tables ∙ here.few_are) same_kept
 
-    -- so what was read is enough for it
+    -- what was read of a view and beside it is enough for a query specification over it
     pub read_through_view : (q : BoundSpecification) (others : Needed) (r : Result Tables Fault) → IsOver q (View view) → IsWhere q own → AreBeside q (View view) others → IfOk r (IsReadWith (View view) few_shown others tables)
         → IfOk r (IsReadFor columns tables q values caller)
     read_through_view q others r over is_where beside read =

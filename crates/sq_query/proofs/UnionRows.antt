@@ -364,7 +364,7 @@ module _ (q : BoundQuery) where
           (ap (λ p. query_rows m k p env) next_query ∙ right_fails m k env u.all (query_so_far q i) (term_of u.term) left status (so_far columns parameters tables may noted) h))
           (term columns parameters tables (term_read columns parameters tables may noted) s.rs s.rights)
 
-    -- and the rows that it is given, of which repeats may be left
+    -- a UNION joins its term to the rows that it is given, of which repeats may be left
     module _ (unions : List BoundUnion) (i : ℕ) (u : BoundUnion) (before : Option BoundUnion) (left : List Row) (are_rest : unions ≡ (out-BoundQuery q).rest) (within : i < length unions) (at : u ≡ get_or unions i u)
         (so_far : AreMeant q context i (rows_behind before left)) (were : AreLeft q context before left) where
       module _ (right : Vec (List Value) Global) (term : HasTermRows (Ok right) u.term context) (result : Result (Vec (List Value) Global) Fault) (join : IsJoinedTo before u left right.items result)

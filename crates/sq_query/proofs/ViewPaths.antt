@@ -71,12 +71,12 @@ module _ (columns : TableKinds) (queries : List BoundSpecification) (view base :
   over_same : (t : TablePlace) → (v : IsPlainView columns queries view t) → IsOver q t
   over_same t v = subst (λ (s : BoundSpecification). IsOver s t) (same_some v.query q (slice_get queries view) v.is_query among) v.plain.over
 
-  -- it is over a view, which is the next one
+  -- a query that is over a view is over the next one of the path
   pub next_view : (under : ℕ) → IsOver q (View under) → (views : List ℕ) → IsPath columns queries (view ∷ views) base → (others : List ℕ) × (views ≡ under ∷ others)
   next_view under over [] path = absurd (over_either q base under (over_same (Base base) path.0) over)
   next_view under over (v ∷ views) path = (views, ap (λ (n : ℕ). n ∷ views) (over_views q v under (over_same (View v) path.0) over))
 
-  -- it is over no view
+  -- a query that is over no view ends the path
   pub no_view_next : ((under : ℕ) → IsOver q (View under) → ⊥) → (views : List ℕ) → IsPath columns queries (view ∷ views) base → views ≡ []
   no_view_next none [] path = refl
   no_view_next none (v ∷ views) path = absurd (none v (over_same (View v) path.0))

@@ -29,7 +29,9 @@ use Rattle.sq_query.specs.declared.key.KnownKey.{KnownKey}
 
 -- a test `column = e`
 abbrev pub IsEquality : ℕ → BoundExpr → BoundTest → Type 0
-IsEquality n e test = (item : ℕ) × (test_of [] test ≡ compare Equal (column (record { depth = 0; item = item; column = n })) (expr_of [] e))
+IsEquality n e test =
+    (item : ℕ) × (test_of [] test
+    ≡ compare Equal (column (record { depth = 0; item = item; column = n })) (expr_of [] e))
 
 -- the tests by which a condition names a row by a key with these columns: the first ones of its only term, as many as there are columns
 pub record AreFirstTests (columns : List ℕ) (own : BoundCond) (tests : List BoundTest) : Type 0 where
@@ -37,7 +39,7 @@ pub record AreFirstTests (columns : List ℕ) (own : BoundCond) (tests : List Bo
   pub only_term : (out-BoundCond own).terms ≡ term ∷ []
   pub firsts : tests ≡ take (length columns) (out-BoundConj term).tests
 
--- the tests by which a target does
+-- the tests by which a target's own condition names a row by a key with these columns
 pub record AreKeyTests (columns : List ℕ) (t : Target) (tests : List BoundTest) : Type 0 where
   pub own : BoundCond
   pub is_own : t.condition ≡ Some own
@@ -48,28 +50,34 @@ pub record AreKeyTests (columns : List ℕ) (t : Target) (tests : List BoundTest
 -- whatever the tests say that a column is equal to has a value, whatever row there is
 abbrev pub HaveValues : List BoundTest → List Value → Name → Type 0
 HaveValues tests parameters user =
-    (tables : TablePlace → Outcome (List Row)) (test : BoundTest) (n : ℕ) (e : BoundExpr) → Contains tests test → IsEquality n e test
+    (tables : TablePlace → Outcome (List Row)) (test : BoundTest) (n : ℕ) (e : BoundExpr)
+    → Contains tests test → IsEquality n e test
     → HasValue (meaning.value (by_place tables) (expr_of [] e) (outside [] parameters user))
 
--- one of the tests compares the column by = with something that has this value, not null, whatever row there is
-pub record IsComparedWith (tests : List BoundTest) (parameters : List Value) (user : Name) (n : ℕ) (v : Value) : Type 0 where
+-- a test compares the column by = with something that has this value, not null, whatever row there is
+pub record IsComparedWith (tests : List BoundTest) (parameters : List Value) (user : Name) (n : ℕ)
+    (v : Value) : Type 0 where
   pub test : BoundTest
   pub among : Contains tests test
   pub expr : BoundExpr
   pub is : IsEquality n expr test
-  pub has_value : (tables : TablePlace → Outcome (List Row)) → meaning.value (by_place tables) (expr_of [] expr) (outside [] parameters user) ≡ Ok v
+  pub has_value : (tables : TablePlace → Outcome (List Row))
+      → meaning.value (by_place tables) (expr_of [] expr) (outside [] parameters user) ≡ Ok v
   pub known : is_null v ≡ false
 
 -- a condition names a row by these columns: the first tests of its only term, as many as there are columns, name these, and compare each
 -- with one of these values
-pub record IsNamedBy (columns : List ℕ) (own : BoundCond) (parameters : List Value) (user : Name) (values : List Value) : Type 0 where
+pub record IsNamedBy (columns : List ℕ) (own : BoundCond) (parameters : List Value) (user : Name)
+    (values : List Value) : Type 0 where
   pub named : names_key columns (out-BoundCond own).terms ≡ true
   pub term : BoundConj
   pub only_term : (out-BoundCond own).terms ≡ term ∷ []
-  pub compared : AllZip (IsComparedWith (take (length columns) (out-BoundConj term).tests) parameters user) columns values
+  pub compared : AllZip (IsComparedWith (take (length columns) (out-BoundConj term).tests) parameters user)
+      columns values
 
 -- a key of the base table at a place by which a condition on its rows names one, and the values of its columns
-pub record IsKeyOn (place : ℕ) (own : BoundCond) (content : Content) (keys : List Keys) (parameters : List Value) (user : Name) (known : KnownKey) : Type 0 where
+pub record IsKeyOn (place : ℕ) (own : BoundCond) (content : Content) (keys : List Keys)
+    (parameters : List Value) (user : Name) (known : KnownKey) : Type 0 where
   pub table : place < length content
   pub key : known.key < length (keys_at keys place)
   pub by_key : IsNamedBy (key_at keys place known.key) own parameters user known.values
@@ -81,10 +89,13 @@ on_rows_of t = of_lines (t ∷ []) ∷ []
 -- a condition that may stand on the rows of a table, whatever rows the tables have
 abbrev pub StandsOn : TableKinds → List Kind → TablePlace → BoundCond → Type 0
 StandsOn columns parameters t own =
-    (rows_of : TablePlace → Outcome (List Row)) → WellFormedCond (by_place rows_of) (kinds_by_place columns parameters) (IsDeclaredAt parameters) (on_rows_of t) (cond_of [] own)
+    (rows_of : TablePlace → Outcome (List Row))
+    → WellFormedCond (by_place rows_of) (kinds_by_place columns parameters) (IsDeclaredAt parameters)
+    (on_rows_of t) (cond_of [] own)
 
--- the key that is noted for a target, on whose condition it is such a one
-pub record IsKeyOf (t : Target) (content : Content) (keys : List Keys) (parameters : List Value) (user : Name) (known : KnownKey) : Type 0 where
+-- the key that is noted for a target: by it the target's own condition names a row
+pub record IsKeyOf (t : Target) (content : Content) (keys : List Keys) (parameters : List Value) (user : Name)
+    (known : KnownKey) : Type 0 where
   pub own : BoundCond
   pub is_own : t.condition ≡ Some own
   pub is_key : t.key ≡ Some known.key

@@ -1,6 +1,6 @@
 -- Targets and query specifications that name a row by a key whose values are known in a call (own rule: then one row at most is read to
 -- find it; ISO/IEC 9075:1992 asks nothing of how rows are found).
-use Rattle.std.specs.Prelude.{◌≡◌, ℕ, true, false, get_or, slice_get, List, [], Some, Ok, Err}
+use Rattle.std.specs.Prelude.{◌≡◌, ℕ, true, false, get_or, slice_get, List, [], None, Some, Ok, Err}
 use Rattle.std.specs.List.{Contains}
 use Rattle.sq_lex.specs.declared.name.Name.{Name}
 use Rattle.sq_value.specs.SetFunctions.{is_null}
@@ -10,7 +10,8 @@ use Rattle.sq_meaning.specs.Environment.{Row}
 use Rattle.sq_meaning.specs.Expression as meaning
 use Rattle.sq_meaning.specs.Placed.{by_place}
 use Rattle.sq_meaning.specs.Status.{Outcome}
-use Rattle.sq_bound.specs.Condition.{select_of}
+use Rattle.sq_meaning.specs.Target.{has_subquery}
+use Rattle.sq_bound.specs.Condition.{cond_of, select_of}
 use Rattle.sq_bound.specs.Expression.{expr_of}
 use Rattle.sq_bound.specs.Keyed.{names_key}
 use Rattle.sq_bound.specs.declared.condition.BoundCond.{BoundCond, out-BoundCond}
@@ -34,19 +35,16 @@ IsKnownValue (Err status) = ⊥
 -- whatever the tests say that a column is equal to has such a value in a call with these values of parameters, whatever row there is
 abbrev pub AreKnownEqual : List BoundTest → List Value → Name → Type 0
 AreKnownEqual tests parameters user =
-    (tables : TablePlace → Outcome (List Row)) (test : BoundTest) (n : ℕ) (e : BoundExpr) → Contains tests test → IsEquality n e test
+    (tables : TablePlace → Outcome (List Row)) (test : BoundTest) (n : ℕ) (e : BoundExpr)
+    → Contains tests test → IsEquality n e test
     → IsKnownValue (meaning.value (by_place tables) (expr_of [] e) (outside [] parameters user))
 
 -- a key is noted for the target, and the tests that name its columns compare them with such values
 pub record IsKeyed (t : Target) (parameters : List Value) (user : Name) : Type 0 where
   pub key : ℕ
   pub is_noted : t.key ≡ Some key
-  pub known : (tests : List BoundTest) → AreKeyTests (get_or t.leaf.table.keys key []) t tests → AreKnownEqual tests parameters user
-
--- an UPDATE or DELETE whose target is so; a positioned one searches no row
-abbrev pub IsKeyedChange : ChangeTarget → List Value → Name → Type 0
-IsKeyedChange (target.Searched t) parameters user = IsKeyed t parameters user
-IsKeyedChange (target.Positioned p) parameters user = ⊥
+  pub known : (tests : List BoundTest) → AreKeyTests (get_or t.leaf.table.keys key []) t tests
+      → AreKnownEqual tests parameters user
 
 -- a condition on the rows of a base table with these keys names a row by one of them, and compares its columns with such values
 pub record IsKeyedBy (keys : Keys) (own : BoundCond) (parameters : List Value) (user : Name) : Type 0 where
@@ -56,14 +54,27 @@ pub record IsKeyedBy (keys : Keys) (own : BoundCond) (parameters : List Value) (
   pub named : names_key columns (out-BoundCond own).terms ≡ true
   pub known : (tests : List BoundTest) → AreFirstTests columns own tests → AreKnownEqual tests parameters user
 
--- so does a target's own condition, whether views are between or not
+-- a target's own condition names a row by a key with known values, whether views are between or not
 pub record IsKeyedUnder (t : Target) (parameters : List Value) (user : Name) : Type 0 where
   pub own : BoundCond
   pub is_own : t.condition ≡ Some own
   pub by_key : IsKeyedBy t.leaf.table.keys own parameters user
 
--- so does the WHERE clause of a query specification over one base table alone, no subquery of which reads a table
-pub record IsKeyedSelect (q : BoundSpecification) (keys : List Keys) (parameters : List Value) (user : Name) : Type 0 where
+-- A search for the rows of a target finds one by a key with known values: its own condition names a row by the key, the conditions of the views
+-- between are never a fault and, where binding noted no key, its own condition has no subquery.
+pub record IsKeyedTarget (t : Target) (parameters : List Value) (user : Name) : Type 0 where
+  pub under : IsKeyedUnder t parameters user
+  pub quiet_views : t.leaf.is_quiet ≡ true
+  pub plain : t.key ≡ None → has_subquery (cond_of [] under.own) ≡ false
+
+-- an UPDATE or DELETE over a target whose row is found by a key with known values; a positioned one searches no row
+abbrev pub IsKeyedChange : ChangeTarget → List Value → Name → Type 0
+IsKeyedChange (target.Searched t) parameters user = IsKeyedTarget t parameters user
+IsKeyedChange (target.Positioned p) parameters user = ⊥
+
+-- the WHERE clause of a query specification over one base table alone names a row by a key with known values, and no subquery reads a table
+pub record IsKeyedSelect (q : BoundSpecification) (keys : List Keys) (parameters : List Value)
+    (user : Name) : Type 0 where
   pub place : ℕ
   pub own : BoundCond
   pub over : IsOverBase q place

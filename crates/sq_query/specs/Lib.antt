@@ -1,3 +1,5 @@
+pub mod Around
+pub mod Inner
 pub mod Items
 pub mod Key
 pub mod Keyed

@@ -19,7 +19,9 @@ use Rattle.sq_expression.specs.declared.fault.Fault.TheVariants as fault
 
 -- The parameters have values of their kinds, the base tables that are known are in the store, whose rows are in the domains of
 -- their columns, and these are the tables that the store's rows and the views' queries make for the user.
-pub record MayRead (bases : List BaseTable) (queries : List BoundSpecification) (columns : TableKinds) (content : Content) (user : Name) (values : List Value) (parameters : List Kind) (tables : TablePlace → Outcome (List Row)) : Type 0 where
+pub record MayRead (bases : List BaseTable) (queries : List BoundSpecification) (columns : TableKinds)
+    (content : Content) (user : Name) (values : List Value) (parameters : List Kind)
+    (tables : TablePlace → Outcome (List Row)) : Type 0 where
   pub inputs : IsRowOf parameters values
   pub there : BasesAreThere bases columns
   pub in_domains : AreInDomains bases content

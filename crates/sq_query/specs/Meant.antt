@@ -5,7 +5,7 @@ use Rattle.sq_lex.specs.declared.name.Name.{Name}
 use Rattle.sq_value.specs.declared.value.Value.{Value}
 use Rattle.sq_store.specs.Content.{Content}
 use Rattle.sq_store.specs.Keys.{Keys}
-use Rattle.sq_bound.specs.Quiet.{are_sure}
+use Rattle.sq_bound.specs.Quiet.{are_quiet_conds}
 use Rattle.sq_bound.specs.declared.condition.BoundCond.{BoundCond}
 use Rattle.sq_bound.specs.declared.query.Target.{Target}
 use Rattle.sq_query.specs.Key.{IsKeyOn}
@@ -13,8 +13,9 @@ use Rattle.sq_query.specs.declared.key.KnownKey.{KnownKey}
 
 -- A key by which a target's own condition names a row of the base table, with its values, where the conditions of the views between are
 -- never a fault: on each row without the key they have a truth, and the own condition is false.
-pub record IsKeyUnder (t : Target) (content : Content) (keys : List Keys) (parameters : List Value) (user : Name) (known : KnownKey) : Type 0 where
+pub record IsKeyUnder (t : Target) (content : Content) (keys : List Keys) (parameters : List Value)
+    (user : Name) (known : KnownKey) : Type 0 where
   pub own : BoundCond
   pub is_own : t.condition ≡ Some own
-  pub sure : are_sure t.leaf.conditions ≡ true
+  pub sure : are_quiet_conds t.leaf.conditions ≡ true
   pub on : IsKeyOn t.base own content keys parameters user known

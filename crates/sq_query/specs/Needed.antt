@@ -19,7 +19,7 @@ use Rattle.sq_query.specs.declared.needed.Needed.{Needed}
 abbrev pub NeedsBases : List ℕ → Needed → Type 0
 NeedsBases places needed = (needed.bases.items ≡ places) × (needed.views.items ≡ [])
 
--- none
+-- no table at all
 abbrev pub NeedsNone : Needed → Type 0
 NeedsNone needed = NeedsBases [] needed
 
@@ -29,7 +29,8 @@ places_in needed = (needed.bases.items, needed.views.items)
 
 -- a place is there once
 abbrev pub with_place : List ℕ → ℕ → List ℕ
-with_place places place = if list_any (λ other. nat_eq other place) places then places else places ++ place ∷ []
+with_place places place =
+    if list_any (λ other. nat_eq other place) places then places else places ++ place ∷ []
 
 abbrev pub with_table : List ℕ × List ℕ → TablePlace → List ℕ × List ℕ
 with_table places (Base place) = (with_place places.0 place, places.1)
@@ -38,7 +39,7 @@ with_table places (View place) = (places.0, with_place places.1 place)
 -- ---- the tables that a tree reads, subqueries included
 
 module _ (P : TablePlace → Type 0) where
-  -- of each table that stands in a FROM clause P holds
+  -- P holds of each table in a FROM clause
   abbrev mutual
     pub ReadsCond : PlacedCond → Type 0
     ReadsCond (compare op a b) = ⊤
@@ -63,9 +64,10 @@ module _ (P : TablePlace → Type 0) where
     ReadsClause (present c) = ReadsCond c
 
     pub ReadsSelect : PlacedSelect → Type 0
-    ReadsSelect (select distinct list from filter by having) = AllByRecursion P from × ReadsClause filter × ReadsClause having
+    ReadsSelect (select distinct list from filter by having) =
+        AllByRecursion P from × ReadsClause filter × ReadsClause having
 
-  -- of each that stands in a subquery of a query specification
+  -- P holds of each table in a subquery of a query specification
   abbrev pub ReadsInside : PlacedSelect → Type 0
   ReadsInside (select distinct list from filter by having) = ReadsClause filter × ReadsClause having
 
@@ -73,45 +75,52 @@ module _ (P : TablePlace → Type 0) where
 
 -- the base tables that are known are there, and so is each table in the FROM clauses of a query specification, subqueries included
 abbrev pub FindsSelect : List BaseTable → TableKinds → BoundSpecification → Type 0
-FindsSelect bases columns s = BasesAreThere bases columns × ReadsSelect (λ t. HasValue (columns t)) (select_of s)
+FindsSelect bases columns s =
+    BasesAreThere bases columns × ReadsSelect (λ t. HasValue (columns t)) (select_of s)
 
--- of each query specification in a query expression
+-- each table in the FROM clauses of a query expression is there, and the base tables that are known are
 abbrev pub FindsQuery : List BaseTable → TableKinds → BoundQuery → Type 0
-FindsQuery bases columns q = BasesAreThere bases columns × AllByRecursion (λ s. ReadsSelect (λ t. HasValue (columns t)) (select_of s)) (specifications_of q)
+FindsQuery bases columns q =
+    BasesAreThere bases columns
+    × AllByRecursion (λ s. ReadsSelect (λ t. HasValue (columns t)) (select_of s)) (specifications_of q)
 
--- of the subqueries of conditions
+-- each table in the subqueries of a condition is there, and the base tables that are known are
 abbrev pub FindsCond : List BaseTable → TableKinds → BoundCond → Type 0
 FindsCond bases columns c = BasesAreThere bases columns × ReadsCond (λ t. HasValue (columns t)) (cond_of [] c)
 
 abbrev pub FindsConds : List BaseTable → TableKinds → List BoundCond → Type 0
-FindsConds bases columns cs = BasesAreThere bases columns × AllByRecursion (λ c. ReadsCond (λ t. HasValue (columns t)) (cond_of [] c)) cs
+FindsConds bases columns cs =
+    BasesAreThere bases columns
+    × AllByRecursion (λ c. ReadsCond (λ t. HasValue (columns t)) (cond_of [] c)) cs
 
 -- ---- the tables that are needed
 
--- a table is among them
+-- a table is needed
 abbrev pub IsNeeded : Needed → TablePlace → Type 0
 IsNeeded needed (Base place) = list_any (λ other. nat_eq other place) needed.bases.items ≡ true
 IsNeeded needed (View place) = list_any (λ other. nat_eq other place) needed.views.items ≡ true
 
--- each of them is there
+-- each table that is needed is known
 abbrev pub AreKnown : TableKinds → Needed → Type 0
 AreKnown columns needed = (t : TablePlace) → IsNeeded needed t → HasValue (columns t)
 
--- those of the one are among those of the other
+-- each table that was needed before still is
 abbrev pub NeedsMore : Needed → Needed → Type 0
 NeedsMore before after = (t : TablePlace) → IsNeeded before t → IsNeeded after t
 
--- the tables that the query of the view at a place reads are among them
+-- the tables that the query of the view at a place reads are needed
 abbrev pub IsClosedAt : List BoundSpecification → Needed → ℕ → Type 0
-IsClosedAt queries needed place = IfSome (slice_get queries place) (λ q. ReadsSelect (IsNeeded needed) (select_of q))
+IsClosedAt queries needed place =
+    IfSome (slice_get queries place) (λ q. ReadsSelect (IsNeeded needed) (select_of q))
 
--- the tables that the query of each view among them reads are among them
+-- the tables that the query of each needed view reads are needed
 abbrev pub IsClosed : List BoundSpecification → Needed → Type 0
 IsClosed queries needed = (place : ℕ) → IsNeeded needed (View place) → IsClosedAt queries needed place
 
 -- no view from this place on is added
 abbrev pub AddsBefore : ℕ → Needed → Needed → Type 0
-AddsBefore place before after = (later : ℕ) → place ≤ later → IsNeeded after (View later) → IsNeeded before (View later)
+AddsBefore place before after =
+    (later : ℕ) → place ≤ later → IsNeeded after (View later) → IsNeeded before (View later)
 
 -- ---- the tables of a tree, in the order in which they are added
 
@@ -139,9 +148,10 @@ abbrev mutual
   clause_tables (present c) = cond_tables c
 
   pub select_tables : PlacedSelect → List TablePlace
-  select_tables (select distinct list from filter by having) = from ++ (clause_tables filter ++ clause_tables having)
+  select_tables (select distinct list from filter by having) =
+      from ++ (clause_tables filter ++ clause_tables having)
 
--- those of the subqueries of a query specification
+-- the tables of the subqueries of a query specification
 abbrev pub inside_tables : PlacedSelect → List TablePlace
 inside_tables (select distinct list from filter by having) = clause_tables filter ++ clause_tables having
 

@@ -34,17 +34,21 @@ line_of (Some row) = row ∷ []
 -- the value of an expression on a line, or the status that it ends with; it reads no table, so they may be any
 abbrev pub HasValueOn : Result Value Fault → BoundExpr → Line → List Value → Name → Type 0
 HasValueOn result e line parameters user =
-    (tables : TablePlace → Outcome (List Row)) → Meets result (meaning.value (by_place tables) (expr_of [] e) (outside line parameters user))
+    (tables : TablePlace → Outcome (List Row))
+    → Meets result (meaning.value (by_place tables) (expr_of [] e) (outside line parameters user))
 
--- of a condition without a subquery: its truth on a line, or the status that it ends with
+-- a condition without a subquery: the result is its truth on a line, or the status that it ends with
 abbrev pub HasTruthOn : Result Truth Fault → BoundCond → Line → List Value → Name → Type 0
 HasTruthOn result c line parameters user =
     has_subquery (cond_of [] c) ≡ false
-    → (tables : TablePlace → Outcome (List Row)) → Meets result (truth (by_place tables) (cond_of [] c) (outside line parameters user))
+    → (tables : TablePlace → Outcome (List Row))
+    → Meets result (truth (by_place tables) (cond_of [] c) (outside line parameters user))
 
 -- the truth of a condition on a row, where the tables have these rows
-abbrev pub truth_on_row : (TablePlace → Outcome (List Row)) → List Value → Name → Row → BoundCond → Outcome Truth
-truth_on_row tables parameters user row c = truth (by_place tables) (cond_of [] c) (outside (row ∷ []) parameters user)
+abbrev pub truth_on_row : (TablePlace → Outcome (List Row)) → List Value → Name → Row → BoundCond
+    → Outcome Truth
+truth_on_row tables parameters user row c =
+    truth (by_place tables) (cond_of [] c) (outside (row ∷ []) parameters user)
 
 -- a well-formed condition on a row of a base table, which has values of the kinds of the table's columns
 pub record IsOnRow (columns : TableKinds) (parameters : List Kind) (row : Row) (c : BoundCond) : Type 0 where

@@ -32,7 +32,8 @@ use Rattle.sq_query.specs.declared.view.Tables.{Tables}
 
 -- a base table by its place
 abbrev pub table_there : Content → ℕ → Outcome Table
-table_there content place = if nat_lt place (length content) then Ok (table_at content place) else not_well_formed
+table_there content place =
+    if nat_lt place (length content) then Ok (table_at content place) else not_well_formed
 
 abbrev pub numbered_row : ℕ × Bor Row → Numbered
 numbered_row found = record { number = found.0; row = found.1.now }
@@ -71,28 +72,35 @@ rows_of_view tables user q = rows (by_place tables) (select_of q) (outermost [] 
 
 -- What the tables mean that a statement of this user reads: a base table has the rows of the store, and a view those of its query,
 -- which reads no parameter (11.19).
-pub record AreMeant (queries : List BoundSpecification) (content : Content) (user : Name) (tables : TablePlace → Outcome (List Row)) : Type 0 where
+pub record AreMeant (queries : List BoundSpecification) (content : Content) (user : Name)
+    (tables : TablePlace → Outcome (List Row)) : Type 0 where
   pub bases : AreOfStore content tables
-  pub views : (place : ℕ) → tables (View place) ≡ (well_formed (slice_get queries place) >>= rows_of_view tables user)
+  pub views : (place : ℕ) → tables (View place)
+      ≡ (well_formed (slice_get queries place) >>= rows_of_view tables user)
 
 -- the rows of the tables among these, as they were read
 abbrev pub rows_among : List BaseRows → List ViewRows → TablePlace → Outcome (List Row)
-rows_among bases views (Base place) = well_formed (find (λ t. nat_eq t.place place) bases) >>= λ t. Ok (lent t.rows.items)
-rows_among bases views (View place) = well_formed (find (λ t. nat_eq t.place place) views) >>= λ t. view_outcome t.rows.items t.failure
+rows_among bases views (Base place) =
+    well_formed (find (λ t. nat_eq t.place place) bases) >>= λ t. Ok (lent t.rows.items)
+rows_among bases views (View place) =
+    well_formed (find (λ t. nat_eq t.place place) views) >>= λ t. view_outcome t.rows.items t.failure
 
 abbrev pub rows_read : Tables → TablePlace → Outcome (List Row)
 rows_read tables = rows_among tables.bases.items tables.views.items
 
 -- What is needed can be read: its tables are known and what their views need is there, too, a view has the rows of its
 -- query, and no known table ends with 42000.
-pub record CanBeRead (columns : TableKinds) (queries : List BoundSpecification) (user : Name) (needed : Needed) (tables : TablePlace → Outcome (List Row)) : Type 0 where
+pub record CanBeRead (columns : TableKinds) (queries : List BoundSpecification) (user : Name)
+    (needed : Needed) (tables : TablePlace → Outcome (List Row)) : Type 0 where
   pub known : AreKnown columns needed
   pub closed : IsClosed queries needed
-  pub views : (place : ℕ) → tables (View place) ≡ (well_formed (slice_get queries place) >>= rows_of_view tables user)
+  pub views : (place : ℕ) → tables (View place)
+      ≡ (well_formed (slice_get queries place) >>= rows_of_view tables user)
   pub right : (t : TablePlace) → HasValue (columns t) → IsRight (tables t)
 
 -- each table that is needed was read as it is meant
-abbrev pub ReadsAsMeant : Needed → (TablePlace → Outcome (List Row)) → (TablePlace → Outcome (List Row)) → Type 0
+abbrev pub ReadsAsMeant : Needed → (TablePlace → Outcome (List Row)) → (TablePlace → Outcome (List Row))
+    → Type 0
 ReadsAsMeant needed found tables = (at : TablePlace) → IsNeeded needed at → found at ≡ tables at
 
 -- ---- kinds
@@ -116,4 +124,6 @@ AreViewsOf columns views = AllByRecursion (IsViewOf columns) views
 
 -- a view at its place has the columns of its query, which reads earlier views alone (11.19)
 abbrev pub IsViewAt : TableKinds → ℕ → BoundView → Type 0
-IsViewAt columns place view = IsSelect (before_view place columns) [] [] view.query × (columns (View place) ≡ Ok (kinds_of_select view.query))
+IsViewAt columns place view =
+    IsSelect (before_view place columns) [] [] view.query
+    × (columns (View place) ≡ Ok (kinds_of_select view.query))

@@ -42,7 +42,9 @@ abbrev pub IsReadAs : (TablePlace → Outcome (List Row)) → Context → BoundS
 IsReadAs tables context s = ReadsSelect (λ t. table_rows context t ≡ tables t) (select_of s)
 
 -- what query specifications outside every query read: tables that fit, and parameters of their kinds
-pub record MayReadAs (columns : TableKinds) (parameters : List Kind) (tables : TablePlace → Outcome (List Row)) (context : Context) (specifications : List BoundSpecification) : Type 0 where
+pub record MayReadAs (columns : TableKinds) (parameters : List Kind)
+    (tables : TablePlace → Outcome (List Row)) (context : Context)
+    (specifications : List BoundSpecification) : Type 0 where
   pub fitting : AreFitting columns tables
   pub inputs : IsRowOf parameters context.parameters.now
   pub well : AllByRecursion (IsSelect columns parameters []) specifications
@@ -53,16 +55,20 @@ pub record MayReadAs (columns : TableKinds) (parameters : List Kind) (tables : T
 -- the rows of a well-formed query expression outside every query
 abbrev pub HasUnionRows : Result (Vec (List Value) Global) Fault → BoundQuery → Context → Type 0
 HasUnionRows result query context =
-    (columns : TableKinds) (parameters : List Kind) (tables : TablePlace → Outcome (List Row)) → MayReadAs columns parameters tables context (specifications_of query)
+    (columns : TableKinds) (parameters : List Kind) (tables : TablePlace → Outcome (List Row))
+    → MayReadAs columns parameters tables context (specifications_of query)
     → joined_kinds query ≡ Ok (kinds_of_query query)
-    → HasRows result (query_rows (by_place tables) (kinds_by_place columns parameters) (query_of query) (env_around None context))
+    → HasRows result (query_rows (by_place tables) (kinds_by_place columns parameters) (query_of query)
+    (env_around None context))
 
--- those of a term
+-- the rows of a well-formed term outside every query
 abbrev pub HasTermRows : Result (Vec (List Value) Global) Fault → BoundTerm → Context → Type 0
 HasTermRows result term context =
-    (columns : TableKinds) (parameters : List Kind) (tables : TablePlace → Outcome (List Row)) → MayReadAs columns parameters tables context (term_specifications term)
+    (columns : TableKinds) (parameters : List Kind) (tables : TablePlace → Outcome (List Row))
+    → MayReadAs columns parameters tables context (term_specifications term)
     → (kinds : List Kind) → term_kinds term ≡ Ok kinds
-    → HasRows result (query_rows (by_place tables) (kinds_by_place columns parameters) (term_of term) (env_around None context))
+    → HasRows result (query_rows (by_place tables) (kinds_by_place columns parameters) (term_of term)
+    (env_around None context))
 
 -- a query expression is this query specification, without UNION
 abbrev pub IsOnly : BoundQuery → BoundSpecification → Type 0
@@ -83,7 +89,8 @@ AreBringable kinds = AllByRecursion (IsBringable kinds)
 
 -- all brought to their common kinds; without ALL each row at its first occurrence
 abbrev pub joined_rows : Bool → List Kind → List Row → Outcome (List Row)
-joined_rows all kinds found = each (row_brought_to kinds) found >>= λ joined. Ok (if all then joined else firsts same_row joined)
+joined_rows all kinds found =
+    each (row_brought_to kinds) found >>= λ joined. Ok (if all then joined else firsts same_row joined)
 
 -- ---- UNION after UNION
 
@@ -105,10 +112,12 @@ rows_left u rows = rows_behind (Some u) rows.items
 
 -- The right rows are joined to the left ones, of which repeats may be left. What the UNION means of them all is what it means of the left ones that
 -- the UNION before means, and of the right ones; and all are brought to its columns.
-abbrev pub IsJoinedTo : Option BoundUnion → BoundUnion → List Row → List Row → Result (Vec (List Value) Global) Fault → Type 0
+abbrev pub IsJoinedTo : Option BoundUnion → BoundUnion → List Row → List Row
+    → Result (Vec (List Value) Global) Fault → Type 0
 IsJoinedTo before u left right result =
     WereJoined before left → AreBringable (kinds_of_results u.columns) (rows_behind before left ++ right)
-    → (MeetsAs (rows_left u) result (joined_rows u.all (kinds_of_results u.columns) (rows_behind before left ++ right)))
+    → (MeetsAs (rows_left u) result
+    (joined_rows u.all (kinds_of_results u.columns) (rows_behind before left ++ right)))
     × (IfOk result (λ rows. AreBrought (kinds_of_results u.columns) rows.items))
 
 -- what was brought to the one kind is the same where it is brought to the other: a varying text is as it is

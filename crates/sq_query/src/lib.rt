@@ -6,6 +6,8 @@
 //! (`specs/WellFormed.antt` of `sq_bound`), and no public call ends so for what is well formed.
 #![tactic(auto)]
 
+mod around;
+mod inner;
 mod inputs;
 mod item_key;
 mod items;
@@ -13,13 +15,16 @@ mod key;
 mod meant;
 mod needed;
 mod order;
+mod plain_view;
 mod row;
+mod scan;
 mod search;
 mod shown;
 mod table;
 mod target;
 mod union;
 mod view;
+mod view_key;
 
 pub use inputs::Inputs;
 pub use key::KnownKey;

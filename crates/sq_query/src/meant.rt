@@ -1,27 +1,30 @@
 //! The rows of a base table that a target means: found by a key, or by a search over all rows.
 
-ghost use Rattle.std.specs.Prelude.{◌≡◌, ◌<◌, ◌≤◌, ◌+◌, ◌∷◌, [], List, false, if◌then◌else◌, length, map, IfErr, IfOk, IfSome, IsSome, true};
+ghost use Rattle.std.specs.Prelude.{◌≡◌, ◌<◌, ◌≤◌, ◌+◌, ◌∷◌, [], List, false, if◌then◌else◌, length, map, IfErr, IfOk, IfSome, IsSome, None, true};
 ghost use Rattle.sq_value.specs.declared.domain.Kind.{Kind};
 ghost use Rattle.sq_value.specs.declared.value.Value.{Value as AnyValue};
 ghost use Rattle.sq_store.specs.Content.{table_at};
 ghost use Rattle.sq_store.specs.Keys.{keys_at};
 ghost use Rattle.sq_meaning.specs.Status.{Outcome, and_then};
+ghost use Rattle.sq_meaning.specs.Target.{has_subquery};
 ghost use Rattle.sq_meaning.specs.WellFormed.{IsRowOf};
+ghost use Rattle.sq_bound.specs.Condition.{cond_of};
 ghost use Rattle.sq_bound.specs.Fits.{IsBase, keys_of_bases, not_nulls_hold};
 ghost use Rattle.sq_bound.specs.WellFormed.{IsTarget, TableKinds};
 ghost use Rattle.sq_bound.specs.declared.condition.TablePlace.{TablePlace};
 ghost use Rattle.sq_expression.specs.Fault.{MeetsAs};
-ghost use Rattle.sq_query.specs.Keyed.{IsKeyed, IsKeyedUnder};
+ghost use Rattle.sq_query.specs.Keyed.{IsKeyedTarget, IsKeyedUnder};
 ghost use Rattle.sq_query.specs.MayRead.{MayEnd, MayRead};
 ghost use Rattle.sq_query.specs.Meant.{IsKeyUnder};
 ghost use Rattle.sq_query.specs.Needed.{FindsConds};
 ghost use Rattle.sq_query.specs.Table.{numbered_in, numbered_row, stored_numbered};
-ghost use Rattle.sq_query.specs.Target.{AreNumbersOf, AreRowsThere, conditions_of, is_true_of, numbers_chosen, numbers_in, rows_of_target};
+ghost use Rattle.sq_query.specs.Target.{AreNumbersOf, AreRowsThere, HasTargetRows, conditions_of, is_true_of, numbers_chosen, numbers_in};
 
 use crate::inputs::Inputs;
 use crate::key::{KnownKey, known_key, shortest_known_key};
 use crate::needed::Needed;
-use crate::target::{meets_target, rows_by_scan};
+use crate::scan::rows_by_scan;
+use crate::target::meets_target;
 use sq_bound::{BoundCond, Names, Target};
 use sq_expression::{Context, Fault};
 use sq_store::{Meter, Store};
@@ -45,14 +48,9 @@ pub fn rows_of<'a, N: Names, S: Store>(
     requires base { IsBase (N.base_tables names.now) target.now.leaf.table }
     requires keys { S.key_columns store.now ≡ keys_of_bases (N.base_tables names.now) }
     requires not_null { not_nulls_hold (N.base_tables names.now) (S.content_now store.now) ≡ true }
-    ensures meant { (parameters : List Kind) (tables : TablePlace → Outcome (List (List AnyValue)))
-        → MayRead (N.base_tables names.now) (N.view_queries names.now) (N.column_kinds names.now)
-        (S.content_now store.now)
-        inputs.entry.user inputs.entry.parameters.now parameters tables
-        → IsTarget (N.column_kinds names.now) parameters target.now
-        → MeetsAs numbered_in result
-        (rows_of_target tables (S.content_now store.now) inputs.entry.parameters.now inputs.entry.user
-        target.now) }
+    ensures meant { HasTargetRows result (N.base_tables names.now) (N.view_queries names.now)
+        (N.column_kinds names.now) (S.content_now store.now) inputs.entry.user inputs.entry.parameters.now
+        target.now }
     ensures there { (parameters : List Kind) (tables : TablePlace → Outcome (List (List AnyValue)))
         → MayRead (N.base_tables names.now) (N.view_queries names.now) (N.column_kinds names.now)
         (S.content_now store.now)
@@ -66,7 +64,7 @@ pub fn rows_of<'a, N: Names, S: Store>(
         inputs.entry.user inputs.entry.parameters.now parameters tables
         → IsTarget (N.column_kinds names.now) parameters target.now
         → IfErr result MayEnd }
-    ensures read { IsKeyed target.now inputs.entry.parameters.now inputs.entry.user
+    ensures read { IsKeyedTarget target.now inputs.entry.parameters.now inputs.entry.user
         → meter.new ≤ meter.old + 1 }
 {
     let call = Context {
@@ -121,7 +119,7 @@ pub fn numbers_of<N: Names, S: Store>(
         inputs.entry.user inputs.entry.parameters.now parameters tables
         → IsTarget (N.column_kinds names.now) parameters target.now
         → IfErr result MayEnd }
-    ensures read { IsKeyed target.now inputs.entry.parameters.now inputs.entry.user
+    ensures read { IsKeyedTarget target.now inputs.entry.parameters.now inputs.entry.user
         → meter.new ≤ meter.old + 1 }
 {
     let lent = Inputs {
@@ -132,8 +130,8 @@ pub fn numbers_of<N: Names, S: Store>(
     numbers(alloc, rows.as_slice())
 }
 
-/// The key by which a target names a row of the base table, through views too, with its values in a call: none where it names none so, or
-/// one of the values is null. The target means no row that lacks it.
+/// The key by which a target names a row of the base table, through views too, with its values in a call: `None` if it names no
+/// row by a key, or one of the values is null. The target means no row that lacks it.
 pub fn key_of<S: Store>(
     alloc: Global,
     target: &Target,
@@ -172,10 +170,8 @@ fn key_under<S: Store>(
     ensures known { IfOk result
         (λ found. IfSome found (IsKeyUnder target.now (S.content_now store.now) (S.key_columns store.now)
         call.now.parameters.now call.now.user)) }
-    ensures noted { IfOk result
-        (λ found. IsKeyed target.now call.now.parameters.now call.now.user → IsSome found) }
-    ensures found { target.now.is_quiet ≡ true → IfOk result
-        (λ found. IsKeyedUnder target.now call.now.parameters.now call.now.user → IsSome found) }
+    ensures found { IfOk result
+        (λ found. IsKeyedTarget target.now call.now.parameters.now call.now.user → IsSome found) }
     ensures memory { (columns : TableKinds) (parameters : List Kind) → IsTarget columns parameters target.now
         → IsRowOf parameters call.now.parameters.now → IfErr result (λ fault. fault ≡ Fault.NoMemory) }
 {
@@ -185,7 +181,7 @@ fn key_under<S: Store>(
     }
 }
 
-/// The shortest key by which a target's own condition names a row of the base table, with its values: none where the condition of a
+/// The shortest key by which a target's own condition names a row of the base table, with its values: `None` if the condition of a
 /// view between may end with a status on another row, or the own one has a subquery, the rows of whose tables are counted.
 fn key_through_views<S: Store>(
     target: &Target,
@@ -197,8 +193,8 @@ fn key_through_views<S: Store>(
     ensures known { IfOk result
         (λ found. IfSome found (IsKeyUnder target.now (S.content_now store.now) (S.key_columns store.now)
         call.now.parameters.now call.now.user)) }
-    ensures found { target.now.is_quiet ≡ true → IfOk result
-        (λ found. IsKeyedUnder target.now call.now.parameters.now call.now.user → IsSome found) }
+    ensures found { target.now.key ≡ None → IfOk result
+        (λ found. IsKeyedTarget target.now call.now.parameters.now call.now.user → IsSome found) }
     ensures memory { (columns : TableKinds) (parameters : List Kind) → IsTarget columns parameters target.now
         → IsRowOf parameters call.now.parameters.now → IfErr result (λ fault. fault ≡ Fault.NoMemory) }
 {
@@ -218,7 +214,8 @@ fn key_through_views<S: Store>(
 /// Whether the conditions of the views between are never a fault, and the target's own has no subquery.
 fn may_look_up(alloc: Global, target: &Target, own: &BoundCond) -> Result<bool, AllocError>
     ensures views { IfOk result (λ may. may ≡ true → target.now.leaf.is_quiet ≡ true) }
-    ensures quiet { target.now.is_quiet ≡ true → IfOk result (λ may. may ≡ true) }
+    ensures plain { target.now.leaf.is_quiet ≡ true → has_subquery (cond_of [] own.now) ≡ false
+        → IfOk result (λ may. may ≡ true) }
 {
     if target.is_quiet {
         return Ok(true);
@@ -247,17 +244,14 @@ fn rows_by_key<'a, N: Names, S: Store>(
     requires not_null { not_nulls_hold (N.base_tables names.now) (S.content_now store.now) ≡ true }
     requires finds { FindsConds (N.base_tables names.now) (N.column_kinds names.now)
         (conditions_of target.now) }
-    ensures meant { (parameters : List Kind) (tables : TablePlace → Outcome (List (List AnyValue)))
-        → MayRead (N.base_tables names.now) (N.view_queries names.now) (N.column_kinds names.now)
-        (S.content_now store.now) call.now.user
-        call.now.parameters.now parameters tables → IsTarget (N.column_kinds names.now) parameters target.now
-        → MeetsAs numbered_in result
-        (rows_of_target tables (S.content_now store.now) call.now.parameters.now call.now.user target.now) }
+    ensures meant { HasTargetRows result (N.base_tables names.now) (N.view_queries names.now)
+        (N.column_kinds names.now) (S.content_now store.now) call.now.user call.now.parameters.now
+        target.now }
     ensures read { meter.new ≤ meter.old + 1 }
 {
     match store.find_key(target.base, known.key, &known.values, meter) {
         Some(found) => {
-            let is_chosen = meets_target(&*names, &*target, &*found.1, &*store, &*call)?;
+            let is_chosen = meets_target(&*names, &*target, &*found.1, true, &*store, &*call)?;
             row_if(call.alloc, is_chosen, found)
         }
         None => Ok(Vec::new(call.alloc)),

@@ -9,13 +9,18 @@ ghost use Rattle.sq_bound.specs.Joined.{specifications_of, term_specifications};
 ghost use Rattle.sq_bound.specs.WellFormed.{BasesAreThere, TableKinds};
 ghost use Rattle.sq_meaning.specs.Target.{has_subquery, clause_has_subquery};
 ghost use Rattle.sq_query.specs.Needed.{Adds, AddsBefore, AreKnown, IsClosed, IsClosedAt, IsNeeded, NeedsMore, ReadsCond, ReadsInside, ReadsSelect, NeedsNone, clause_tables, cond_tables, inside_tables, places_in, specification_tables, specifications_tables, with_place, with_table};
+ghost use Rattle.sq_query.specs.Inner.{around_tables, tests_tables};
+ghost use Rattle.sq_query.specs.Items.{is_left};
 ghost use Rattle.sq_query.specs.Table.{IsViewAt};
+ghost use Rattle.sq_bound.specs.declared.condition.TablePlace.{TablePlace as AnyPlace};
 ghost use Rattle.sq_bound.specs.declared.condition.TablePlace.TheVariants as at_place;
 
+use crate::items::is_found;
 use sq_bound::{
-    BoundCond, BoundConj, BoundQuery, BoundSpecification, BoundTerm, Names, Predicate, TableBody,
-    TablePlace, View,
+    BoundCond, BoundConj, BoundQuery, BoundSpecification, BoundTerm, BoundTest, Names, Predicate,
+    TableBody, TablePlace, View,
 };
+use sq_expression::BaseRows;
 use std::alloc::{AllocError, Global};
 
 /// The places of the base tables and views that stand in FROM clauses, subqueries and views included.
@@ -104,6 +109,25 @@ impl Needed {
         }
     }
 
+    /// Whether there are none.
+    pub(crate) fn is_empty(&self) -> bool
+        ensures none { result ≡ true → NeedsNone self.now }
+        ensures some { result ≡ false → NeedsNone self.now → ⊥ }
+    {
+        self.bases.is_empty() && self.views.is_empty()
+    }
+
+    /// Those of them whose rows were not found.
+    pub(crate) fn without(mut self, found: &[BaseRows<'_>]) -> Needed
+        ensures none { NeedsNone self → NeedsNone result }
+        ensures fewer { (table : AnyPlace) → IsNeeded result table → IsNeeded self table }
+        ensures left { (table : AnyPlace) → IsNeeded self table → is_left found.now table ≡ true
+            → IsNeeded result table }
+    {
+        self.bases.retain(|base| !is_found(*base, found));
+        self
+    }
+
     /// No view stands behind this place.
     pub(crate) fn last_view(&self) -> usize
         ensures { (place : ℕ) → IsNeeded self.now (at_place.View place) → place ≤ result }
@@ -148,6 +172,36 @@ impl Needed {
         ensures closed { OnOk result (IsClosedAt (N.view_queries names.now) self.new place) }
     {
         self.add_of_specification(&view_at(names, place).query)
+    }
+
+    /// Adds the tables of a query specification but those of the subqueries of its WHERE clause.
+    pub(crate) fn add_around(&mut self, query: &BoundSpecification) -> Result<(), AllocError>
+        ensures { OnOk result (Adds self.old (around_tables (select_of query.now)) self.new) }
+    {
+        self.add_each(query.from.tables.as_slice())?;
+        match &query.grouping {
+            Some(grouping) => self.add_of_optional(&grouping.having),
+            None => Ok(()),
+        }
+    }
+
+    fn add_each(&mut self, tables: &[TablePlace]) -> Result<(), AllocError>
+        ensures { OnOk result (Adds self.old tables.now self.new) }
+    {
+        for table in tables {
+            self.add(*table)?;
+        }
+        Ok(())
+    }
+
+    /// Adds the tables of the subqueries of tests.
+    pub(crate) fn add_of_each(&mut self, tests: &[BoundTest]) -> Result<(), AllocError>
+        ensures { OnOk result (Adds self.old (tests_tables tests.now) self.new) }
+    {
+        for test in tests {
+            self.add_of_predicate(&test.predicate)?;
+        }
+        Ok(())
     }
 
     pub(crate) fn add(&mut self, table: TablePlace) -> Result<(), AllocError>

@@ -140,7 +140,7 @@ pub(crate) fn view_rows<'a>(
     outcome_of_view(alloc, place, outermost_rows(&view.query, &context))
 }
 
-/// What a view's query ended with. Want of memory is no outcome.
+/// What a view's query ended with, unless memory ran out.
 fn outcome_of_view(
     alloc: Global,
     place: usize,

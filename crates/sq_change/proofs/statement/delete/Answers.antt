@@ -8,7 +8,7 @@ use Rattle.sq_change.specs.Statement.{without}
 use Rattle.sq_change.proofs.Applied.{removed_few}
 use Rattle.sq_change.proofs.Domains.{removals_in}
 use Rattle.sq_change.proofs.Endings.{ends_so}
-use Rattle.sq_change.proofs.Obeyed.{not_nulls_of}
+use Rattle.sq_change.proofs.Obeyed.{keeps_tables}
 use Rattle.sq_change.proofs.OnRows.{leaf_well}
 use Rattle.sq_change.proofs.Outcomes.{stops_as}
 use Rattle.sq_change.proofs.Performed.{delete_meets}
@@ -20,10 +20,10 @@ complete-requires-clause-domains g c = removals_in _ c.args.target.now c.args.on
 pub complete-requires-clause-numbers : goal.complete-requires-clause-numbers
 complete-requires-clause-numbers g c = removed_few _ c.args.target.now c.args.on c.in_ok-changed.changed.changes.items _ c.in_ok-changed.ensures.removals
 
-pub deleted-requires-clause-not_null : goal.deleted-requires-clause-not_null
-deleted-requires-clause-not_null g c =
+pub deleted-requires-clause-kept : goal.deleted-requires-clause-kept
+deleted-requires-clause-kept g c =
     let is = c.new-setting.ensures in
-    rw (is.names, is.store) (not_nulls_of (g.N.Names.base_tables c.args.names.now) (g.S.Store.content_now c.args.store.now) c.requires.constraints)
+    rw (is.names, is.store) (keeps_tables (g.N.Names.base_tables c.args.names.now) (g.S.Store.content_now c.args.store.now) (g.S.Store.key_columns c.args.store.now) c.requires.tables c.requires.in_domains c.requires.keys c.requires.constraints)
 
 pub deleted-requires-clause-may : goal.deleted-requires-clause-may
 deleted-requires-clause-may g c = let is = c.new-setting.ensures in rw (is.names, is.store, is.user, is.parameters) c.requires.may

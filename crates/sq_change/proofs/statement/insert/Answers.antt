@@ -6,7 +6,7 @@ use Rattle.sq_change.specs.Constraints.{completed}
 use Rattle.sq_change.specs.Made.{Seen, rows_inserted, seen_by}
 use Rattle.sq_change.specs.Statement.{with_rows}
 use Rattle.sq_change.proofs.Held.{is_there}
-use Rattle.sq_change.proofs.Obeyed.{not_nulls_of}
+use Rattle.sq_change.proofs.Obeyed.{keeps_tables}
 use Rattle.sq_change.proofs.Outcomes.{stops_as}
 use Rattle.sq_change.proofs.Performed.{insert_meets}
 use Rattle.sq_change.proofs.statement.insert.Goals as goal
@@ -16,10 +16,10 @@ inserted-requires-clause-place g c =
     let table = c.args.insert.now.leaf.table in
     rw c.new-setting.ensures.store (is_there (g.N.Names.base_tables c.args.names.now) (g.S.Store.content_now c.args.store.now) table.place table c.requires.tables c.requires.base)
 
-pub inserted-requires-clause-not_null : goal.inserted-requires-clause-not_null
-inserted-requires-clause-not_null g c =
+pub inserted-requires-clause-kept : goal.inserted-requires-clause-kept
+inserted-requires-clause-kept g c =
     let is = c.new-setting.ensures in
-    rw (is.names, is.store) (not_nulls_of (g.N.Names.base_tables c.args.names.now) (g.S.Store.content_now c.args.store.now) c.requires.constraints)
+    rw (is.names, is.store) (keeps_tables (g.N.Names.base_tables c.args.names.now) (g.S.Store.content_now c.args.store.now) (g.S.Store.key_columns c.args.store.now) c.requires.tables c.requires.in_domains c.requires.keys c.requires.constraints)
 
 pub complete-requires-clause-leaf : goal.complete-requires-clause-leaf
 complete-requires-clause-leaf g c = rw c.get-leaf.ensures c.requires.leaf

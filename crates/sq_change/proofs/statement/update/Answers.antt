@@ -8,7 +8,7 @@ use Rattle.sq_change.specs.Made.{Seen, seen_by}
 use Rattle.sq_change.specs.Statement.{update_made, with_replaced}
 use Rattle.sq_change.proofs.Applied.{replaced_few}
 use Rattle.sq_change.proofs.Endings.{ends_so}
-use Rattle.sq_change.proofs.Obeyed.{not_nulls_of}
+use Rattle.sq_change.proofs.Obeyed.{keeps_tables}
 use Rattle.sq_change.proofs.OnRows.{leaf_well}
 use Rattle.sq_change.proofs.Outcomes.{stops_as}
 use Rattle.sq_change.proofs.Performed.{update_meets}
@@ -17,10 +17,10 @@ use Rattle.sq_change.proofs.statement.update.Goals as goal
 pub complete-requires-clause-numbers : goal.complete-requires-clause-numbers
 complete-requires-clause-numbers g c = replaced_few _ c.args.update.now c.args.on c.in_ok-changed.changed.changes.items _ c.in_ok-changed.ensures.replacements
 
-pub updated-requires-clause-not_null : goal.updated-requires-clause-not_null
-updated-requires-clause-not_null g c =
+pub updated-requires-clause-kept : goal.updated-requires-clause-kept
+updated-requires-clause-kept g c =
     let is = c.new-setting.ensures in
-    rw (is.names, is.store) (not_nulls_of (g.N.Names.base_tables c.args.names.now) (g.S.Store.content_now c.args.store.now) c.requires.constraints)
+    rw (is.names, is.store) (keeps_tables (g.N.Names.base_tables c.args.names.now) (g.S.Store.content_now c.args.store.now) (g.S.Store.key_columns c.args.store.now) c.requires.tables c.requires.in_domains c.requires.keys c.requires.constraints)
 
 pub updated-requires-clause-may : goal.updated-requires-clause-may
 updated-requires-clause-may g c = let is = c.new-setting.ensures in rw (is.names, is.store, is.user, is.parameters) c.requires.may

@@ -34,7 +34,7 @@ updated_row-requires-clause-columns g c =
     let there = all_at (λ (f : Found). row_at (table_at content table.place) f.0 ≡ Some (numbered_row f)) c.args.rows.now c.loop-found.found-index found
     (all_unmapped (λ (r : Numbered). row_at (table_at content table.place) r.number ≡ Some r) numbered_row c.args.rows.now c.requires.there) c.loop-found-test.true c.found-item.is in
     let wide : length found.1.now ≡ length table.columns
-    = row_at_wide (g.N.Names.base_tables setting.names.now) content table found.0 found.1.now c.requires.tables c.requires.base there in
+    = row_at_wide (g.N.Names.base_tables setting.names.now) content table found.0 found.1.now c.requires.kept.tables c.requires.base there in
     rw wide c.requires.columns
 
 pub updated_row-requires-clause-assignable : goal.updated_row-requires-clause-assignable
@@ -46,7 +46,7 @@ updated_row-requires-clause-assignable g c =
     let there = all_at (λ (f : Found). row_at (table_at content table.place) f.0 ≡ Some (numbered_row f)) c.args.rows.now c.loop-found.found-index found
     (all_unmapped (λ (r : Numbered). row_at (table_at content table.place) r.number ≡ Some r) numbered_row c.args.rows.now c.requires.there) c.loop-found-test.true c.found-item.is in
     let is : IsRowIn table.columns found.1.now
-    = row_at_in (g.N.Names.base_tables setting.names.now) content table found.0 found.1.now c.requires.in_domains c.requires.base there in
+    = row_at_in (g.N.Names.base_tables setting.names.now) content table found.0 found.1.now c.requires.kept.in_domains c.requires.base there in
     assigns (g.N.Names.column_kinds setting.names.now) setting.parameters.now setting.user table c.args.assignments.now found.1.now c.requires.assigned
     (g.met.N.Names.kinds_of_bases setting.names.now table.place table c.requires.base) is
 
@@ -69,9 +69,9 @@ loop-found-preserved g c =
     let there = all_at (λ (f : Found). row_at (table_at content table.place) f.0 ≡ Some (numbered_row f)) rows i found
     (all_unmapped (λ (r : Numbered). row_at (table_at content table.place) r.number ≡ Some r) numbered_row rows c.requires.there) c.loop-found-test.true c.found-item.is in
     let wide : length found.1.now ≡ length table.columns
-    = row_at_wide (g.N.Names.base_tables setting.names.now) content table found.0 found.1.now c.requires.tables c.requires.base there in
+    = row_at_wide (g.N.Names.base_tables setting.names.now) content table found.0 found.1.now c.requires.kept.tables c.requires.base there in
     let is : IsRowIn table.columns found.1.now
-    = row_at_in (g.N.Names.base_tables setting.names.now) content table found.0 found.1.now c.requires.in_domains c.requires.base there in
+    = row_at_in (g.N.Names.base_tables setting.names.now) content table found.0 found.1.now c.requires.kept.in_domains c.requires.base there in
     let s : Seen = seen_by (g.N.Names.view_queries setting.names.now) content setting.user setting.parameters.now in
     let t = table_at s.tables table.place in
     record {

@@ -102,7 +102,7 @@ only_row-requires-clause-place g c =
     let setting = c.args.setting.now in
     let content = g.S.Store.content_now setting.store.now in
     let leaf = under c.args.target.now in
-    rw (c.get.ensures, c.leaf_under.ensures) (is_there (g.N.Names.base_tables setting.names.now) content leaf.table.place leaf.table c.requires.tables c.requires.base)
+    rw (c.get.ensures, c.leaf_under.ensures) (is_there (g.N.Names.base_tables setting.names.now) content leaf.table.place leaf.table c.requires.kept.tables c.requires.base)
 
 pub only_row-requires-clause-there : goal.only_row-requires-clause-there
 only_row-requires-clause-there g c =

@@ -67,7 +67,7 @@ returns-in_err-known-clause-right g c = λ parameters tables may well.
     (handed_memory c.from_residual.result c.in_err-known.field-0.0 c.from_residual.ensures.1 (c.in_err-known.ensures.memory (g.N.Names.column_kinds c.args.names.now) parameters well may.inputs))
 
 pub returns-in-None-clause-read : goal.returns-in-None-clause-read
-returns-in-None-clause-read g c = λ keyed. absurd (not_none c.in_ok-known.field-0 c.in-None.is (c.in_ok-known.ensures.noted keyed))
+returns-in-None-clause-read g c = λ keyed. absurd (not_none c.in_ok-known.field-0 c.in-None.is (c.in_ok-known.ensures.found keyed))
 
 pub returns-in_err-known-clause-read : goal.returns-in_err-known-clause-read
 returns-in_err-known-clause-read g c = λ keyed. omega arith

@@ -4,7 +4,8 @@ use Rattle.sq_store.specs.declared.table.Table.{Table}
 use Rattle.sq_meaning.specs.Status.{Outcome, and_then}
 use Rattle.sq_meaning.specs.Environment.{Row}
 use Rattle.sq_query.specs.Table.{numbered_row}
-use Rattle.sq_query.proofs.Walk.{rows_from, walked, walked_below, walked_on, all_from_zero, walked_all, there_within}
+use Rattle.sq_store.proofs.Walk.{rows_from, rows_from_zero, walked, walked_below}
+use Rattle.sq_query.proofs.WalkedRows.{there_within, walked_all, walked_on}
 use Rattle.sq_query.proofs.table.numbered_rows.Goals as goal
 
 pub overflow_add-number : goal.overflow_add-number
@@ -24,7 +25,7 @@ loop-found-init g c =
     let store = c.args.store.now in
     let t = table_at (g.S.Store.content_now store) c.args.table in
     ap (λ (l : List (ℕ × Bor Row)). map numbered_row l ++ rows_from 0 t.rows) c.new-rows.ensures.items
-    ∙ all_from_zero (g.S.Store.row_numbers store) (g.S.Store.content_now store) c.args.table (g.met.S.Store.rises store)
+    ∙ rows_from_zero t.rows
 
 pub loop-found-preserved : goal.loop-found-preserved
 loop-found-preserved g c =

@@ -1,7 +1,7 @@
 use Rattle.std.proofs.Common.{◌≡◌, ◌++◌, length, map}
 use Rattle.sq_store.specs.Content.{table_at}
 use Rattle.sq_query.specs.Table.{numbered_row}
-use Rattle.sq_query.proofs.Walk.{rows_from}
+use Rattle.sq_store.proofs.Walk.{rows_from}
 use Rattle.sq_query.proofs.table.numbered_rows.Given as goal
 
 abbrev pub decreases-loop-found : goal.decreases-loop-found

@@ -23,8 +23,8 @@ truth_with_tables-requires g c =
     let columns = g.N.Names.column_kinds c.args.names.now in
     let items = c.as_slice-condition-items.result.now in
     let same = ap (map (λ (b : Bor BoundCond). b.now)) c.as_slice-condition-items.ensures.value ∙ c.in_ok-levels.ensures in
-    let all = subst (AllByRecursion (λ d. ReadsCond (λ t. HasValue (columns t)) (cond_of [] d))) (sym same) c.requires.1 in
-    (c.requires.0, lent_at (λ (d : BoundCond). ReadsCond (λ t. HasValue (columns t)) (cond_of [] d)) items c.loop-condition.condition-index c.condition-item.result c.loop-condition-test.true c.condition-item.is all)
+    let all = subst (AllByRecursion (λ d. ReadsCond (λ t. HasValue (columns t)) (cond_of [] d))) (sym same) c.requires.finds.1 in
+    record { finds = (c.requires.finds.0, lent_at (λ (d : BoundCond). ReadsCond (λ t. HasValue (columns t)) (cond_of [] d)) items c.loop-condition.condition-index c.condition-item.result c.loop-condition-test.true c.condition-item.is all); keys = c.requires.keys }
 
 pub loop-condition-preserved : goal.loop-condition-preserved
 loop-condition-preserved g c =

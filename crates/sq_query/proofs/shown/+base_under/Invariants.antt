@@ -1,4 +1,0 @@
-use Rattle.sq_query.proofs.shown.+base_under.Given as goal
-
-abbrev pub decreases-base_under : goal.decreases-base_under
-decreases-base_under g l = l.view

@@ -1,4 +1,0 @@
-use Rattle.sq_query.proofs.target.chosen_by.Goals as goal
-
-pub returns-clause-known : goal.returns-clause-known
-returns-clause-known c = λ meant knows. (c.chosen_with-chosen.ensures.known meant knows (c.new-memo.ensures c.args.context.now meant)).1

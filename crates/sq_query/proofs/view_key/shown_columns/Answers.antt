@@ -1,0 +1,18 @@
+use Rattle.std.proofs.Common.{[], get_or, subst, sym}
+use Rattle.std.specs.List.{AllZip}
+use Rattle.sq_query.specs.Shown.{Shows}
+use Rattle.sq_query.proofs.KeyTests.{if_some, zip_all, zip_more}
+use Rattle.sq_query.proofs.view_key.shown_columns.Goals as goal
+
+pub loop-column-init : goal.loop-column-init
+loop-column-init c = subst (AllZip (Shows c.args.list.now) []) (sym c.new-shown.ensures) tt
+
+pub loop-column-preserved : goal.loop-column-preserved
+loop-column-preserved c =
+    let R = Shows c.args.list.now in
+    let i = c.loop-column.column-index in
+    zip_more R c.args.columns.now i 0 c.loop-column.shown c.push.new.self c.in-Some.position c.loop-column-test.true c.loop-column.invariant
+    (if_some (R (get_or c.args.columns.now i 0)) c.shown_at.result c.in-Some.position c.shown_at.ensures c.in-Some.is) c.in_ok-push-in-Some.ensures.ok
+
+pub returns : goal.returns
+returns c = zip_all (Shows c.args.list.now) c.args.columns.now c.loop-column.column-index c.loop-column.shown c.loop-column-test.false c.loop-column.invariant
