@@ -82,7 +82,7 @@ pub columns_apart : (before : Elements) (user : Name) (t : TableDefinition) → 
 columns_apart before user t h =
     (or_parts (is_made_again before user (table_of user t.name)) (has_name_twice (table_columns t)) h.0).1
 
--- its references are good ones
+-- The references of a table refer to keys of tables that are declared.
 pub references_good : (before : Elements) (user : Name) (t : TableDefinition) → IsAccepted before user (element.Table t)
     → list_any (λ r. not (is_good_reference (with_element before user (element.Table t)) user t r)) (table_references t) ≡ false
 references_good before user t h = h.1.1.1.1.1.0

@@ -67,7 +67,7 @@ opened_below {X} tables place rising test xs = by_place (nat_lt place (length ta
 
 -- ---- rows that a walk means
 
--- they are before its mark
+-- The rows that a walk means are before its mark.
 pub meant_below : (conditions : List BoundCond) (values : List Value) (user : Name) (from mark next : ℕ) (rows : List Numbered)
     → mark ≤ next → AreBelow next (numbers_meant conditions values user from mark rows)
 meant_below conditions values user from mark next rows le =

@@ -61,7 +61,7 @@ rows_grown t (row ∷ rows) =
       next = more;
     }
 
--- of the tables one grows
+-- One of the tables grows.
 pub grown_at : (content : Content) (place : ℕ) (rows : List Row) (k : ℕ)
     → IsGrown (table_at content k) (table_at (slice_set content place (with_rows (table_at content place) rows)) k)
 grown_at [] place rows k = itself_grown (table_at [] k)

@@ -283,7 +283,7 @@ module _ (texts : List SchemaText) (known : KnownTables) (bases : List BoundTabl
     pub declares_are_declared : AreDeclared known (kinds_at bases views) views content (tables_of all)
     declares_are_declared = (both_before all (accepted_elements texts accepted) all_within).1
 
-    -- and so it is a database in two readings.
+    -- The declared database is one in both readings.
     pub declares_database : IsDatabase (tables_of all) content caller known (kinds_at bases views) views shown
     declares_database = record {
       kept = (both_before all (accepted_elements texts accepted) all_within).0;

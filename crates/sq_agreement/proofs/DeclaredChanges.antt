@@ -110,7 +110,7 @@ module _ (texts : List SchemaText) (known : KnownTables) (bases : List BoundTabl
         parameters names IsNumberOf x t on is (found (table_of caller x.table) t.leaf target means is.is_under is_base) stars
         (checked (table_of caller x.table) t.leaf target means is.is_under is_base)
 
-    -- of the row that a cursor is on
+    -- A positioned statement changes the row that a cursor is on.
     pub delete_at_agrees : (IsNumberOf : Name → ℕ → Type 0) (x : Delete) (p : PositionedTarget)
         → IsDeleteOf IsNumberOf known parameters caller x (change.Positioned p) → IsBase bases p.leaf.table
         → (target : Target) → target_of (tables_in reads) (table_of caller x.table) ≡ Ok target
@@ -149,7 +149,7 @@ module _ (texts : List SchemaText) (known : KnownTables) (bases : List BoundTabl
           (subst (λ (s : Target). has_rising_rows (table_at content s.place) ≡ true) (sym (target_is (table_of caller u.table) t.leaf target means (under_is (change.Searched t) is_searched) is_base)) rising)
           (checked (table_of caller u.table) t.leaf target means (under_is (change.Searched t) is_searched) is_base)
 
-      -- of the row that a cursor is on
+      -- A positioned statement changes the row that a cursor is on.
       pub update_at_agrees : (p : PositionedTarget) → bound.target ≡ change.Positioned p → IsBase bases p.leaf.table
           → AllByRecursion (λ a. IsColumnOf p.leaf.table a.column) bound.assignments
           → (number : ℕ) (r : Numbered) → row_at (table_at content target.place) number ≡ Some r

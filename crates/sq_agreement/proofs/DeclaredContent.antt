@@ -61,7 +61,7 @@ module _ (elements : Elements) (differ : NamesDiffer elements) (content : Conten
           domain_kinds (column_definitions t.definition)
           ∙ sym (kinds_held (column_definitions t.definition) b.columns (subst (λ ws. AreBaseColumnsOf ws b.columns) (columns_are_written t.definition) h.columns))
 
-  -- and each meets NOT NULL and CHECK
+  -- Each row meets NOT NULL and CHECK.
   pub rows_hold : all_satisfied (row_satisfied t) (rows_in (table_at content place)) ≡ Ok tt
   rows_hold =
       ap (all_satisfied (row_satisfied t)) (sym (rows_at_place elements differ content place t there)) ∙ (hold.1 place t there).0

@@ -17,7 +17,6 @@ use Rattle.sq_meaning.specs.Environment.{same_name}
 use Rattle.sq_meaning.specs.Spelled.{listed, listed_if_any}
 use Rattle.sq_rules.specs.Schema.{has_name_twice, primary_keys, referenced_columns, table_columns}
 use Rattle.sq_rules.specs.Words.{has_twice}
-use Rattle.sq_bound.specs.Names.{is_name}
 use Rattle.sq_bound.specs.declared.names.Reference.{Reference as BoundReference}
 use Rattle.sq_binding.proofs.Levels.{all_at}
 use Rattle.sq_laws.proofs.SiteLaws.{neither, none_passes}
@@ -73,10 +72,10 @@ names_apart (n ∷ ns) (suc i) (suc j) x once a b =
 stand_once : (columns names : List Name) (places : List ℕ) → StandAt columns names places → has_twice same_name names ≡ false
     → AreOnce places
 stand_once columns names places stand once i j p at_i at_j =
-    let one = zip_back (λ name place. position (is_name name) columns ≡ Some place) names places i p stand at_i in
-    let other = zip_back (λ name place. position (is_name name) columns ≡ Some place) names places j p stand at_j in
-    let first = position-Some (is_name one.0) columns p one.0 one.2 in
-    let second = position-Some (is_name other.0) columns p one.0 other.2 in
+    let one = zip_back (λ name place. position (same_name name) columns ≡ Some place) names places i p stand at_i in
+    let other = zip_back (λ name place. position (same_name name) columns ≡ Some place) names places j p stand at_j in
+    let first = position-Some (same_name one.0) columns p one.0 one.2 in
+    let second = position-Some (same_name other.0) columns p one.0 other.2 in
     let same : one.0 ≡ other.0 = same_text one.0 (get_or columns p one.0) (sym first.1) ∙ sym (same_text other.0 (get_or columns p one.0) (sym second.1)) in
     names_apart names i j one.0 once one.1 (other.1 ∙ ap Some (sym same))
 

@@ -24,7 +24,7 @@ use Rattle.sq_bound.specs.declared.condition.BoundSpecification.{BoundSpecificat
 use Rattle.sq_bound.specs.declared.condition.TablePlace.{TablePlace}
 use Rattle.sq_bound.specs.declared.condition.TablePlace.TheVariants.{View}
 use Rattle.sq_bound.specs.declared.names.Column.{Column}
-use Rattle.sq_binding.proofs.ColumnNames.{names_placed}
+use Rattle.sq_binding.specs.ColumnNames.{names_placed}
 use Rattle.sq_binding.specs.PlacedQuery.{select_placed}
 use Rattle.sq_promises.specs.Names.{tables_of}
 use Rattle.sq_catalog.specs.Catalog.{SeenView, view_meant}

@@ -32,7 +32,7 @@ use Rattle.sq_agreement.proofs.DeleteSame.{change_same, rows_gone_at}
 use Rattle.sq_agreement.proofs.SameCursors.{IsOnly}
 use Rattle.sq_agreement.proofs.SameStates.{SameCursor, SameReply, SameStates, ended_same, moved_same, now_same}
 
--- both are on the same number,
+-- Both cursors are on the same number.
 pub on_same : (tables : Content) (d : DeclaredCursor) (y : CursorState) (x : machine.CursorState) → SameCursor tables d y x
     → machine.number_on x ≡ number_on y
 on_same tables d cursor.Closed x h = ap machine.number_on h
@@ -40,7 +40,7 @@ on_same tables d (cursor.Rows c) x h = ap machine.number_on h
 on_same tables d (cursor.Numbers c) x h = ap machine.number_on h.is
 on_same tables d (cursor.Walking c) x h = ap machine.number_on h.is
 
--- and are taken off it alike
+-- Both cursors are taken off their row alike.
 pub off_same : (tables : Content) (d : DeclaredCursor) (y : CursorState) (x : machine.CursorState) → SameCursor tables d y x
     → SameCursor tables d (off_row y) (machine.off_row x)
 off_same tables d cursor.Closed x h = ap machine.off_row h

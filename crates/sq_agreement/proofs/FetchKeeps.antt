@@ -19,7 +19,7 @@ use Rattle.sq_bound.specs.declared.query.CursorBody.{CursorBody}
 use Rattle.sq_bound.specs.declared.query.CursorBody.TheVariants as body
 use Rattle.sq_bound.specs.declared.statement.BoundFetch.{BoundFetch}
 use Rattle.sq_bound.specs.declared.statement.BoundSelect.{BoundSelect}
-use Rattle.sq_promises.specs.Written.{HasRowsOf, IsCursorOf, IsFetchOf, IsRowOf}
+use Rattle.sq_promises.specs.Written.{HasRowsOf, IsCursorOf, IsFetchOf, IsSelectOf}
 use Rattle.sq_module.specs.declared.program.DeclaredCursor.{DeclaredCursor}
 use Rattle.sq_query.specs.Table.{AreMeant}
 use Rattle.sq_session.specs.Cursors.{is_over, is_over_numbers}
@@ -112,7 +112,7 @@ module _ (texts : List SchemaText) (known : KnownTables) (schemas : Schemas) (of
 
   -- ---- SELECT INTO (13.5)
 
-  pub select_keeps : (text : SelectStatement) (x : BoundSelect) → IsRowOf known caller.parameters r.in_module.authorization text x
+  pub select_keeps : (text : SelectStatement) (x : BoundSelect) → IsSelectOf known caller.parameters r.in_module.authorization text x
       → SelectStars (select_of_statement r.in_module.authorization text) → AreApart caller.parameters → (d : Done) (after : State)
       → EndsRight d → (after ≡ s) × Selects schemas (selecting r.in_module.authorization caller.parameters x) values s.tables d
       → IsSameStep declared d after (select_into r text)

@@ -110,7 +110,7 @@ module _ (declared : List DeclaredCursor) (s : State) (r : Running) (same : Same
       SameStates declared after (by_name.fetch_to r ft (fetched now machine_move x)).0
       × SameReply d (by_name.fetch_to r ft (fetched now machine_move x)).1
 
-  -- it comes to the same row
+  -- Both cursors come to the same row.
   reached_alike : (y : CursorState) (x : machine.CursorState) (row : Option (List Value)) (d : Done) (after : State)
       → row_fetched f row ≡ Ok d → after ≡ with_cursor s n y → SameCursor s.tables c y (fetched now machine_move x).cursor
       → (fetched now machine_move x).row ≡ row → Both d after x

@@ -8,7 +8,7 @@ use Rattle.std.specs.List.{AllByRecursion, AllZip, list_all, list_any}
 use Rattle.std.proofs.lemmas.Cmp.{nat_list_eq_equiv}
 use Rattle.sq_lex.specs.declared.name.Name.{Name}
 use Rattle.sq_value.specs.declared.value.Value.{Value}
-use Rattle.sq_meaning.specs.Environment.{Input, column_named as column_of_name}
+use Rattle.sq_meaning.specs.Environment.{Input, column_named as column_of_name, same_name}
 use Rattle.sq_meaning.specs.Spelled.{Named}
 use Rattle.sq_meaning.specs.Syntax.{Cond}
 use Rattle.sq_meaning.proofs.AnswerLaws.{all_weaker}
@@ -18,7 +18,6 @@ use Rattle.sq_rules.specs.Schema.{has_name_twice, is_among}
 use Rattle.sq_bound.specs.Condition.{PlacedCond}
 use Rattle.sq_bound.specs.Keyed.{names_column, names_one_of, start_with_key}
 use Rattle.sq_bound.specs.Known.{KnownTables}
-use Rattle.sq_bound.specs.Names.{is_name}
 use Rattle.sq_bound.specs.declared.names.ParameterDesc.{ParameterDesc}
 use Rattle.sq_binding.specs.Scope.{FromItem}
 use Rattle.sq_catalog.specs.Keys.{StandAt}
@@ -48,7 +47,7 @@ all_there (suc n) (x ∷ xs) e =
 -- ---- names in either order
 
 -- a column of a name is looked for in one order or the other
-position_turned : (n : Name) (names : List Name) → position (is_name n) names ≡ column_of_name n names
+position_turned : (n : Name) (names : List Name) → position (same_name n) names ≡ column_of_name n names
 position_turned n names = λ i. position (λ m. nat_list_eq_equiv.symm n m i) names
 
 module _ (known : KnownTables) (ps : List ParameterDesc) (item : FromItem) (in_order : IsInOrder item) (inputs : List Input)
@@ -66,7 +65,7 @@ module _ (known : KnownTables) (ps : List ParameterDesc) (item : FromItem) (in_o
   abbrev pub IsOfKey : List Name → PlacedCond → Type 0
   IsOfKey key t = (n : Name) × Has key n × IsTest n t
 
-  named_at : (n : Name) (q : ℕ) (t : PlacedCond) → position (is_name n) names ≡ Some q → IsTest n t → names_column q t ≡ true
+  named_at : (n : Name) (q : ℕ) (t : PlacedCond) → position (same_name n) names ≡ Some q → IsTest n t → names_column q t ≡ true
   named_at n q t at w =
       ap (λ o. list_any (nat_eq q) (option_to_list o)) (test_names known ps item in_order inputs values user same_inputs n t w)
       ∙ ap (λ b. b || false) (eq-eqb q w.place.column (same_some q w.place.column (column_of_name n names) (sym (position_turned n names) ∙ at) w.at))
@@ -78,7 +77,7 @@ module _ (known : KnownTables) (ps : List ParameterDesc) (item : FromItem) (in_o
   one_named (k ∷ key) [] stand n has t w = absurd stand
   one_named (k ∷ key) (q ∷ places) stand n (inl e) t w =
       ap (λ b. b || list_any (λ p. names_column p t) places)
-      (named_at n q t (subst (λ m. position (is_name m) names ≡ Some q) e stand.0) w)
+      (named_at n q t (subst (λ m. position (same_name m) names ≡ Some q) e stand.0) w)
   one_named (k ∷ key) (q ∷ places) stand n (inr has) t w =
       or_right (names_column q t) (list_any (λ p. names_column p t) places) (one_named key places stand.1 n has t w)
 
@@ -90,7 +89,7 @@ module _ (known : KnownTables) (ps : List ParameterDesc) (item : FromItem) (in_o
 
   -- each column of the key is named
   any_names : (cs : List (Cond Named)) (ts : List PlacedCond) → AllZip Placed cs ts → (n : Name) (q : ℕ)
-      → position (is_name n) names ≡ Some q → Has (map (column_equal inputs) cs) (Some n) → list_any (names_column q) ts ≡ true
+      → position (same_name n) names ≡ Some q → Has (map (column_equal inputs) cs) (Some n) → list_any (names_column q) ts ≡ true
   any_names [] ts h n q at has = absurd has
   any_names (c ∷ cs) [] h n q at has = absurd h
   any_names (c ∷ cs) (t ∷ ts) h n q at (inl e) =
@@ -130,7 +129,7 @@ module _ (known : KnownTables) (ps : List ParameterDesc) (item : FromItem) (in_o
       = all_weaker (λ n. is_among (filter_map (column_equal inputs) first) n ≡ true) (λ n. Has (map (column_equal inputs) first) (Some n))
       (λ n e. has_found (column_equal inputs) first n e) key (all_passed (is_among (filter_map (column_equal inputs) first)) key by_key) in
       let whole = all_named key (map (column_equal inputs) first) once (found_short (column_equal inputs) (length key) cs) found in
-      let many : length key ≡ length places = same_length (λ name place. position (is_name name) names ≡ Some place) key places stand in
+      let many : length key ≡ length places = same_length (λ name place. position (same_name name) names ≡ Some place) key places stand in
       let pairs : AllZip Placed first (take (length key) ts) = zip_first Placed (length key) cs ts h in
       let as_many : length (take (length key) ts) ≡ length key
       = sym (same_length Placed first (take (length key) ts) pairs) ∙ sym (length-map first (column_equal inputs)) ∙ whole.0 in

@@ -18,8 +18,6 @@ use Rattle.sq_meaning.specs.Status.{Outcome}
 use Rattle.sq_meaning.specs.WellFormed.{IsRowOf}
 use Rattle.sq_rules.specs.Keyed.{is_keyed_statement, is_keyed_where}
 use Rattle.sq_rules.specs.SchemaRefusal.{elements_of, first_schema_refusal}
-use Rattle.sq_model.specs.Machine.{Running}
-use Rattle.sq_model.specs.Parameter.{inputs_of as inputs_in}
 use Rattle.sq_bound.specs.Condition.{PlacedClause}
 use Rattle.sq_bound.specs.Fits.{IsBase, under}
 use Rattle.sq_bound.specs.Known.{KnownTables, under_of}
@@ -38,22 +36,13 @@ use Rattle.sq_catalog.specs.Declares.{Declares}
 use Rattle.sq_module.specs.declared.program.DeclaredCursor.{DeclaredCursor}
 use Rattle.sq_expression.specs.Frame.{inputs_of}
 use Rattle.sq_query.specs.Keyed.{IsKeyedChange}
-use Rattle.sq_session.specs.Kind.{Caller, caller_of, delete_kind, kind_of, update_kind, updating}
+use Rattle.sq_session.specs.Kind.{caller_of, delete_kind, kind_of, update_kind, updating}
 use Rattle.sq_session.specs.Metered.{CallReads}
 use Rattle.sq_session.specs.Parameter.{started_values}
 use Rattle.sq_session.specs.Schemas.{Schemas, columns_of}
 use Rattle.sq_session.specs.State.{State}
-use Rattle.sq_places.proofs.Bound.{outside_seen}
 use Rattle.sq_places.proofs.Parameters.{SameInputs}
-use Rattle.sq_agreement.proofs.InSession.{IsCalledAs}
-use Rattle.sq_agreement.proofs.KeyedTargets.{IsShortestNoted, keyed_where}
-
--- where the machine makes the same call, those of its inputs
-pub call_inputs : (texts : List SchemaText) (declared : List DeclaredCursor) (caller : Caller) (values : List Value) (s : State)
-    (r : Running) → IsCalledAs texts declared caller values s r
-    → SameInputs caller.parameters (inputs_in r.parameters) (inputs_of values)
-call_inputs texts declared caller values s r call =
-    (outside_seen caller.parameters (inputs_in r.parameters) values r.in_module.authorization call.names (sym call.given)).inputs_are
+use Rattle.sq_agreement.proofs.KeyedTargets.{keyed_where}
 
 -- A procedure with these parameters, over schemas that the definitions do not refuse, is called with these values, so that its statement reads
 -- these inputs.
@@ -62,11 +51,10 @@ module _ (texts : List SchemaText) (known : KnownTables) (schemas : Schemas) (de
     (declared : List DeclaredCursor) (user : Name) (ps : List ParameterDesc) (handed : List Value) (inputs : List Input)
     (same_inputs : SameInputs ps inputs (inputs_of (started_values ps handed))) (kinds : List Kind)
     (given : IsRowOf kinds (started_values ps handed)) (IsNumberOf : Name → ℕ → Type 0) where
-  -- what binding gives of a target beside its text: it is well formed, over a base table of the catalog, and the shortest key is noted
+  -- what binding gives of a target beside its text: it is well formed, and over a base table of the catalog
   pub record IsBoundTarget (x : BoundTarget) : Type 0 where
     pub is_base : IsBase schemas.bases x.leaf.table
     pub well : IsTarget (columns_of schemas) kinds x
-    pub shortest : IsShortestNoted x
 
   abbrev pub IsBoundChange : ChangeTarget → Type 0
   IsBoundChange (change.Searched x) = IsBoundTarget x
@@ -92,7 +80,7 @@ module _ (texts : List SchemaText) (known : KnownTables) (schemas : Schemas) (de
       absurd (not_positioned (filter_placed known ps user name) name w p is keyed)
   change_keyed name w (change.Searched x) so is_under is keyed =
       keyed_where texts known schemas.bases schemas.views declares accepted ps inputs (started_values ps handed) user same_inputs
-      (columns_of schemas) kinds given x so.well so.shortest so.is_base name is_under IsNumberOf w is keyed
+      (columns_of schemas) kinds given x so.well so.is_base name is_under IsNumberOf w is keyed
 
   module _ (before : State) (count : ℕ) where
     update_reads : (y : BoundUpdate) (g : ChangeTarget) → y.target ≡ g → IsKeyedChange g (started_values ps handed) user

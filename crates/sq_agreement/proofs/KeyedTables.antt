@@ -16,7 +16,8 @@ use Rattle.sq_rules.specs.Catalog.{base_count}
 use Rattle.sq_rules.specs.Schema.{Constraint, Elements, column_definitions, constraints, has_name_twice, key_columns, keys, table_if_named, table_named}
 use Rattle.sq_rules.specs.SchemaRefusal.{elements_of, first_schema_refusal, is_bad_key}
 use Rattle.sq_bound.specs.Fits.{IsBase}
-use Rattle.sq_bound.specs.Known.{KnownTable, KnownTables, under_of}
+use Rattle.sq_bound.specs.Known.{KnownTable, KnownTables, Under, under_of}
+use Rattle.sq_bound.specs.Quiet.{are_quiet_conds}
 use Rattle.sq_bound.specs.declared.condition.BoundSpecification.{BoundSpecification}
 use Rattle.sq_bound.specs.declared.names.BaseTable.{BaseTable as BoundTable}
 use Rattle.sq_bound.specs.declared.names.Column.{Column}
@@ -32,7 +33,7 @@ use Rattle.sq_catalog.specs.Declares.{Declares}
 use Rattle.sq_catalog.specs.Keys.{KeysStandAt, StandAt, keys_written, names_written}
 use Rattle.sq_catalog.proofs.WrittenRules.{columns_are_written, keys_are_written, names_are_written}
 use Rattle.sq_places.proofs.Databases.{table_is}
-use Rattle.sq_places.proofs.Items.{IsInOrder, columns_at_leaf, names_at_leaf}
+use Rattle.sq_places.proofs.Items.{IsInOrder, columns_at_leaf, names_at_leaf, names_of_columns}
 use Rattle.sq_agreement.proofs.Accepted.{AreAccepted, IsAccepted, accepted_elements, keys_good}
 use Rattle.sq_agreement.proofs.Declared.{Within, all_within, base_there, within_before}
 use Rattle.sq_agreement.proofs.DeclaredColumns.{names_seen}
@@ -149,8 +150,18 @@ module _ (texts : List SchemaText) (known : KnownTables) (bases : List BoundTabl
         λ k c e. let same : 0 + k ≡ k = omega arith in at_own 0 k (column_definitions t) b.base.columns columns_are c e ∙ same
 
     -- the names of its columns
+    pub columns_named : names_written t ≡ names_of_columns b.base.columns
+    columns_named = names_are_written t ∙ names_seen 0 (column_definitions t) b.base.columns columns_are
+
     pub names_are : names_written t ≡ map (λ (c : ItemColumn). c.name) (item_at_leaf name meant).columns
-    names_are = names_are_written t ∙ names_seen 0 (column_definitions t) b.base.columns columns_are ∙ sym (names_at_leaf b.base.columns)
+    names_are = columns_named ∙ sym (names_at_leaf b.base.columns)
+
+    -- A key that is written for a table is one of the base table.
+    pub base_key : (test : List Name → Bool) → list_any test (keys t) ≡ true → IsKeyAt test (names_written t) b.base.bound.keys
+    base_key test any =
+        key_at_one test (names_written t) (keys_written t) b.base.bound.keys b.base.is_base.keys
+        (subst (AllByRecursion (λ names. has_name_twice names ≡ false)) (sym (keys_are_written t)) b.once)
+        (ap (list_any test) (keys_are_written t) ∙ any)
 
     module _ (leaf : Leaf) (is_under : option_and_then (λ k. k.under) (meant_by known name) ≡ Some (under_of leaf))
         (is_base : IsBase bases leaf.table) where
@@ -160,16 +171,15 @@ module _ (texts : List SchemaText) (known : KnownTables) (bases : List BoundTabl
           = sym (ap (option_and_then (λ (k : KnownTable). k.under)) meant_is) ∙ is_under in
           cc
 
+      -- no view is between a base table and itself
+      pub quiet_views : leaf.is_quiet ≡ true
+      quiet_views = leaf.quiet ∙ ap (λ (u : Under). are_quiet_conds u.conditions) (sym itself_is)
+
       table_bound : b.base.bound ≡ leaf.table
       table_bound =
           let both : Some b.base.bound ≡ Some leaf.table
           = sym b.base.bound_at ∙ (λ i. slice_get bases ((itself_is i).base)) ∙ is_base in
           cc
 
-      -- A key that is written for it is the bound table's.
       pub key_bound : (test : List Name → Bool) → list_any test (keys t) ≡ true → IsKeyAt test (names_written t) leaf.table.keys
-      key_bound test any =
-          key_at_one test (names_written t) (keys_written t) leaf.table.keys
-          (subst (λ (x : BoundTable). KeysStandAt (names_written t) (keys_written t) x.keys) table_bound b.base.is_base.keys)
-          (subst (AllByRecursion (λ names. has_name_twice names ≡ false)) (sym (keys_are_written t)) b.once)
-          (ap (list_any test) (keys_are_written t) ∙ any)
+      key_bound test any = subst (λ (x : BoundTable). IsKeyAt test (names_written t) x.keys) table_bound (base_key test any)

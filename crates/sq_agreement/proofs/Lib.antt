@@ -26,6 +26,7 @@ pub mod FetchSame
 pub mod InSession
 pub mod InsertSame
 pub mod KeyNamed
+pub mod KeyedClauses
 pub mod KeyedPlaced
 pub mod KeyedReads
 pub mod KeyedTables

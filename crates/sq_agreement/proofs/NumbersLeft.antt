@@ -16,7 +16,7 @@ module _ (test : ℕ → Bool) where
   abbrev pub first : List ℕ → ℕ
   first = position_or_len test
 
-  -- it is the first of those that are there, and what stands behind it has the others
+  -- The next number is the first under which there is a row, and the numbers behind it are the others.
   pub first_is : (xs : List ℕ) → slice_get xs (first xs) ≡ slice_get (filter test xs) 0
   first_is [] = refl
   first_is (x ∷ xs) = by_test (test x) (first_is xs)
@@ -122,7 +122,7 @@ below_dropped next (suc k) [] h = tt
 below_dropped next zero (n ∷ numbers) h = h
 below_dropped next (suc k) (n ∷ numbers) h = below_dropped next k numbers h.1
 
--- the same numbers are left to both, but for those that are gone, and both are on the same
+-- The same numbers are left to both cursors, except for those without a row, and both are on the same row.
 pub record SameNumbers (t : Table) (c : NumbersCursor) (x : CursorState) : Type 0 where
   pub numbers : List ℕ
   pub is : x ≡ CursorState.over_numbers numbers c.on

@@ -24,7 +24,7 @@ use Rattle.sq_agreement.proofs.NumbersLeft.{AreBelow}
 use Rattle.sq_agreement.proofs.SameCursors.{IsOnly}
 use Rattle.sq_agreement.proofs.SameStates.{SameCursor, SameReply, SameStates, ended_same, moved_same, now_same, open_same}
 
--- both are open over the same, or end with the same status
+-- Both are open over the same rows, or end with the same status.
 abbrev pub OpensAlike : Content → DeclaredCursor → Outcome CursorState → Outcome machine.CursorState → Type 0
 OpensAlike tables d (Ok c) o = (x : machine.CursorState) × (o ≡ Ok x) × SameCursor tables d c x
 OpensAlike tables d (Err st) o = o ≡ Err st

@@ -179,7 +179,7 @@ module _ (ps qs key own : List ℕ) (as_many : length qs ≡ length ps)
       values_pass row other ps qs as_many ∙ pairs_same (λ p q. is_same (slice_index_or row q Null) (slice_index_or other p Null))
       ∙ sym (values_pass row other key own key_long)
 
-  -- and so one of these rows is there
+  -- A referenced row is found by pairs of columns exactly where it is found by the key.
   pub found_alike : (row : Row) (rows : List Numbered)
       → list_any (same_row (in_columns row qs)) (map (λ values. in_columns values ps) (map (λ (n : Numbered). n.row) rows))
       ≡ is_some (find (has_key key (in_columns row own)) rows)

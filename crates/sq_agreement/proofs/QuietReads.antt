@@ -70,7 +70,7 @@ module _ (texts : List SchemaText) (known : KnownTables) (schemas : Schemas) (de
       ap (λ o. is_walk (option_map_or (λ (x : DeclaredCursor). over_of x.cursor.body) o Over.rows)) there
       ∙ walks_where_quiet known schemas.bases u under ps c d.cursor is updatable
 
-  -- so no other cursor ever walks
+  -- A cursor that walks is quiet.
   pub walking_is_quiet : (w : WalkingCursor) → is_over (over_at declared n) (cursor.Walking w) ≡ true → is_quiet_cursor u c ≡ true
   walking_is_quiet w over = sym quiet_walks ∙ over_walk (over_at declared n) w over
 
@@ -80,12 +80,12 @@ module _ (texts : List SchemaText) (known : KnownTables) (schemas : Schemas) (de
     pub quiet_open_reads_none : CallReads (Some (kind_of declared user parameters (statement.Open n))) values before count → count ≡ 0
     quiet_open_reads_none reads = none_read (over_at declared n) count (quiet_walks ∙ quiet) reads
 
-    -- and leaves a walk that came to no row yet.
+    -- OPEN of a quiet cursor leaves a walk that came to no row yet, with the values of the call.
     pub quiet_opens : (opened : Outcome CursorState) → IsOpenOver (over_at declared n) values before.tables opened
-        → (w : WalkingCursor) × (opened ≡ Ok (cursor.Walking w)) × (last_number w ≡ 0)
+        → (w : WalkingCursor) × (opened ≡ Ok (cursor.Walking w)) × (last_number w ≡ 0) × (w.values ≡ values)
     quiet_opens opened h =
         let walk = opens_walk (over_at declared n) values before.tables opened (quiet_walks ∙ quiet) h in
-        (walk_before before.tables walk.0 values, walk.1, refl)
+        (walk_before before.tables walk.0 values, walk.1, refl, refl)
 
     -- A FETCH by which the walk comes to a row reads at least that one, and no more rows than the number of the row is greater than that
     -- of the row to which the walk came last.

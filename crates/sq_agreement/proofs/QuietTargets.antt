@@ -21,7 +21,7 @@ use Rattle.sq_rules.specs.Words.{is_some_and}
 use Rattle.sq_bound.specs.Condition.{clause_of}
 use Rattle.sq_bound.specs.Known.{KnownTable, KnownTables, Under, under_of}
 use Rattle.sq_bound.specs.Names.{option_all}
-use Rattle.sq_bound.specs.Quiet.{are_sure, is_sure}
+use Rattle.sq_bound.specs.Quiet.{are_quiet_conds, is_quiet_cond}
 use Rattle.sq_bound.specs.declared.condition.BoundCond.{BoundCond}
 use Rattle.sq_bound.specs.declared.names.BaseTable.{BaseTable}
 use Rattle.sq_bound.specs.declared.names.Column.{Column}
@@ -48,9 +48,9 @@ use Rattle.sq_agreement.proofs.CursorOpens.{IsUpdatableAs}
 
 -- the conditions of the views under a table
 abbrev pub IsQuietAs : Target → Under → Type 0
-IsQuietAs target u = is_quiet_target target ≡ are_sure u.conditions
+IsQuietAs target u = is_quiet_target target ≡ are_quiet_conds u.conditions
 
-own_as : (o : Option BoundCond) → is_quiet_clause (clause_of [] o) ≡ option_all is_sure o
+own_as : (o : Option BoundCond) → is_quiet_clause (clause_of [] o) ≡ option_all is_quiet_cond o
 own_as None = refl
 own_as (Some c) = refl
 
@@ -60,10 +60,10 @@ both_as false = refl
 
 -- with one behind them
 and_own_as : (conditions : List BoundCond) (o : Option BoundCond)
-    → (are_sure conditions && option_all is_sure o) ≡ are_sure (and_own conditions o)
-and_own_as conditions None = sym (both_as (are_sure conditions))
+    → (are_quiet_conds conditions && option_all is_quiet_cond o) ≡ are_quiet_conds (and_own conditions o)
+and_own_as conditions None = sym (both_as (are_quiet_conds conditions))
 and_own_as conditions (Some c) =
-    (λ i. are_sure conditions && both_as (is_sure c) i) ∙ sym (list_all-append is_sure conditions (c ∷ []))
+    (λ i. are_quiet_conds conditions && both_as (is_quiet_cond c) i) ∙ sym (list_all-append is_quiet_cond conditions (c ∷ []))
 
 -- a check option changes no condition
 option_as : (b : Bool) (t : Target) → is_quiet_target (with_check_option b t) ≡ is_quiet_target t
@@ -90,7 +90,7 @@ module _ (known : KnownTables) (ps : List ParameterDesc) (earlier : Tables) (q :
       (clause_as (of_lines (leaf_item text.reference text.table ∷ []) (outside known ps)) text.filter) (text.condition [])
 
   query_quiet : IsQuietAs made.under (under_of over.target.leaf)
-      → is_quiet_target target ≡ are_sure (and_own over.target.leaf.conditions over.target.condition)
+      → is_quiet_target target ≡ are_quiet_conds (and_own over.target.leaf.conditions over.target.condition)
   query_quiet below =
       sym (ap is_quiet_target made.target_is)
       ∙ option_as check_option (seen_through source made.under)
@@ -123,11 +123,11 @@ module _ (known : KnownTables) (bases : List BaseTable) where
       → IsQuietAs target u
   body_quiet d earlier each (base_table n) columns u target h e =
       let is : base_target n (places_of d.columns) ≡ target = cc in
-      sym (ap is_quiet_target is) ∙ sym (ap (λ (v : Under). are_sure v.conditions) h.0)
+      sym (ap is_quiet_target is) ∙ sym (ap (λ (v : Under). are_quiet_conds v.conditions) h.0)
   body_quiet d earlier each (viewed_table q check_option) columns u target h e =
       query_quiet known [] earlier q h.over text check_option target made
       (each text.reference.table made.under made.means text.table text.is_known (under_of h.over.target.leaf) text.is_over)
-      ∙ sym (ap are_sure h.conditions)
+      ∙ sym (ap are_quiet_conds h.conditions)
     where
       text : IsUpdatableOf known [] q h.over
       text = h.is_over

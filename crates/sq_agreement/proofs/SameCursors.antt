@@ -21,7 +21,7 @@ one_before i n e = cc
 
 -- for each cursor that is declared, what ties the session's to the machine's
 module _ {D : Type 0} (R : D → CursorState → machine.CursorState → Type 0) where
-  -- so it is for all of them, in their order
+  -- All cursors of both are the same, in their order.
   abbrev pub AreSame : List D → List CursorState → List CursorEntry → Type 0
   AreSame [] [] [] = ⊤
   AreSame (d ∷ ds) (c ∷ cs) (e ∷ es) = R d c e.state × AreSame ds cs es

@@ -29,7 +29,7 @@ use Rattle.sq_agreement.proofs.WalkLeft.{SameWalk}
 abbrev pub assignment_of : Output → Assignment
 assignment_of o = record { name = o.name; value = o.value }
 
--- the same status, and the same values of parameters
+-- Two replies have the same status and the same values of parameters.
 pub record SameReply (d : Done) (reply : Reply) : Type 0 where
   pub status : d.status ≡ reply.status
   pub outputs : map assignment_of d.outputs ≡ reply.outputs
@@ -51,7 +51,7 @@ pub record SameStates (declared : List DeclaredCursor) (s : State) (x : by_name.
   pub committed : x.committed ≡ s.committed
   pub cursors : AreSame (SameCursor s.tables) declared s.cursors x.cursors
 
--- both are open, or neither is
+-- Both cursors are open, or neither is.
 pub open_same : (tables : Content) (d : DeclaredCursor) (c : CursorState) (x : machine.CursorState) → SameCursor tables d c x
     → is_open c ≡ machine.is_open x
 open_same tables d cursor.Closed x h = sym (ap machine.is_open h)

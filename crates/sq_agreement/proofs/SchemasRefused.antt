@@ -97,10 +97,10 @@ parts_plain (p ∷ ps) = (part_plain p.user p.element, parts_plain ps)
 
 -- ---- what texts declare
 
--- they are refused exactly where and for what the rules refuse them
+-- Schema texts are refused exactly where the rules refuse them, and for the same refusal.
 pub schemas_refused : (texts : List SchemaText) → refusal_in (catalog_of texts) ≡ first_schema_refusal texts
 schemas_refused texts = refused_exactly texts (parts_plain (schema_parts texts))
 
--- and else declare the catalog of their elements
+-- Schema texts that are not refused declare the catalog of their elements.
 pub schemas_declare : (texts : List SchemaText) → DeclaresAs (users_behind [] (schema_parts texts)) (elements_of texts) (first_schema_refusal texts) (catalog_of texts)
 schemas_declare texts = catalog_told texts (parts_plain (schema_parts texts))

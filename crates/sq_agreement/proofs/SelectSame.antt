@@ -16,7 +16,7 @@ use Rattle.sq_bound.specs.Known.{KnownTables}
 use Rattle.sq_bound.specs.declared.condition.TablePlace.{TablePlace}
 use Rattle.sq_bound.specs.declared.names.ParameterDesc.{ParameterDesc}
 use Rattle.sq_bound.specs.declared.statement.BoundSelect.{BoundSelect}
-use Rattle.sq_promises.specs.Written.{IsRowOf}
+use Rattle.sq_promises.specs.Written.{IsSelectOf}
 use Rattle.sq_expression.specs.Frame.{inputs_of}
 use Rattle.sq_module.specs.declared.program.DeclaredCursor.{DeclaredCursor}
 use Rattle.sq_query.specs.Table.{AreMeant}
@@ -43,7 +43,7 @@ module _ (r : Running) (known : KnownTables) (schemas : Schemas) (shown : TableP
     (declared : List DeclaredCursor) (s : State) (same : SameStates declared s r.state)
     (meant : AreMeant schemas.views s.tables r.in_module.authorization shown) (text : SelectStatement) (x : BoundSelect)
     (stars : SelectStars (select_of_statement r.in_module.authorization text))
-    (is : IsRowOf known parameters r.in_module.authorization text x) where
+    (is : IsSelectOf known parameters r.in_module.authorization text x) where
   reply_alike : (o : Outcome Row) (d : Done) → EndsRight d → d ≡ ended_by (and_then o (row_reply parameters x.outputs))
       → SameReply d (select_reply r text o)
   reply_alike (Err st) d right e = ended_same d st e

@@ -138,7 +138,7 @@ module _ (texts : List SchemaText) (known : KnownTables) (schemas : Schemas) (of
         (behind_search IsNumberOf delete_filter x.target t is.rows) schemas caller values t
         (delete_alike texts known schemas of declared caller values s r kept call IsNumberOf x target means t is base stars) d after h
 
-    -- of the row that a cursor is on
+    -- A positioned statement changes the row that a cursor is on.
     pub delete_at_keeps : (p : PositionedTarget)
         → IsDeleteOf IsNumberOf known caller.parameters r.in_module.authorization x (change.Positioned p)
         → IsBase schemas.bases p.leaf.table → (name : Name) → x.target ≡ Some (rows_where.CurrentOf name)
@@ -169,7 +169,7 @@ module _ (texts : List SchemaText) (known : KnownTables) (schemas : Schemas) (of
         (ap (λ o. and_then o (update_outcome (setting r) u)) (searched_rows IsNumberOf update_filter u.target t (subst (IsTargetOf IsNumberOf update_filter u.target) is_searched is.rows)))
         d after h
 
-    -- of the row that a cursor is on
+    -- A positioned statement changes the row that a cursor is on.
     pub update_at_keeps : (p : PositionedTarget) → bound.target ≡ change.Positioned p → IsBase schemas.bases p.leaf.table
         → AllByRecursion (λ a. IsColumnOf p.leaf.table a.column) bound.assignments → (name : Name)
         → u.target ≡ Some (rows_where.CurrentOf name) → (here : IsCursorHere declared s r name p.cursor)

@@ -71,7 +71,7 @@ there_at (t ∷ content) zero changed (suc k) n = refl
 there_at (t ∷ content) (suc place) changed zero n = refl
 there_at (t ∷ content) (suc place) changed (suc k) n = there_at content place changed k n
 
--- and its next number is the same
+-- The next number of the table is the same.
 next_at : (content : Content) (place : ℕ) (changed : List Numbered) (k : ℕ)
     → (table_at (slice_set content place (with_replaced (table_at content place) changed)) k).next ≡ (table_at content k).next
 next_at [] place changed k = refl

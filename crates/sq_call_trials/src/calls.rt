@@ -75,7 +75,7 @@ fn lines_of<S: Store, R: Eprint + AllocGlobal>(
     }
 }
 
-/// What comes of a call of a procedure by its names; an error where the session does not take it.
+/// Calls a procedure by its names; an error where the session does not take the call.
 fn make_call<S: Store, R: Eprint + AllocGlobal>(
     rt: &R,
     session: &mut Session<S>,
@@ -101,7 +101,7 @@ fn make_call<S: Store, R: Eprint + AllocGlobal>(
     }
 }
 
-/// Makes a call. None: it is refused memory.
+/// Makes a call; `None` where it is refused memory.
 fn attempt<S: Store>(
     alloc: Global,
     session: &mut Session<S>,

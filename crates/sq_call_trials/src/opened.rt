@@ -17,7 +17,7 @@ pub(crate) struct Opened<S: Store> {
     pub(crate) count: Rc<Cell<u64>>,
 }
 
-/// None: a text is refused, or memory is.
+/// The session and its store's count; `None` where a text is refused or memory runs out.
 pub(crate) fn open_run<S: Store>(alloc: Global, texts: &Texts) -> Option<Opened<S>> {
     let catalog = catalog_of(alloc, texts.schemas.as_slice())?;
     let Some(modules) = modules_of(alloc, texts.modules.as_slice()) else {

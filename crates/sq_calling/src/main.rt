@@ -18,8 +18,9 @@ fn report_of(
     modules: &[Vec<u8>],
     script: &[u8],
 ) -> Result<Vec<u8>, RunFault>
-    // It is the table machine's report, run on the trees that the texts spell.
-    ensures report { IfOk result (λ report. IsReported 1000000 (texts schemas.now) (texts modules.now) script.now
+    // What is answered is the table machine's report, run on the trees that the texts spell.
+    ensures report { IfOk result
+        (λ report. IsReported 1000000 (texts schemas.now) (texts modules.now) script.now
         (Some []) (Some report.items)) }
     ensures refused { IfErr result (RefusedText (texts schemas.now) (texts modules.now) script.now) }
 {

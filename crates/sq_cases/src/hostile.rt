@@ -41,7 +41,7 @@ fn answered(
     }
 }
 
-/// That each of so many places was tried, or the first that is wrong.
+/// That each of the places was tried, or the first place that is wrong.
 fn shown(alloc: Global, count: usize, wrong: Option<usize>) -> Result<String, AllocError> {
     match wrong {
         None => format!(in alloc; "{count} places"),

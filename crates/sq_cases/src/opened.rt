@@ -13,7 +13,7 @@ pub struct OpenRun<S: Store> {
     pub script: ScriptText,
 }
 
-/// The session and the script of a run, none where a text is refused.
+/// The session and the script of a run; `None` where a text is refused.
 pub fn open_run<S: Store>(alloc: Global, run: &Run) -> Option<OpenRun<S>> {
     let script = script_of(alloc, run.script.as_slice())?;
     match session_of(alloc, run) {

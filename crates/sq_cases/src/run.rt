@@ -122,7 +122,7 @@ fn add_to_last(texts: &mut Vec<Vec<u8>>, bytes: &[u8]) -> Result<(), AllocError>
     }
 }
 
-/// A fault, before which so many bytes were written.
+/// A fault, with the number of bytes written before it.
 fn shown(alloc: Global, fault: RunFault, count: usize) -> Result<Vec<u8>, AllocError> {
     let shown = match fault {
         _ if count > 0 => format!(in alloc; "{fault} behind {count} bytes")?,

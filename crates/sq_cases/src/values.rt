@@ -55,7 +55,7 @@ fn of_truths(alloc: Global, operation: &str, operands: &str) -> Result<String, A
     format!(in alloc; "{answered:?}")
 }
 
-/// The value that is written so. What is none is null.
+/// The value that a case writes so; null where it writes no value.
 pub fn value(alloc: Global, written: &str) -> Result<Value, AllocError> {
     if let Some(quoted) = written.strip_prefix('\'') {
         let codes = expanded(alloc, quoted.strip_suffix('\'').unwrap_or(quoted))?;

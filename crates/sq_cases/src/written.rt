@@ -51,7 +51,7 @@ fn push_escape(text: &mut Vec<u8>, bytes: &[u8]) -> Result<(), AllocError> {
     text.extend_from_slice(rest)
 }
 
-/// The value of a hexadecimal digit, and 0 for what is none.
+/// The value of a hexadecimal digit; 0 for any other code.
 fn digit(code: u8) -> u8
     ensures { result < 16 }
 {

@@ -25,6 +25,7 @@ use Rattle.sq_model.specs.Machine as by_name
 use Rattle.sq_model.specs.Machine.{CursorEntry, Running, running}
 use Rattle.sq_model.specs.Parameter.{inputs_of, started_parameters}
 use Rattle.sq_model.specs.Run.{program_of}
+use Rattle.sq_bound.specs.Fits.{keys_of_bases}
 use Rattle.sq_bound.specs.Known.{KnownTables}
 use Rattle.sq_bound.specs.declared.names.ParameterDesc.{ParameterDesc}
 use Rattle.sq_module.specs.Written.{AreApart, Declare, IsDeclaredFrom, IsNumberOf, is_cursor}
@@ -63,14 +64,14 @@ pub record Agrees (texts : List SchemaText) (row_numbers : ℕ) (schemas : Schem
   pub counts : HaveCount (length schemas.bases) x.tables × HaveCount (length schemas.bases) x.committed
   pub rising : AllRise x.tables × AllRise x.committed
   pub hold : StateHolds (elements_of texts) x
-  pub goes_over : GoesOver declared row_numbers s
+  pub goes_over : GoesOver declared row_numbers (keys_of_bases schemas.bases) s
 
 -- ---- cursors by their names
 
 both_names : (c : DeclaredCursor) (m name : Name) → c.«module» ≡ m → c.name ≡ name → is_cursor m name c ≡ true
 both_names c m name e f = (λ i. same_name m (e i) && same_name name (f i)) ∙ (λ i. itself m i && itself name i)
 
--- of two places under one name, both are one
+-- Two places under one name are one place.
 module _ (m name : Name) where
   none_behind : (before ds : List DeclaredCursor) → AreApart before ds → list_any (is_cursor m name) before ≡ true → (j : ℕ) (e : DeclaredCursor)
       → slice_get ds j ≡ Some e → e.«module» ≡ m → e.name ≡ name → ⊥
@@ -142,7 +143,7 @@ module _ (texts : List SchemaText) (modules : List ModuleText) (row_numbers : �
     called = record {
       same = agrees.same;
       elements = refl;
-      row_numbers = sym agrees.goes_over.1;
+      row_numbers = sym agrees.goes_over.1.0;
       user = refl;
       names = subst (λ l. AreNamed ps (inputs_of (started_parameters l values))) (bound_declared p ps declares) (call_named ps values many);
       given = started_same ps values ∙ ap (λ l. map (λ i. i.value) (inputs_of (started_parameters l values))) (bound_declared p ps declares);

@@ -31,7 +31,7 @@ use Rattle.sq_model.specs.Machine as by_name
 use Rattle.sq_model.specs.Machine.{Call, Outcomes, Running, call_in, call_of, outcome, performed, performed_if, replied, running, stepped}
 use Rattle.sq_model.specs.Parameter.{replied_with}
 use Rattle.sq_model.specs.Run.{program_of}
-use Rattle.sq_bound.specs.Fits.{FitsStatement}
+use Rattle.sq_bound.specs.Fits.{FitsStatement, keys_of_bases}
 use Rattle.sq_bound.specs.Known.{KnownTables}
 use Rattle.sq_bound.specs.WellFormed.{kinds_of_parameters}
 use Rattle.sq_binder.specs.declared.stop.Fault.{Fault}
@@ -118,7 +118,7 @@ module _ (texts : List SchemaText) (modules : List ModuleText) (row_numbers : �
       pub over : IsOver module_of name_of declared y
       pub counts : HaveCount (length schemas.bases) y.tables × HaveCount (length schemas.bases) y.committed
       pub rising : AllRise y.tables × AllRise y.committed
-      pub goes_over : GoesOver declared row_numbers after
+      pub goes_over : GoesOver declared row_numbers (keys_of_bases schemas.bases) after
 
     abbrev Both : Done → State → Outcomes → Type 0
     Both d after out = Agreed after out.0 × SameReply d out.1
@@ -148,7 +148,7 @@ module _ (texts : List SchemaText) (modules : List ModuleText) (row_numbers : �
             over = over_after module_of name_of declared x (performed run f.procedure.statement).0 agrees.over f.text.name goes.1;
             counts = kept_of_both (HaveCount (length schemas.bases)) (count_kept (length schemas.bases)) x (performed run f.procedure.statement).0 goes.0 agrees.counts;
             rising = kept_of_both AllRise rise_kept x (performed run f.procedure.statement).0 goes.0 agrees.rising;
-            goes_over = still_over declared row_numbers schemas f.text.authorization e.1.parameters b _ s d after agrees.goes_over may.0;
+            goes_over = still_over declared row_numbers (keys_of_bases schemas.bases) schemas f.text.authorization e.1.parameters b _ s d after agrees.goes_over may.0;
           },
           subst (SameReply d) few.1 step.1,
         )

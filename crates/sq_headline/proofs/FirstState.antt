@@ -19,6 +19,7 @@ use Rattle.sq_model.specs.Cursor as machine
 use Rattle.sq_model.specs.Machine as by_name
 use Rattle.sq_model.specs.Machine.{CursorEntry, all_closed, cursor_at, entries_of, first_state, is_entry}
 use Rattle.sq_model.specs.Run.{program_of}
+use Rattle.sq_bound.specs.Fits.{keys_of_bases}
 use Rattle.sq_bound.specs.Known.{KnownTables}
 use Rattle.sq_bound.specs.declared.names.BaseTable.{BaseTable as BoundTable}
 use Rattle.sq_catalog.specs.Catalog.{declared_definitions, declared_tables}
@@ -57,7 +58,7 @@ pub empty_count : (n : ℕ) → length (no_rows n) ≡ n
 empty_count zero = refl
 empty_count (suc n) = ap suc (empty_count n)
 
--- as many as there are base tables
+-- There are as many tables as base tables.
 based_count : (ns : List FullName) (ds : List TableDefinition) (bs : List BoundTable) → AreBasesOf ns ds bs → length ns ≡ length bs
 based_count [] [] [] h = refl
 based_count (n ∷ ns) (d ∷ ds) (b ∷ bs) h = ap suc (based_count ns ds bs h.1)
@@ -145,9 +146,9 @@ module _ (texts : List SchemaText) (modules : List ModuleText) (row_numbers : �
 
     -- With empty tables and closed cursors, one for each that is declared, they agree.
     pub first_agrees : (s : State) → s.tables ≡ no_rows (length (declared_tables texts)) → s.committed ≡ no_rows (length (declared_tables texts))
-        → s.row_numbers ≡ row_numbers → AreClosed s.cursors → are_over program.cursors.items s.cursors ≡ true
+        → s.row_numbers ≡ row_numbers → s.keys ≡ keys_of_bases schemas.bases → AreClosed s.cursors → are_over program.cursors.items s.cursors ≡ true
         → Agrees texts row_numbers schemas program.cursors.items s first
-    first_agrees s tables committed numbers closed over =
+    first_agrees s tables committed numbers keys closed over =
         let count : base_count (elements_of texts) ≡ length schemas.bases
         = counted_tables texts ∙ based_count (declared_tables texts) (declared_definitions texts) schemas.bases (o.declares).bases_are in
         record {
@@ -163,5 +164,5 @@ module _ (texts : List SchemaText) (modules : List ModuleText) (row_numbers : �
           counts = (empty_count (base_count (elements_of texts)) ∙ count, empty_count (base_count (elements_of texts)) ∙ count);
           rising = (empty_rise (base_count (elements_of texts)), empty_rise (base_count (elements_of texts)));
           hold = hold_at_first (program_of texts modules row_numbers);
-          goes_over = (over, numbers);
+          goes_over = (over, (numbers, keys));
         }

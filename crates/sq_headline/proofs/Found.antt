@@ -119,7 +119,7 @@ found_among {A} of name_of (y ∷ items) (suc i) x a at is none = by_item (of y)
         ap (λ t. cond t (Some b) (find (λ c. same_name (name_of c) (name_of a)) (filter_map of items))) (nat_list_eq_equiv.symm (name_of b) (name_of a) ∙ parts.0)
         ∙ others parts.1
 
--- at a place of a list with places
+-- The item at a place of a list that is numbered by places.
 at_enumerated : {A : Type 0} (P : ℕ × A → Type 0) (k : ℕ) (xs : List A) → AllByRecursion P (enumerate_from k xs) → (i : ℕ) (x : A)
     → slice_get xs i ≡ Some x → P (k + i, x)
 at_enumerated P k [] h i x e = cc
@@ -202,7 +202,7 @@ module _ (modules : List ModuleText) (e : first_module_refusal modules ≡ None)
   admitted : IsAdmitted modules (among_at modules m among).0 m
   admitted = admitted_at modules e (among_at modules m among).0 m (among_at modules m among).1
 
-  -- its procedures and its cursors
+  -- The procedures and cursors of a module are found by their names.
   pub procedure_found : (p : Procedure) → IsAmong m.items (item.Procedure p) → procedure_named m p.name ≡ Some p
   procedure_found p h =
       let at = among_at m.items (item.Procedure p) h in

@@ -47,7 +47,7 @@ module _ (row_numbers : ℕ) (texts : List SchemaText) (modules : List ModuleTex
     agrees =
         first_agrees texts modules row_numbers opened.known s.schemas program opened_from exact s.state
         (opened.start.empty ∙ ap (λ ts. no_rows (length ts)) opened.tables) (opened.start.committed ∙ ap (λ ts. no_rows (length ts)) opened.tables)
-        opened.start.numbers opened.start.closed opened.written.cursors;
+        opened.start.numbers opened.written.keys opened.start.closed opened.written.cursors;
   }
 
 -- ---- what is written
@@ -90,7 +90,7 @@ module _ (row_numbers : ℕ) (schemas modules : List Bytes) (script : Bytes) (r 
   pub run_stops_after : (k : ℕ) → Reported (take k r.actions) r.start old new → Appends old new (lines (take k items))
   run_stops_after k h = subst (Appends old new) (report_is (take k r.actions) (take k items) (first_items k) h.report h.last h.steps) h.taken
 
-  -- and where the output fails, the first bytes of it, which has more.
+  -- Where the output fails, the first bytes of the report were written, which has more.
   pub run_stops_inside : (n : ℕ) → StoppedInside n r.actions r.start old new → (n < length (lines items)) × Appends old new (take n (lines items))
   run_stops_inside n h =
       let some : List Item = take (h.items + 1) items in

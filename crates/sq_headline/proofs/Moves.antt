@@ -134,7 +134,7 @@ HaveCount n content = length content ≡ n
 pub count_kept : (n : ℕ) (before after : Content) → IsChanged before after → HaveCount n before → HaveCount n after
 count_kept n before after c h = ap length c.is ∙ set_length before c.place c.changed ∙ h
 
--- and the rows of each go on to stand by rising numbers
+-- The rows of each table stand in the order of rising numbers.
 abbrev pub AllRise : Content → Type 0
 AllRise content = (place : ℕ) → has_rising_rows (table_at content place) ≡ true
 
@@ -166,7 +166,7 @@ abbrev pub InWhere : (Name → Type 0) → Option Where → Type 0
 InWhere Named (Some (rows_where.CurrentOf cursor)) = Named cursor
 InWhere Named _ = ⊤
 
--- it names such cursors alone
+-- A statement names only cursors of which P holds.
 abbrev pub NamesOnly : (Name → Type 0) → Statement → Type 0
 NamesOnly Named (statement.Open name) = Named name
 NamesOnly Named (statement.Fetch f) = Named f.cursor

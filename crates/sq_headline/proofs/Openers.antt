@@ -51,7 +51,7 @@ same_parameters (p ∷ ps) (q ∷ qs) e =
 
 module _ (modules : List ModuleText) (admitted : first_module_refusal modules ≡ None) (m : ModuleText) (among : IsAmong modules m) (c : Cursor)
     (is_item : IsAmong m.items (item.Cursor c)) where
-  opener : (p : Procedure) → IsAmong m.items (item.Procedure p) → p.statement ≡ statement.Open c.name → opener_parameters m c.name ≡ declared_parameters p
+  pub opener : (p : Procedure) → IsAmong m.items (item.Procedure p) → p.statement ≡ statement.Open c.name → opener_parameters m c.name ≡ declared_parameters p
   opener p there does =
       opener_is m p.name c.name p (procedure_found modules admitted m among p there) (ap (opens c.name) does ∙ itself c.name)
       (opened_once modules admitted m among c is_item)

@@ -109,7 +109,7 @@ module _ {D : Type 0} (module_of name_of : D → Name) where
 
     -- ---- one cursor
 
-    -- they are found alike
+    -- Cursors are found alike in both states.
     pub at_projected : (x : State) → IsOver declared x → (m name : Name) → cursor_at (projected x) m name ≡ cursor_at x m name
     at_projected x over m name = found declared (over.others m name)
       where
@@ -126,7 +126,7 @@ module _ {D : Type 0} (module_of name_of : D → Name) where
                 (λ i. cursor_at x (same_text (module_of d) m (sym parts.0) i) (same_text (name_of d) name (sym parts.1) i))
             by_test false is h others = others h
 
-    -- and set alike
+    -- Cursors are set alike in both states.
     pub set_projected : (x : State) → IsOver declared x → (m name : Name) (c : CursorState)
         → with_cursor (projected x) m name c ≡ projected (with_cursor x m name c)
     set_projected x over m name c = λ i. record x { cursors = each declared over.there i }
@@ -159,7 +159,7 @@ module _ {D : Type 0} (module_of name_of : D → Name) where
     abbrev pub running_projected : Running → Running
     running_projected r = record r { state = projected r.state }
 
-    -- the same reply, and behind it the same state with these cursors alone
+    -- Both give the same reply, and then the same state with these cursors alone.
     abbrev pub Projects : Outcomes → Outcomes → Type 0
     Projects few all = (few.0 ≡ projected all.0) × (few.1 ≡ all.1)
 

@@ -56,7 +56,7 @@ named_at (x ∷ ns) (d ∷ ds) zero n e at =
     let same : x ≡ n = cc in (named_table x d, refl, λ i. record { user = (same i).user; name = (same i).name })
 named_at (x ∷ ns) (d ∷ ds) (suc k) n e at = let fewer : length ds ≡ length ns = omega arith in named_at ns ds k n fewer at
 
--- it is found where the texts declare it
+-- A base table is found where the texts declare it.
 pub base_found : (texts : List SchemaText) → first_schema_refusal texts ≡ None → (user name : Name) (k : ℕ)
     → table_number (declared_tables texts) user name ≡ Some k
     → base_place (elements_of texts) (record { user = user; name = name }) ≡ Some k

@@ -77,7 +77,7 @@ not_failed true (Ok target) is e = (target, refl)
 not_failed true (Err s) is e = cc
 not_failed false o is e = cc
 
--- it has a target
+-- A table that a statement changes has a target.
 pub target_there : (k : Known) (t : TableName) → IsSound k (Site.table_changed t) → not_updatable k (Site.table_changed t) ≡ false
     → (target : Target) × (target_of k.tables t ≡ Ok target)
 target_there k t h e = not_failed (is_known_table k t) (target_of k.tables t) (known_there k t h) e
@@ -99,7 +99,7 @@ module _ (u : Surroundings) (name : Name) (c : Cursor) (named : cursor_named u.i
       found_mapped (known_cursor u) (λ k. same_name k.name name) (cursors u.in_module)
       ∙ ap (λ (o : Option Cursor). option_map (known_cursor u) o) named
 
-  -- its query has no fault
+  -- The query of a cursor that a statement names has no fault.
   pub cursor_sound : unknown_cursor (known_in u) (Site.cursor_used name) ≡ false → is_sound u c ≡ true
   cursor_sound e = not-false (is_sound u c) (sym (ap (λ (o : Option KnownCursor). not (is_some_and (λ k. k.sound) o)) known_as) ∙ e)
 

@@ -70,7 +70,7 @@ bound_apart p ps e good =
 
 -- ---- the values of a call
 
--- as many as there are parameters
+-- There are as many values as parameters.
 pub as_many : (ps : List ParameterDesc) (values : List Value) → fit (declared ps) values ≡ true → length values ≡ length ps
 as_many [] [] h = refl
 as_many [] (v ∷ values) h = cc

@@ -85,7 +85,7 @@ pub some_same : {A : Type 0} (x y : A) → (let found : Option A = Some x in fou
 some_same x y e = cc
 
 -- the values at which parameters start are of their kinds
-given_values : (ps : List ParameterDesc) (values : List Value) → length values ≡ length ps → IsRowOf (kinds_of_parameters ps) (started_values ps values)
+pub given_values : (ps : List ParameterDesc) (values : List Value) → length values ≡ length ps → IsRowOf (kinds_of_parameters ps) (started_values ps values)
 given_values [] values e = tt
 given_values (p ∷ ps) [] e = absurd (omega arith)
 given_values (p ∷ ps) (v ∷ values) e = let fewer : length values ≡ length ps = omega arith in (started_of_its_kind p.domain v, given_values ps values fewer)

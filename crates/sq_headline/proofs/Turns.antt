@@ -63,7 +63,7 @@ module _ {D : Type 0} (module_of name_of : D → Name) (ds : List D) (x y : Stat
       by_there true e = set_found m name k other c x.cursors e ∙ by_same (same_name k m && same_name other name) apart
       by_there false e = none_found k other (map (set_cursor m name c) x.cursors) (still_there m name k other c x.cursors ∙ e)
 
-  -- so it is after a turn
+  -- After a turn a machine is over the same declared cursors as before.
   pub over_after : (m : Name) → Turn m (λ name. list_any (is_named module_of name_of m name) ds ≡ true) x y → IsOver module_of name_of ds y
   over_after m (Turn.stays e) = record {
     there = subst There (sym e) over.there;

@@ -20,4 +20,5 @@ Shows (Chars codes) d = (d.kind ≡ pos 2) × (d.length ≡ length codes)
 abbrev pub HasCodes : Value → List ℕ → List ℕ → Type 0
 HasCodes Null old room = Unit {0}
 HasCodes (Num n) old room = Unit {0}
-HasCodes (Chars codes) old room = take (min (length codes) (length old)) room ≡ take (min (length codes) (length old)) codes
+HasCodes (Chars codes) old room =
+    take (min (length codes) (length old)) room ≡ take (min (length codes) (length old)) codes

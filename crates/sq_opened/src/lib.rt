@@ -1,5 +1,5 @@
-//! What texts open, and the values that a script hands in, for programs of tests that make calls themselves. Nothing says why
-//! there is none: a text is refused, or memory is.
+//! What texts open, and the values that a script hands in, for test programs that make calls themselves. Where
+//! a text is refused or memory runs out the answer is `None`, without a reason.
 #![tactic(auto)]
 
 mod arguments;

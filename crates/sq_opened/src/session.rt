@@ -9,8 +9,8 @@ use sq_store::{MOST_ROW_NUMBERS, Store};
 use sq_tree::ModuleText;
 use std::alloc::{AllocError, Global};
 
-/// A store without rows for the base tables of a catalog, their keys and references, of so many row numbers or of
-/// `MOST_ROW_NUMBERS`.
+/// A store without rows for the base tables of a catalog, their keys and references, with this many row numbers
+/// but at most `MOST_ROW_NUMBERS`.
 #[tactic(auto, using(sq_session::proofs::Holding::keys_count))]
 pub fn store_of<S: Store>(
     alloc: Global,
@@ -30,7 +30,7 @@ pub fn store_of<S: Store>(
     )
 }
 
-/// A session of modules over such a store.
+/// A session of modules over a store without rows.
 #[tactic(auto, using(sq_session::proofs::Holding::no_rows_hold, sq_session::proofs::Holding::no_rows_obey))]
 pub fn session_over<S: Store>(
     alloc: Global,

@@ -165,7 +165,7 @@ stands_in modules trees r tree text start refusal there spells first tree_there 
 -- modules are refused for what the definitions find first, at its first token
 pub of_module : (modules : List Bytes) (trees : List ModuleText) (r : ModuleRefusal) (tree : ModuleText) (start : ℕ) (answer : TextFault) → AllSpell module_tokens module_depth modules trees
     → first_module_refusal trees ≡ Some (refusal_of r) → r.text < length trees → tree ≡ get_or trees r.text tree → start ≡ min (refused_start tree r.item) 18446744073709551615
-    → IsRefusalIfAny r.text (what.Module r.name) answer → IsPlacedAmong modules r.text start answer → IsModuleFault modules answer
+    → IsRefusalIfAny r.text (what.Module r.fault) answer → IsPlacedAmong modules r.text start answer → IsModuleFault modules answer
 of_module modules trees r tree start NoMemory spelled first lt is e named placed = tt
 of_module modules trees r tree start (Refused refusal) spelled first lt is e named placed =
     let there : slice_get trees r.text ≡ Some tree = slice_get-get_or trees r.text tree lt ∙ ap Some (sym is) in

@@ -72,7 +72,7 @@ moved_to text rest from to le lends =
     ∙ position_further text from (to - from)
     ∙ ap (position text) whole
 
--- what the code lends as the rest of a text
+-- The rest of a text, as the code lends it.
 pub moved_is : (text rest : List ℕ) (from to : ℕ) (place by : Position) → from ≤ to → rest ≡ take (length text - from) (drop from text) → place ≡ position text from → by ≡ position rest (to - from)
     → further place by ≡ position text to
 moved_is text rest from to place by le lends at further_on =
@@ -117,7 +117,7 @@ bounds text n =
     let column = past_column start (take n text) (omega arith) in
     (omega (arith, size, byte), omega (arith, size, line), omega (arith, size, column))
 
--- so the sums fit, where the text is not the longest
+-- Lines and columns fit, where the text is not the longest.
 pub fits : (text rest : List ℕ) (from to : ℕ) (place by : Position) → from ≤ to → to + 1 < 2 ^ 64 → place ≡ position text from → by ≡ position rest (to - from)
     → (place.byte + by.byte < 2 ^ 64) × (place.line + (by.line - 1) < 2 ^ 64) × (place.column + (by.column - 1) < 2 ^ 64)
 fits text rest from to place by le short at further_on =

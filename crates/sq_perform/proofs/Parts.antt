@@ -48,7 +48,7 @@ all_append : {A : Type 0} (P : A → Type 0) (xs ys : List A) → AllByRecursion
 all_append P [] ys h k = k
 all_append P (x ∷ xs) ys h k = (h.0, all_append P xs ys h.1 k)
 
--- what holds of what comes of each, at its place
+-- What holds of all that is made of each item, at its place, holds of all that is made.
 all_flat_mapped : {A B : Type 0} (P : B → Type 0) (f : ℕ × A → List B) (n : ℕ) (xs : List A)
     → ((i : ℕ) (x : A) → slice_get xs i ≡ Some x → AllByRecursion P (f (n + i, x))) → AllByRecursion P (flat_map f (enumerate_from n xs))
 all_flat_mapped P f n [] each = tt
@@ -66,7 +66,7 @@ all_mapped P f n (x ∷ xs) each =
       all_mapped P f (n + 1) xs (λ i y at. let there : n + suc i ≡ n + 1 + i = omega arith in subst (λ k. P (f (k, y))) there (each (suc i) y at)),
     )
 
--- of all, counted from 0
+-- What holds of all that is made of each item, counted from 0, holds of all that is made.
 each_flat_mapped : {A B : Type 0} (P : B → Type 0) (f : ℕ × A → List B) (xs : List A) → ((i : ℕ) (x : A) → slice_get xs i ≡ Some x → AllByRecursion P (f (i, x)))
     → AllByRecursion P (flat_map f (enumerate_from 0 xs))
 each_flat_mapped P f xs each =

@@ -5,7 +5,7 @@ use Rattle.sq_perform.specs.Steps.{IsPrepared}
 use Rattle.sq_perform.specs.declared.action.Action.{Action}
 use Rattle.sq_perform.specs.declared.action.Action.TheVariants.{Call, Show}
 
--- it can be done as well in a session behind some calls
+-- What can be done in a session can be done in it after further calls.
 prepared_later : (a : Action) (s t : Session) → t.procedures ≡ s.procedures → t.tables ≡ s.tables → IsPrepared s a → IsPrepared t a
 prepared_later (Call c) s t procedures tables is = rw procedures is
 prepared_later (Show x) s t procedures tables is = rw tables is

@@ -143,7 +143,7 @@ modules_by_matter modules refusal Grammar h = tt
 modules_by_matter modules refusal Depth h = tt
 modules_by_matter modules refusal Meaning h = absurd (h refl)
 
--- it says nothing of what schemas or modules mean
+-- A refusal for how a text is spelled says nothing of what schemas or modules mean.
 pub spelling_of_schemas : (schemas : List Bytes) (fault : TextFault) → IsOfSpelling fault → IsSchemaFault schemas fault
 spelling_of_schemas schemas NoMemory h = tt
 spelling_of_schemas schemas (Refused refusal) h = schemas_by_matter schemas refusal (matter refusal.what) h

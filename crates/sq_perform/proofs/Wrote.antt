@@ -36,7 +36,7 @@ pub performed_some : (script : Bytes) (start : Session) (actions : List Action) 
 performed_some script start actions old new (Ok u) asked stop = stop
 performed_some script start actions old new (Err fault) asked stop = stop_of script start actions old new fault asked stop
 
--- nothing is done of a script that is refused
+-- Nothing of a refused script is done.
 pub refused_stop : (script : Bytes) (start : Session) (taken : Option Bytes) (fault : RunFault) → IsScriptFault start script fault → IsScriptStop script start taken taken fault
 refused_stop script start taken (SchemaRefused refusal) is = is
 refused_stop script start taken (ModuleRefused refusal) is = is

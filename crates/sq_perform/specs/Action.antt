@@ -7,15 +7,15 @@ use Rattle.sq_perform.specs.declared.action.Action.TheVariants.{Call, Show}
 use Rattle.sq_perform.specs.declared.action.CallAction.{CallAction}
 use Rattle.sq_perform.specs.declared.action.ShowAction.{ShowAction}
 
--- the call as its line names it
+-- The call, as the report names it.
 abbrev pub call_of : CallAction → MachineCall
 call_of c = record { in_module = c.«module»; procedure = c.name; values = c.values }
 
--- the table as its lines name it
+-- The table, as the report names it.
 abbrev pub table_of : ShowAction → TableName
 table_of s = record { user = s.user; name = s.name }
 
--- the item of the script
+-- The item of the script that an action performs.
 abbrev pub item_of : Action → Item
 item_of (Call c) = Item.call (call_of c)
 item_of (Show s) = Item.show (table_of s)

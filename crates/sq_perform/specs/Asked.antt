@@ -12,7 +12,7 @@ use Rattle.sq_perform.specs.Items.{IsTaken}
 use Rattle.sq_perform.specs.Texts.{SpellsTree}
 use Rattle.sq_perform.specs.declared.action.Action.{Action}
 
--- the items, one by one
+-- The actions are what the items ask for, one by one.
 abbrev pub AreActions : List ScriptItem → List Action → Type 0
 AreActions items actions = map item_of actions ≡ map item_of_script items
 

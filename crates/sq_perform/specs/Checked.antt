@@ -30,7 +30,14 @@ abbrev pub start_of : List Token → ℕ → ℕ
 start_of tokens number = option_map_or (λ t. t.start) (slice_get tokens number) 0
 
 abbrev pub note : Mark → Position → Note
-note mark at = record { line = at.line; column = at.column; owner = mark.owner; name = mark.name; remark = mark.remark }
+note mark at =
+    record {
+      line = at.line;
+      column = at.column;
+      owner = mark.owner;
+      name = mark.name;
+      remark = mark.remark;
+    }
 
 -- what is said of a part, at the position of its first token
 abbrev pub note_at : Bytes → List Token → Mark → Note
@@ -44,13 +51,15 @@ pub record AreNotes (text : Bytes) (marks : List Mark) (notes : List Note) : Typ
 -- the notes of each text are of its marks
 abbrev pub AreAllNotes : List Bytes → List (List Mark) → List (List Note) → Type 0
 AreAllNotes [] [] [] = ⊤
-AreAllNotes (text ∷ all) (marks ∷ others) (notes ∷ rest) = AreNotes text marks notes × AreAllNotes all others rest
+AreAllNotes (text ∷ all) (marks ∷ others) (notes ∷ rest) =
+    AreNotes text marks notes × AreAllNotes all others rest
 AreAllNotes _ _ _ = ⊥
 
 -- ---- schemas and modules
 
 -- the catalog is of trees that the schemas spell, and this is said of their views, where names mean what it says
-pub record SchemasAreChecked (schemas : List Bytes) (catalog : Catalog) (notes : List (List Note)) : Type 0 where
+pub record SchemasAreChecked (schemas : List Bytes) (catalog : Catalog)
+    (notes : List (List Note)) : Type 0 where
   pub trees : List SchemaText
   pub spelled : AllSpell schema_tokens schema_depth schemas trees
   pub tables : catalog.tables ≡ declared_tables trees
@@ -58,7 +67,8 @@ pub record SchemasAreChecked (schemas : List Bytes) (catalog : Catalog) (notes :
   pub are : AreAllNotes schemas (map (text_marks (known catalog)) trees) notes
 
 -- the definitions refuse none of the trees that the modules spell, and this is said of their cursors and procedures
-pub record ModulesAreChecked (catalog : Catalog) (modules : List Bytes) (notes : List (List Note)) : Type 0 where
+pub record ModulesAreChecked (catalog : Catalog) (modules : List Bytes)
+    (notes : List (List Note)) : Type 0 where
   pub trees : List ModuleText
   pub spelled : AllSpell module_tokens module_depth modules trees
   pub admitted : first_module_refusal trees ≡ None
@@ -82,7 +92,9 @@ is_faulty n = is_fault n.remark
 
 -- a procedure or a cursor has a fault
 abbrev pub has_fault : Checked → Bool
-has_fault checked = list_any (list_any is_faulty) checked.schemas.items || list_any (list_any is_faulty) checked.modules.items
+has_fault checked =
+    list_any (list_any is_faulty) checked.schemas.items
+    || list_any (list_any is_faulty) checked.modules.items
 
 -- ---- while a text is walked through
 

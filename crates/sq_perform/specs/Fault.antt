@@ -34,7 +34,7 @@ abbrev pub IsRefusal : ℕ → RefusalName → TextFault → Type 0
 IsRefusal number what NoMemory = ⊥
 IsRefusal number what (Refused refusal) = (refusal.text ≡ number) × (refusal.what ≡ what)
 
--- such a refusal, unless memory ran out
+-- A refusal of the text of this number, by this name, unless memory ran out.
 abbrev pub IsRefusalIfAny : ℕ → RefusalName → TextFault → Type 0
 IsRefusalIfAny number what NoMemory = ⊤
 IsRefusalIfAny number what (Refused refusal) = (refusal.text ≡ number) × (refusal.what ≡ what)
@@ -49,7 +49,8 @@ IsParseFault number parse.EndOfText fault = IsRefusal number EndOfText fault
 -- the text of this number has no reading
 abbrev pub IsUnread : ℕ → Bytes → TextFault → Type 0
 IsUnread number text NoMemory = ⊤
-IsUnread number text (Refused refusal) = (refusal.text ≡ number) × (matter refusal.what ≡ Tokens) × IsFirstFault text refusal
+IsUnread number text (Refused refusal) =
+    (refusal.text ≡ number) × (matter refusal.what ≡ Tokens) × IsFirstFault text refusal
 
 -- a text of this number is refused for what it means
 abbrev pub IsOfMeaning : ℕ → TextFault → Type 0
@@ -64,9 +65,10 @@ IsItemFault fault (Refused what) = fault ≡ Some what
 -- a refusal at the token of this number, if there is such a token
 abbrev pub IsPlacedIn : Bytes → List Token → ℕ → TextFault → Type 0
 IsPlacedIn text tokens number NoMemory = ⊥
-IsPlacedIn text tokens number (Refused refusal) = IfSome (slice_get tokens number) (λ token. StandsAt text token refusal)
+IsPlacedIn text tokens number (Refused refusal) =
+    IfSome (slice_get tokens number) (λ token. StandsAt text token refusal)
 
--- the same of the text's own tokens, which are few enough to be counted
+-- A refusal at the token of this number among the text's own tokens, which are few enough to be counted.
 pub record IsPlaced (text : Bytes) (number : ℕ) (refusal : Refusal) : Type 0 where
   pub tokens : List Token
   pub read : reading text ≡ Ok tokens
@@ -77,12 +79,14 @@ abbrev pub IsPlacedIfAny : Bytes → ℕ → TextFault → Type 0
 IsPlacedIfAny text number NoMemory = ⊤
 IsPlacedIfAny text number (Refused refusal) = IsPlaced text number refusal
 
--- such a refusal of the text of a number among others
+-- A refusal at a token of the text of this number among others.
 abbrev pub IsPlacedAmong : List Bytes → ℕ → ℕ → TextFault → Type 0
-IsPlacedAmong all number token fault = (text : Bytes) → slice_get all number ≡ Some text → IsPlacedIfAny text token fault
+IsPlacedAmong all number token fault =
+    (text : Bytes) → slice_get all number ≡ Some text → IsPlacedIfAny text token fault
 
 -- the refusal of a script at the first token of an item
-pub record IsItemRefusal (script : Bytes) (tree : ScriptText) (number : ℕ) (what : RefusalName) (refusal : Refusal) : Type 0 where
+pub record IsItemRefusal (script : Bytes) (tree : ScriptText) (number : ℕ) (what : RefusalName)
+    (refusal : Refusal) : Type 0 where
   pub text : refusal.text ≡ 0
   pub name : refusal.what ≡ what
   pub token : Token
@@ -105,7 +109,8 @@ IsMisspelled tokens_of depth_of text refusal Meaning = ⊥
 -- what a fault says of the text of this number, which has no tree
 abbrev pub IsRefusedText : {T : Type 0} → ℕ → (T → List Lexeme) → (T → ℕ) → Bytes → TextFault → Type 0
 IsRefusedText number tokens_of depth_of text NoMemory = ⊤
-IsRefusedText number tokens_of depth_of text (Refused refusal) = (refusal.text ≡ number) × IsMisspelled tokens_of depth_of text refusal (matter refusal.what)
+IsRefusedText number tokens_of depth_of text (Refused refusal) =
+    (refusal.text ≡ number) × IsMisspelled tokens_of depth_of text refusal (matter refusal.what)
 
 -- what a fault says of one of these texts
 abbrev pub SomeRefused : {T : Type 0} → (T → List Lexeme) → (T → ℕ) → List Bytes → TextFault → Type 0
@@ -135,14 +140,16 @@ IsUntaken start script (Refused refusal) = (refusal.text ≡ 0) × IsFirstItem s
 -- what a fault says of a script
 abbrev pub IsScriptRefusal : Session → Bytes → TextFault → Type 0
 IsScriptRefusal start script NoMemory = ⊤
-IsScriptRefusal start script (Refused refusal) = (refusal.text ≡ 0) × IsRefusedScript start script refusal (matter refusal.what)
+IsScriptRefusal start script (Refused refusal) =
+    (refusal.text ≡ 0) × IsRefusedScript start script refusal (matter refusal.what)
 
 -- what a fault says of the schemas and modules of which no session is made
 abbrev pub IsOpeningFault : List Bytes → List Bytes → RunFault → Type 0
 IsOpeningFault schemas modules (run.SchemaRefused refusal) =
     OneRefused schema_tokens schema_depth schemas refusal × IsOfSchemas schemas refusal (matter refusal.what)
 IsOpeningFault schemas modules (run.ModuleRefused refusal) =
-    AreDeclared schemas × OneRefused module_tokens module_depth modules refusal × IsOfModules modules refusal (matter refusal.what)
+    AreDeclared schemas × OneRefused module_tokens module_depth modules refusal
+    × IsOfModules modules refusal (matter refusal.what)
 IsOpeningFault schemas modules (run.ScriptRefused refusal) = ⊥
 IsOpeningFault schemas modules (run.Write bytes) = ⊥
 IsOpeningFault schemas modules (run.NoMemory items) = items ≡ 0
@@ -151,7 +158,8 @@ IsOpeningFault schemas modules (run.NoMemory items) = items ≡ 0
 abbrev pub IsScriptFault : Session → Bytes → RunFault → Type 0
 IsScriptFault start script (run.SchemaRefused refusal) = ⊥
 IsScriptFault start script (run.ModuleRefused refusal) = ⊥
-IsScriptFault start script (run.ScriptRefused refusal) = (refusal.text ≡ 0) × IsRefusedScript start script refusal (matter refusal.what)
+IsScriptFault start script (run.ScriptRefused refusal) =
+    (refusal.text ≡ 0) × IsRefusedScript start script refusal (matter refusal.what)
 IsScriptFault start script (run.Write bytes) = ⊥
 IsScriptFault start script (run.NoMemory items) = items ≡ 0
 

@@ -10,19 +10,22 @@ use Rattle.sq_session.specs.Session.{Session, procedure_number}
 use Rattle.sq_perform.specs.declared.refusal.RefusalName.{RefusalName}
 use Rattle.sq_perform.specs.declared.refusal.RefusalName.TheVariants.{BadArguments, UnknownProcedure, UnknownTable}
 
--- There is such a procedure; and the values are as many as its parameters, each of which can store its value.
+-- Why a session does not take a call: it has no such procedure, or the values are more or fewer than the
+-- parameters, or a parameter cannot store its value.
 abbrev pub call_fault : List Procedure → List Value → Option ℕ → Option RefusalName
 call_fault procedures values None = Some UnknownProcedure
-call_fault procedures values (Some number) = if fits_at procedures number values then None else Some BadArguments
+call_fault procedures values (Some number) =
+    if fits_at procedures number values then None else Some BadArguments
 
--- There is such a base table.
+-- Why a session does not show a table: it has no such base table.
 abbrev pub table_fault : Option ℕ → Option RefusalName
 table_fault None = Some UnknownTable
 table_fault (Some place) = None
 
--- why a session does not take an item, if it does not
+-- Why a session does not take a script item, if it does not.
 abbrev pub item_fault : Session → ScriptItem → Option RefusalName
-item_fault s (script.Call «module» name arguments) = call_fault s.procedures (argument_values arguments) (procedure_number s.procedures «module» name)
+item_fault s (script.Call «module» name arguments) =
+    call_fault s.procedures (argument_values arguments) (procedure_number s.procedures «module» name)
 item_fault s (script.Table user name) = table_fault (table_number s.tables user name)
 
 abbrev pub IsTaken : Session → ScriptItem → Type 0

@@ -17,12 +17,14 @@ pub record Performed (script : Bytes) (start : Session) (old new : Option Bytes)
   pub asked : AreAsked start script actions
   pub reported : Reported actions start old new
 
-pub record PerformedInside (bytes : ℕ) (script : Bytes) (start : Session) (old new : Option Bytes) : Type 0 where
+pub record PerformedInside (bytes : ℕ) (script : Bytes) (start : Session)
+    (old new : Option Bytes) : Type 0 where
   pub actions : List Action
   pub asked : AreAsked start script actions
   pub inside : StoppedInside bytes actions start old new
 
-pub record PerformedFirst (items : ℕ) (script : Bytes) (start : Session) (old new : Option Bytes) : Type 0 where
+pub record PerformedFirst (items : ℕ) (script : Bytes) (start : Session)
+    (old new : Option Bytes) : Type 0 where
   pub actions : List Action
   pub asked : AreAsked start script actions
   pub fewer : items < length actions
@@ -32,7 +34,8 @@ pub record PerformedFirst (items : ℕ) (script : Bytes) (start : Session) (old 
 abbrev pub IsScriptStop : Bytes → Session → Option Bytes → Option Bytes → RunFault → Type 0
 IsScriptStop script start old new (SchemaRefused refusal) = ⊥
 IsScriptStop script start old new (ModuleRefused refusal) = ⊥
-IsScriptStop script start old new (ScriptRefused refusal) = (new ≡ old) × (refusal.text ≡ 0) × IsRefusedScript start script refusal (matter refusal.what)
+IsScriptStop script start old new (ScriptRefused refusal) =
+    (new ≡ old) × (refusal.text ≡ 0) × IsRefusedScript start script refusal (matter refusal.what)
 IsScriptStop script start old new (Write bytes) = PerformedInside bytes script start old new
 IsScriptStop script start old new (NoMemory zero) = new ≡ old
 IsScriptStop script start old new (NoMemory (suc items)) = PerformedFirst (suc items) script start old new

@@ -17,7 +17,6 @@ use Rattle.sq_rules.specs.declared.refusal.SchemaFault.{SchemaFault}
 use Rattle.sq_rules.specs.declared.refusal.ScriptFault.{ScriptFault}
 use Rattle.sq_rules.specs.declared.refusal.ScriptFault.TheVariants as fault
 use Rattle.sq_model.specs.Report.{Bytes}
-use Rattle.sq_module.specs.FirstRefusal.{fault_of}
 use Rattle.sq_perform.specs.Texts.{AllSpell, SomeTrees, Spells}
 use Rattle.sq_perform.specs.declared.refusal.Refusal.{Refusal}
 use Rattle.sq_perform.specs.declared.refusal.RefusalName.{RefusalName}
@@ -45,12 +44,13 @@ pub record IsFirstFault (text : Bytes) (refusal : Refusal) : Type 0 where
   pub line : refusal.line ≡ fault.line
   pub column : refusal.column ≡ fault.column
 
--- What a refusal says of a text: its first fault, that no tree spells it, or that only such do as are nested deeper than brackets may be. One of what a
--- text means says nothing of its trees.
+-- What a refusal says of a text: its first fault, that no tree spells it, or that each tree that spells it
+-- nests brackets too deep. A refusal for what a text means says nothing of its trees.
 abbrev pub IsRefused : {T : Type 0} → (T → List Lexeme) → (T → ℕ) → Bytes → Refusal → Matter → Type 0
 IsRefused tokens_of depth_of text refusal Tokens = IsFirstFault text refusal
 IsRefused {T = T} tokens_of depth_of text refusal Grammar = (tree : T) → Spells text (tokens_of tree) → ⊥
-IsRefused {T = T} tokens_of depth_of text refusal Depth = (tree : T) → Spells text (tokens_of tree) → MAX_DEPTH < depth_of tree
+IsRefused {T = T} tokens_of depth_of text refusal Depth =
+    (tree : T) → Spells text (tokens_of tree) → MAX_DEPTH < depth_of tree
 IsRefused tokens_of depth_of text refusal Meaning = ⊤
 
 -- the texts that were read before a refusal: those before the refused one, and all of its kind where it is refused for what it means
@@ -61,7 +61,8 @@ read_before Depth text all = take text all
 read_before Meaning text all = all
 
 -- the refused text is at its index among these, and those that were read before spell trees
-pub record OneRefused {T : Type 0} (tokens_of : T → List Lexeme) (depth_of : T → ℕ) (all : List Bytes) (refusal : Refusal) : Type 0 where
+pub record OneRefused {T : Type 0} (tokens_of : T → List Lexeme) (depth_of : T → ℕ) (all : List Bytes)
+    (refusal : Refusal) : Type 0 where
   pub text : Bytes
   pub there : slice_get all refusal.text ≡ Some text
   pub refused : IsRefused tokens_of depth_of text refusal (matter refusal.what)
@@ -87,8 +88,9 @@ abbrev pub refused_part : SchemaText → ℕ → Option ℕ → ℕ
 refused_part s schema None = schema_start s schema
 refused_part s schema (Some element) = schema_element_start s schema element
 
--- the refusal stands at that token of the schema's text
-pub record StandsInSchema (schemas : List Bytes) (trees : List SchemaText) (found : FoundSchema) (refusal : Refusal) : Type 0 where
+-- The refusal stands at the first token of what is refused in the text of the schema.
+pub record StandsInSchema (schemas : List Bytes) (trees : List SchemaText) (found : FoundSchema)
+    (refusal : Refusal) : Type 0 where
   pub text : Bytes
   pub there : slice_get schemas found.text ≡ Some text
   pub tree : SchemaText
@@ -102,8 +104,9 @@ abbrev pub schema_fault : RefusalName → Option SchemaFault
 schema_fault (Schema name) = Some name.fault
 schema_fault _ = None
 
--- the refusal is this one: of its text, named for its fault, at its first token
-pub record IsOfSchema (schemas : List Bytes) (trees : List SchemaText) (found : FoundSchema) (refusal : Refusal) : Type 0 where
+-- The refusal is of this schema's text, named for its fault, at its first token.
+pub record IsOfSchema (schemas : List Bytes) (trees : List SchemaText) (found : FoundSchema)
+    (refusal : Refusal) : Type 0 where
   pub text : refusal.text ≡ found.text
   pub what : schema_fault refusal.what ≡ Some found.fault
   pub stands : StandsInSchema schemas trees found refusal
@@ -115,8 +118,9 @@ abbrev pub refused_start : ModuleText → Option ℕ → ℕ
 refused_start m None = 0
 refused_start m (Some item) = module_item_start m item
 
--- the refusal stands at that token of the module's text
-pub record StandsInModule (modules : List Bytes) (trees : List ModuleText) (found : FoundModule) (refusal : Refusal) : Type 0 where
+-- The refusal stands at the first token of what is refused in the text of the module.
+pub record StandsInModule (modules : List Bytes) (trees : List ModuleText) (found : FoundModule)
+    (refusal : Refusal) : Type 0 where
   pub text : Bytes
   pub there : slice_get modules found.text ≡ Some text
   pub tree : ModuleText
@@ -127,7 +131,7 @@ pub record StandsInModule (modules : List Bytes) (trees : List ModuleText) (foun
 
 -- the fault of a module that a refusal is named for
 abbrev pub module_fault : RefusalName → Option ModuleFault
-module_fault (Module name) = Some (fault_of name)
+module_fault (Module fault) = Some fault
 module_fault _ = None
 
 -- the first refusal of the modules that these texts spell, by the definitions: its text and its fault, at its first token

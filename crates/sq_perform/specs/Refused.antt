@@ -31,7 +31,7 @@ pub record AreDeclared (schemas : List Bytes) : Type 0 where
   pub catalog : Catalog
   pub declared : catalog_of trees ≡ Ok catalog
 
--- trees that they spell, which declare none, for this refusal
+-- Trees that the schemas spell, which declare no catalog, for this refusal.
 pub record AreNotDeclared (schemas : List Bytes) (refusal : Refusal) : Type 0 where
   pub trees : List SchemaText
   pub spelled : AllSpell schema_tokens schema_depth schemas trees
@@ -65,7 +65,8 @@ IsRefusedScript start script refusal Meaning = IsFirstItem start script refusal
 IsRefusedScript start script refusal m = IsRefused script_tokens script_depth script refusal m
 
 -- the script is refused by a session that the schemas and modules open
-pub record ScriptIsRefused (row_numbers : ℕ) (schemas modules : List Bytes) (script : Bytes) (refusal : Refusal) : Type 0 where
+pub record ScriptIsRefused (row_numbers : ℕ) (schemas modules : List Bytes) (script : Bytes)
+    (refusal : Refusal) : Type 0 where
   pub start : Session
   pub opened : Opened row_numbers schemas modules start
   pub text : refusal.text ≡ 0
@@ -81,7 +82,9 @@ unfoldable pub RefusedText : ℕ → List Bytes → List Bytes → Bytes → Run
 RefusedText row_numbers schemas modules script (SchemaRefused refusal) =
     OneRefused schema_tokens schema_depth schemas refusal × IsOfSchemas schemas refusal (matter refusal.what)
 RefusedText row_numbers schemas modules script (ModuleRefused refusal) =
-    AreDeclared schemas × OneRefused module_tokens module_depth modules refusal × IsOfModules modules refusal (matter refusal.what)
-RefusedText row_numbers schemas modules script (ScriptRefused refusal) = ScriptIsRefused row_numbers schemas modules script refusal
+    AreDeclared schemas × OneRefused module_tokens module_depth modules refusal
+    × IsOfModules modules refusal (matter refusal.what)
+RefusedText row_numbers schemas modules script (ScriptRefused refusal) =
+    ScriptIsRefused row_numbers schemas modules script refusal
 RefusedText row_numbers schemas modules script (Write bytes) = ⊤
 RefusedText row_numbers schemas modules script (NoMemory items) = ⊤

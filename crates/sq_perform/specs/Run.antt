@@ -39,7 +39,8 @@ pub record IsStart (row_numbers : ℕ) (s : Session) : Type 0 where
 -- base tables and views are those that are written, and the procedures are bound as they are written, where names of tables mean these.
 -- The schemas declare a catalog, and where names mean to each user what it says, the procedures and cursors are what the definitions of binding
 -- compute. The definitions refuse none of the modules.
-pub record IsOpened (row_numbers : ℕ) (schemas : List SchemaText) (modules : List ModuleText) (s : Session) : Type 0 where
+pub record IsOpened (row_numbers : ℕ) (schemas : List SchemaText) (modules : List ModuleText)
+    (s : Session) : Type 0 where
   pub tables : s.tables ≡ declared_tables schemas
   pub procedures : names_of s.procedures ≡ declared_procedures modules
   pub known : KnownTables

@@ -24,26 +24,33 @@ told r = record { status = r.status; outputs = map told_output r.outputs }
 
 -- the procedure or the base table is the session's of that name, and the procedure takes the values
 abbrev pub IsPrepared : Session → Action → Type 0
-IsPrepared s (Call c) = (procedure_number s.procedures c.«module» c.name ≡ Some c.procedure) × (fits_at s.procedures c.procedure c.values ≡ true)
+IsPrepared s (Call c) =
+    (procedure_number s.procedures c.«module» c.name ≡ Some c.procedure)
+    × (fits_at s.procedures c.procedure c.values ≡ true)
 IsPrepared s (Show x) = table_number s.tables x.user x.name ≡ Some x.table
 
 -- What a session may answer to a call of the procedure of that name, and the session behind it. The machine's step is to take its place.
 pub record Answered (s : Session) (c : CallAction) (reply : Reply) (t : Session) : Type 0 where
   pub prepared : IsPrepared s (Call c)
-  pub may : MayCall s.schemas (kind_at s.procedures c.procedure) c.values s.state (record { status = reply.status; outputs = reply.outputs }) t.state
+  pub may : MayCall s.schemas (kind_at s.procedures c.procedure) c.values s.state
+      (record { status = reply.status; outputs = reply.outputs }) t.state
   pub procedures : t.procedures ≡ s.procedures
   pub tables : t.tables ≡ s.tables
   pub schemas : t.schemas ≡ s.schemas
 
 -- An item's lines, and the session behind it: a call is answered with the reply that its line tells, and the table of that name is shown as it is.
 abbrev pub Step : Action → Session → Bytes → Session → Type 0
-Step (Call c) s lines t = (reply : Reply) × Answered s c reply t × (lines ≡ call_line (call_of c) (told reply))
-Step (Show x) s lines t = IsPrepared s (Show x) × (t ≡ s) × (lines ≡ table_lines (table_of x) (table_at s.state.tables x.table))
+Step (Call c) s lines t =
+    (reply : Reply) × Answered s c reply t × (lines ≡ call_line (call_of c) (told reply))
+Step (Show x) s lines t =
+    IsPrepared s (Show x) × (t ≡ s) × (lines ≡ table_lines (table_of x) (table_at s.state.tables x.table))
 
 -- all lines of these items, from one session to another
 abbrev pub Steps : List Action → Session → Bytes → Session → Type 0
 Steps [] s bytes t = (bytes ≡ []) × (t ≡ s)
-Steps (a ∷ rest) s bytes u = (lines : Bytes) × (others : Bytes) × (t : Session) × Step a s lines t × Steps rest t others u × (bytes ≡ lines ++ others)
+Steps (a ∷ rest) s bytes u =
+    (lines : Bytes) × (others : Bytes) × (t : Session) × Step a s lines t × Steps rest t others u
+    × (bytes ≡ lines ++ others)
 
 -- an output has taken the report of these items
 pub record Reported (actions : List Action) (start : Session) (old new : Option Bytes) : Type 0 where
@@ -53,7 +60,8 @@ pub record Reported (actions : List Action) (start : Session) (old new : Option 
   pub taken : Appends old new report
 
 -- an output has taken this many bytes of the report of these items, which has more
-pub record ReportedPart (count : ℕ) (actions : List Action) (start : Session) (old new : Option Bytes) : Type 0 where
+pub record ReportedPart (count : ℕ) (actions : List Action) (start : Session)
+    (old new : Option Bytes) : Type 0 where
   pub report : Bytes
   pub last : Session
   pub steps : Steps actions start report last

@@ -19,14 +19,16 @@ pub record Spells (text : Bytes) (lexed : List Lexeme) : Type 0 where
   pub same : lexemes tokens ≡ lexed
 
 -- a text that spells a tree with at most MAX_DEPTH round brackets open at once
-pub record SpellsTree {T : Type 0} (tokens_of : T → List Lexeme) (depth_of : T → ℕ) (text : Bytes) (tree : T) : Type 0 where
+pub record SpellsTree {T : Type 0} (tokens_of : T → List Lexeme) (depth_of : T → ℕ) (text : Bytes)
+    (tree : T) : Type 0 where
   pub spelled : Spells text (tokens_of tree)
   pub shallow : depth_of tree ≤ MAX_DEPTH
 
 -- each text spells the tree at its place
 abbrev pub AllSpell : {T : Type 0} → (T → List Lexeme) → (T → ℕ) → List Bytes → List T → Type 0
 AllSpell tokens_of depth_of [] [] = ⊤
-AllSpell tokens_of depth_of (text ∷ others) (tree ∷ trees) = SpellsTree tokens_of depth_of text tree × AllSpell tokens_of depth_of others trees
+AllSpell tokens_of depth_of (text ∷ others) (tree ∷ trees) =
+    SpellsTree tokens_of depth_of text tree × AllSpell tokens_of depth_of others trees
 AllSpell tokens_of depth_of _ _ = ⊥
 
 -- trees that the texts spell

@@ -10,7 +10,7 @@ pub(crate) enum Action {
     Show(ShowAction),
 }
 
-/// A call; `procedure` is the number of the procedure in the session.
+/// A call. `procedure` is the number of the procedure in the session.
 #[derive(Debug, Drop)]
 pub(crate) struct CallAction {
     pub module: Name,

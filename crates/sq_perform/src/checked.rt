@@ -29,14 +29,14 @@ use std::alloc::{AllocError, Global};
 /// A part of a text, and what is to be said of it: a cursor or a procedure of a module, or a view of a schema.
 #[derive(Clone, Copy, Debug)]
 pub struct Note {
-    /// Where its first token stands: from 1; a line ends with LF.
+    /// The line of the first token, from 1; a line ends with LF.
     pub line: usize,
-    /// From 1, in bytes.
+    /// The column of the first token, from 1, in bytes.
     pub column: usize,
-    /// Its module, or the user whose schema it is in.
+    /// The module that the part is in, or the user whose schema it is in.
     pub owner: Name,
     pub name: Name,
-    /// None of a procedure whose statement has no fault.
+    /// What is said of the part; `None` for a procedure whose statement has no fault.
     pub remark: Option<Remark>,
 }
 
@@ -100,7 +100,7 @@ pub fn check(alloc: Global, schemas: &[Vec<u8>], modules: &[Vec<u8>]) -> Result<
     }
 }
 
-/// The same over what the schemas define.
+/// What is to be said of module texts, over what the schemas define.
 #[tactic(auto, using(crate::proofs::Noted::are_checked))]
 fn check_over(
     alloc: Global,
@@ -281,7 +281,7 @@ fn notes_at(
     Ok(notes)
 }
 
-/// The first byte of the token of a number; that of the text where there is no such token.
+/// The first byte of the token with this number, or 0 where there is no such token.
 fn start_of(tokens: &[Token], number: usize) -> usize
     ensures { result ≡ spec.start_of tokens.now number }
 {
@@ -314,7 +314,7 @@ fn moved(text: &[u8], from: usize, place: Position, to: usize) -> Position
     further(place, Position::of(&text[from..], to - from))
 }
 
-/// The position that is as far behind another one as this one is behind the start of its text.
+/// The position `by` behind `from`, where `by` counts from the start of a text.
 fn further(from: Position, by: Position) -> Position
     requires byte { from.byte + by.byte < 2 ^ 64 }
     requires line { from.line + (by.line - 1) < 2 ^ 64 }

@@ -1,4 +1,4 @@
-//! Why something of a text is not taken.
+//! Why a text, or an item of one, is not taken.
 use std::alloc::{AllocError, AllocFailed};
 
 /// Why a text, or an item of one, is not taken.

@@ -87,7 +87,7 @@ fn shown<S: Store>(session: &Session<S>, user: Name, name: Name) -> Result<Actio
     }
 }
 
-/// The values that are handed in.
+/// The values of a call's arguments.
 fn values_of(alloc: Global, arguments: &Arguments) -> Result<Items<Value>, AllocError>
     ensures { IfOk result (λ values. values ≡ model.argument_values arguments.now) }
 {

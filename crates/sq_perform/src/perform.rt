@@ -1,3 +1,5 @@
+//! A run: what the script asks for is performed item by item, and the lines of each item are written.
+
 ghost use Rattle.std.specs.Prelude.{◌≡◌, ◌≤◌, false, All, IfErr, IfOk, OnOk};
 ghost use Rattle.sq_perform.specs.Refused.{RefusedText};
 ghost use Rattle.sq_perform.specs.Texts.{texts};

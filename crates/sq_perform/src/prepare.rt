@@ -113,7 +113,7 @@ pub(crate) fn built(
     }
 }
 
-/// A refusal of a schema definition at its first token, or of one of its elements at that one's.
+/// The refusal of a schema definition, or of one of its elements, at its first token.
 fn refused_schema(
     alloc: Global,
     schemas: &[Vec<u8>],
@@ -242,7 +242,7 @@ fn store_of<S: Store>(alloc: Global, catalog: &Catalog, limits: Limits) -> Resul
     )
 }
 
-/// A refusal of a module at its first token, or of one of its cursors or procedures at that one's.
+/// The refusal of a module, or of one of its cursors or procedures, at its first token.
 pub(crate) fn refused_module(
     alloc: Global,
     modules: &[Vec<u8>],
@@ -255,9 +255,9 @@ pub(crate) fn refused_module(
     ensures refused { SomeRefused module_tokens module_depth (texts modules.now) result }
     ensures first { IsModuleFault (texts modules.now) result }
 {
-    let ModuleRefusal { name, text, item } = refusal;
+    let ModuleRefusal { fault, text, item } = refusal;
     let token = refused_start(&trees[text], item);
-    refused_text::<ModuleText>(alloc, modules, text, token, RefusalName::Module(name))
+    refused_text::<ModuleText>(alloc, modules, text, token, RefusalName::Module(fault))
 }
 
 /// The first token of what is refused in a module.
@@ -287,7 +287,8 @@ fn actions_of<S: Store>(
     answer
 }
 
-/// The same for the tree that the script spells: all of its items, or the first that the session does not take.
+/// What the items of a script's tree ask a session for, or the refusal of the first item that the session does
+/// not take.
 #[tactic(auto, using(crate::proofs::Taken::taken_more))]
 fn actions_in<S: Store>(
     alloc: Global,
@@ -315,7 +316,7 @@ fn actions_in<S: Store>(
     Ok(actions)
 }
 
-/// A refusal of an item at its first token.
+/// The refusal of a script item at its first token.
 fn refused_item(
     alloc: Global,
     script: &[u8],

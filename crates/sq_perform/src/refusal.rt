@@ -1,6 +1,6 @@
 //! Why a run stops before its end.
 use sq_lex::LexFaultKind;
-use sq_session::ModuleRefusalName;
+use sq_rules::ModuleFault;
 use thiserror::Error;
 
 /// Why a run stops before its end.
@@ -29,9 +29,9 @@ pub enum RunFault {
 pub struct Refusal {
     /// The text's index among those of its kind, from 0.
     pub text: usize,
-    /// From 1; a line ends with LF.
+    /// The line of the token that is refused, from 1; a line ends with LF.
     pub line: usize,
-    /// From 1, in bytes.
+    /// The column of the token that is refused, from 1, in bytes.
     pub column: usize,
     pub what: RefusalName,
 }
@@ -55,8 +55,8 @@ pub enum RefusalName {
     #[error("{0}")]
     Schema(sq_catalog::RefusalName),
     /// A module, or one of its cursors or procedures, breaks a rule for which the text is refused and not just the call.
-    #[error("{0}")]
-    Module(ModuleRefusalName),
+    #[error("{0:?}")]
+    Module(ModuleFault),
     /// A call of a procedure that no module has.
     #[error("UnknownProcedure")]
     UnknownProcedure,

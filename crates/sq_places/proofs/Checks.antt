@@ -101,7 +101,7 @@ module _ {N : Naming} where
 -- ---- they are the same in every call
 
 module _ {N : Naming} (m : Reading N) (inputs : List Input) (caller : Name) where
-  -- the same scopes in another call
+  -- An environment with the same scopes, in another call.
   abbrev in_call : Env N.Item → Env N.Item
   in_call env = record { scopes = env.scopes; inputs = inputs; user = caller }
 

@@ -55,13 +55,13 @@ pub record IsDeclaredAs (known : KnownTables) (columns : TableKinds) (queries : 
   pub kinds_there : columns t.place ≡ Ok (kinds_of_columns t.columns)
   pub stands : StandsAt known queries content d.body t.place
 
--- so is each table and view, under its name
+-- Each table and view is known by its name as it is declared.
 abbrev pub AreDeclared : KnownTables → TableKinds → List BoundSpecification → Content → Tables → Type 0
 AreDeclared known columns queries content tables =
     AllByRecursion
     (λ d. Has (IsDeclaredAs known columns queries content d) (well_formed (known d.table.user d.table.name))) tables
 
--- and no other name is known
+-- No name is known but those of tables and views.
 abbrev pub AreAll : KnownTables → Tables → Type 0
 AreAll known tables = (name : TableName) → IfSome (known name.user name.name) (λ t. HasValue (descriptor_of tables name))
 
@@ -203,7 +203,7 @@ module _ (content : Content) (user : Name) (known : KnownTables) (columns : Tabl
       (IsKnownAs (before earlier) name)
       (each name) (λ t a. record { columns = a.0; rows = a.3; widths = a.4 })
 
-  -- and the columns have their kinds
+  -- The columns of earlier views have the kinds that are declared.
   pub typed_before : (earlier : Tables)
       → ((name : TableName) → IfSome (known_among earlier known name.user name.name) (IsSameTable (descriptor_of earlier name) (table_rows earlier content user name) columns shown))
       → AreTyped (before earlier) columns

@@ -24,7 +24,7 @@ abbrev pub SameValue : Setting → List (List FromItem) → Expr Named → Place
 SameValue s scopes e t = (env : Env Item) (other : Env (Unit {0})) → SeenEnv s.parameters scopes env other
     → value (named s) e env ≡ value (at_places s) t other
 
--- and so are those of the set functions in them, one by one
+-- Expressions in two readings mean the same, and so do the set functions in them, one by one.
 pub record SameExpr (s : Setting) (scopes : List (List FromItem)) (e : Expr Named) (t : PlacedExpr) : Type 0 where
   pub value : SameValue s scopes e t
   pub functions : AllZip (SameValue s scopes) (set_functions e) (set_functions t)

@@ -16,7 +16,7 @@ use Rattle.sq_bound.specs.Condition.{compared_with}
 use Rattle.sq_bound.specs.Known.{KnownTables}
 use Rattle.sq_bound.specs.declared.condition.Compared.TheVariants.{Scalar}
 use Rattle.sq_bound.specs.declared.names.ParameterDesc.{ParameterDesc}
-use Rattle.sq_binding.proofs.ColumnNames.{list_names, names_placed}
+use Rattle.sq_binding.specs.ColumnNames.{list_names, names_placed}
 use Rattle.sq_binding.specs.Condition.{compared_as}
 use Rattle.sq_binding.specs.From.{item_over, items_of, tables_of}
 use Rattle.sq_binding.specs.Placed.{placed_column}
@@ -28,7 +28,7 @@ use Rattle.sq_promises.specs.Names.{declared, named_table}
 use Rattle.sq_places.proofs.Outcomes.{each_of}
 use Rattle.sq_places.proofs.Setting.{scopes_with}
 
--- of each table that stands in a FROM clause P holds
+-- P holds of each table that stands in a FROM clause.
 abbrev mutual
   pub CondReads : {N : Naming} → (N.Table → Type 0) → Cond N → Type 0
   CondReads P (compare op a b) = ⊤
@@ -158,7 +158,7 @@ module _ (known other : KnownTables) (parameters : List ParameterDesc) where
         (λ shown. and_then (clause_becomes (items_of tables ∷ scopes) having h.2 i) (λ groups.
         Ok (select distinct (expressions shown) (tables_of tables) kept columns groups)))))))
 
-  -- so have its columns the same names
+  -- The columns of a query specification have the same names by names and by places.
   pub names_become : (q : Select Named) → SelectReads (MeansSame known other) q → names_placed (names.tables_of known) q ≡ names_placed (names.tables_of other) q
   names_become (select distinct list from filter by having) h =
       ap (λ o. and_then o (λ tables. Ok (list_names (items_of tables) list)))

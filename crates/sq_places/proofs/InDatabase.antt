@@ -180,7 +180,7 @@ module _ (m : by_name.Setting) (known : KnownTables) (kinds : TableKinds) (queri
         is_in : IsSearchIn m known shown bases parameters name (clause_written d.target) x
         is_in = search_in_database IsNumberOf name d.target x found is.is_under is.rows stars
 
-    -- of the row that a cursor is on
+    -- A positioned statement changes the row that a cursor is on.
     pub delete_at_comes_to_same : (IsNumberOf : Name → ℕ → Type 0) (d : Delete) (p : PositionedTarget)
         → IsDeleteOf IsNumberOf known parameters m.user d (change.Positioned p)
         → (found : IsFound m bases (table_of m.user d.table) p.leaf.table) → (number : ℕ) (r : Numbered) → row_at
@@ -228,7 +228,7 @@ module _ (m : by_name.Setting) (known : KnownTables) (kinds : TableKinds) (queri
         set =
             subst (λ o. SetOn (outside known parameters) name o (listed u.assignments) bound.assignments) is_in.table.is_known is.values
 
-    -- of the row that a cursor is on
+    -- A positioned statement changes the row that a cursor is on.
     pub update_at_comes_to_same : (IsNumberOf : Name → ℕ → Type 0) (u : Update) (bound : BoundUpdate) (p : PositionedTarget)
         → bound.target ≡ change.Positioned p
         → IsUpdateOf IsNumberOf known parameters m.user u bound

@@ -29,7 +29,7 @@ pub record IsKnownAs (s : Setting) (name : TableName) (t : KnownTable) : Type 0 
   pub rows : s.rows_of name ≡ s.shown t.place
   pub widths : IfOk (s.shown t.place) (AllByRecursion (λ row. length row ≡ length t.columns))
 
--- so is each name that is known
+-- Each known name is known for the table that the definitions find under it.
 abbrev pub IsFit : Setting → Type 0
 IsFit s = (name : TableName) → IfSome (s.known name.user name.name) (IsKnownAs s name)
 

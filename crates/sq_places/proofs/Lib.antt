@@ -35,6 +35,7 @@ pub mod Specifications
 pub mod StarRules
 pub mod Stars
 pub mod Statements
+pub mod SubqueriesSame
 pub mod Targets
 pub mod TargetsSet
 pub mod ViewTargets

@@ -67,7 +67,7 @@ module _ (names : List Name) (row : Row) where
       ∙ ap has_null (map-append (λ c. slice_index_or row c Null) (places_among names xs) (places_among names ys))
       ∙ list_any-append is_null (in_columns row (places_among names xs)) (in_columns row (places_among names ys))
 
-  -- of one column
+  -- NOT NULL of one column.
   null_of_one : (name : Name) (n : ℕ) → place_among names name ≡ Some n → (cs : List ColumnConstraint)
       → one_null (filter_map null_refused (map (of_column name) cs))
       ≡ (list_any is_not_null cs && is_null (slice_index_or row n Null))

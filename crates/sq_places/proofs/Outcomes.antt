@@ -10,7 +10,7 @@ pub if_then : {A B : Type 0} (o : Outcome A) (f : A → Outcome B) (P : A → Ty
 if_then (Ok x) f P Q p g = g x p
 if_then (Err status) f P Q p g = tt
 
--- and to what is known of the same value
+-- What follows from what is known of the value of an outcome.
 pub if_also : {A : Type 0} (o : Outcome A) (P Q : A → Type 0) → IfOk o P → ((x : A) → P x → Q x) → IfOk o Q
 if_also (Ok x) P Q p g = g x p
 if_also (Err status) P Q p g = tt
@@ -27,7 +27,7 @@ pub if_any : {A : Type 0} (o : Outcome A) → IfOk o (λ x. ⊤)
 if_any (Ok x) = tt
 if_any (Err status) = tt
 
--- of one, two or three parts that are made one
+-- Outcomes of one, two or three parts that are made one.
 pub if_one : {A D : Type 0} (o : Outcome A) (f : A → D) (P : A → Type 0) (S : D → Type 0) → IfOk o P → ((x : A) → P x → S (f x))
     → IfOk (and_then o (λ x. Ok (f x))) S
 if_one (Ok x) f P S p g = g x p
@@ -109,7 +109,7 @@ same_length R [] (y ∷ ys) r = absurd r
 same_length R (x ∷ xs) [] r = absurd r
 same_length R (x ∷ xs) (y ∷ ys) r = ap suc (same_length R xs ys r.1)
 
--- of elements of which something is known
+-- Outcomes of elements of which something is known.
 pub each_of : {A B : Type 0} (P : A → Type 0) (f g : A → Outcome B) → ((x : A) → P x → f x ≡ g x) → (xs : List A)
     → AllByRecursion P xs → each f xs ≡ each g xs
 each_of P f g h [] p = refl

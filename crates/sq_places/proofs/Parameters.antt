@@ -26,7 +26,7 @@ abbrev pub AreNamed : List ParameterDesc → List Input → Type 0
 AreNamed [] inputs = ⊤
 AreNamed (p ∷ parameters) inputs = map (λ q. q.name) (p ∷ parameters) ≡ map (λ i. i.name) inputs
 
--- and these values in two readings of them
+-- These are the values of the parameters in both readings.
 pub record SameInputs (parameters : List ParameterDesc) (inputs others : List Input) : Type 0 where
   pub names : AreNamed parameters inputs
   pub values : map (λ i. i.value) inputs ≡ map (λ i. i.value) others
@@ -90,7 +90,7 @@ named_same (q ∷ parameters) name = where_there (nat_lt first (length (declared
     where_there false = tt
     where_there true = there (slice_get (declared (q ∷ parameters)) first)
 
--- its indicator parameter, where one is written
+-- The indicator of a parameter, where one is written, is the same in both readings.
 abbrev SameIndicator : List ParameterDesc → Option Indicator → Option ℕ → Type 0
 SameIndicator parameters indicator at = (inputs others : List Input) → SameInputs parameters inputs others → (v : Value)
     → with_indicator (λ i. input_named inputs i.name) indicator v ≡ with_indicator (input_at others) at v

@@ -19,7 +19,7 @@ shown_of m d l h env scopes =
     and_then (kept (λ s. is_true (clause_truth m h (within s env))) scopes)
     (λ left. and_then (each (λ s. listed_values m l (within s env)) left) (λ found. Ok (if d then firsts same_row found else found)))
 
--- the same over a list, by a condition and a row of each
+-- The items of a list that pass a condition on a row of each.
 abbrev pub shown_by : {X : Type 0} → Bool → (X → Outcome Truth) → (X → Outcome Row) → List X → Outcome (List Row)
 shown_by d t f xs =
     and_then (kept (λ x. is_true (t x)) xs)

@@ -14,7 +14,7 @@ use Rattle.sq_meaning.specs.Spelled.{Named}
 use Rattle.sq_bound.specs.Condition.{PlacedSelect}
 use Rattle.sq_bound.specs.Query.{PlacedQuery}
 use Rattle.sq_bound.specs.WellFormed.{TableKinds}
-use Rattle.sq_binding.proofs.ColumnNames.{item_names, names_placed}
+use Rattle.sq_binding.specs.ColumnNames.{item_names, names_placed}
 use Rattle.sq_binding.specs.From.{items_of, tables_of}
 use Rattle.sq_binding.specs.Placed.{placed_column}
 use Rattle.sq_binding.specs.PlacedQuery.{clause_placed, item_placed, list_placed, select_placed}

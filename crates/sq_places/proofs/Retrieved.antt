@@ -32,7 +32,7 @@ use Rattle.sq_bound.specs.declared.statement.BoundSelect.{BoundSelect}
 use Rattle.sq_binding.specs.PlacedUnion.{query_placed}
 use Rattle.sq_promises.specs.Names.{declared, tables_of}
 use Rattle.sq_promises.specs.Seen.{sort_seen}
-use Rattle.sq_promises.specs.Written.{IsRowOf, IsSortedBy, IsUpdatableOf, QueryIs, query_names_placed}
+use Rattle.sq_promises.specs.Written.{IsSelectOf, IsSortedBy, IsUpdatableOf, QueryIs, query_names_placed}
 use Rattle.sq_change.specs.Made.{Shown}
 use Rattle.sq_query.specs.Table.{stored_numbered}
 use Rattle.sq_query.specs.Target.{conditions_of, is_true_of, numbers_chosen}
@@ -104,7 +104,7 @@ module _ (r : Running) (known : KnownTables) (kinds : TableKinds) (queries : Lis
     (parameters : List ParameterDesc) (names : AreNamed parameters (setting r).inputs) where
   -- The only row of a query is the same (13.5).
   pub selected_row_same : (s : SelectStatement) (x : BoundSelect) → SelectStars (select_of_statement r.in_module.authorization s)
-      → IsRowOf known parameters r.in_module.authorization s x
+      → IsSelectOf known parameters r.in_module.authorization s x
       → selected_row r s ≡ and_then (rows (by_place shown) (select_of x.query) (outer_places (setting r))) single_row
   selected_row_same s x stars is =
       ap (λ (o : Outcome (List Row)). and_then o single_row)

@@ -182,7 +182,7 @@ row_among (x ∷ rows) n r e = by_test (nat_eq x.number n) refl e (row_among row
         (ap (λ (y : Numbered). y.number) (sym same) ∙ eqb-true x.number n is, inr ([], ap (λ y. y ∷ []) (sym same), none_within rows))
     by_test false is e others = let found = others e in (found.0, inl found.1)
 
--- so what is done with the rows under some numbers is done with these rows
+-- What is done with the rows under some numbers is done with these rows.
 pub each_under : {A : Type 0} (f : Numbered → Outcome A) (t : Table) (found : List Numbered)
     → rising_between 1 t.rows t.next ≡ true → IsWithin found t.rows
     → each (λ n. and_then (well_formed (row_at t n)) f) (numbers_of found) ≡ each f found

@@ -86,7 +86,7 @@ module _ (m : by_name.Setting) (known : KnownTables) (shown : Shown) (bases : Li
       ap length t.names ∙ length-map t.table.columns (λ (c : Column). c.name)
       ∙ sym (ap length t.under.columns_are ∙ length-map t.table.columns (λ (c : Column). c.leaf_column))
 
-  -- it shows all columns
+  -- The query over the table shows all its columns.
   pub columns_shown : (clause : Clause Named) → (searched clause).columns ≡ t.target.columns
   columns_shown clause = all_columns_shown t.target.columns (column_names t.descriptor) columns_count
 
@@ -187,7 +187,7 @@ module _ (m : by_name.Setting) (queries : List BoundSpecification) (known : Know
       ap (λ (o : Outcome (List ℕ)). and_then o if_some)
       (target_numbers_same m known shown bases (leaf_positions h.table.table.columns) under_search target searched_as)
 
-  -- they are the numbers of rows of the table
+  -- The numbers chosen are numbers of rows of the table.
   pub numbers_within : IfOk (and_then (chosen_numbers (reading m) (outer_env m) target (rows_at m target.place)) if_some)
       (AreNumbersIn (rows_at m target.place))
   numbers_within =

@@ -38,7 +38,7 @@ values_in m = map (λ i. i.value) m.inputs
 abbrev pub seen_in : by_name.Setting → List BoundSpecification → Seen
 seen_in m queries = seen_by queries m.content m.user (values_in m)
 
--- and both readings together
+-- Both readings together.
 abbrev pub read_in : by_name.Setting → KnownTables → Shown → List ParameterDesc → Setting
 read_in m known shown parameters = in_database (tables_in m) m.content m.user known shown parameters
 
@@ -57,7 +57,7 @@ pub record IsColumnAs (w : ColumnDefinition) (c : BaseColumn) : Type 0 where
   pub domain : column_domain w ≡ c.domain
   pub default : (user : Name) → assigned (column_domain w) (default_value user w.default) ≡ default_stored user c.domain c.default
 
--- so do all columns of it
+-- Each written column of a table is the bound column at its place.
 abbrev pub IsTableAs : BaseTable → BoundTable → Type 0
 IsTableAs t b = AllZip IsColumnAs (column_definitions t.definition) b.columns
 

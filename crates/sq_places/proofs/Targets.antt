@@ -176,7 +176,7 @@ levels_met s env other Wide (level ∷ levels) (absent ∷ cs) h row w =
 levels_met s env other Wide (level ∷ levels) (present c ∷ cs) h row w =
     (λ i. and_then (and_then (is_true (h.0 row w i)) is_or_violates) (λ _. levels_met s env other Wide levels cs h.1 row w i))
 
--- by name so many levels are demanded, by place the conditions that are written among them
+-- By name a number of levels is demanded, by place the conditions that are written among them.
 pub written_first : (n : ℕ) (cs : List PlacedClause) → take (length (written (take n cs))) (written cs) ≡ written (take n cs)
 written_first zero cs = none_taken (written cs)
   where

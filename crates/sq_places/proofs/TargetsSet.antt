@@ -105,7 +105,7 @@ placed_at ps name place d e = by_position (position test ps) refl (sym (named_as
     by_position None h e = cc
     by_position (Some n) h e = by_found n h (slice_get ps n) refl e
 
--- its indicator parameter, where one is written
+-- The indicator of a target, where one is written, is the same in both readings.
 abbrev pub IsIndicator : List ParameterDesc → Option Indicator → Option ℕ → Type 0
 IsIndicator ps None None = ⊤
 IsIndicator ps None (Some n) = ⊥

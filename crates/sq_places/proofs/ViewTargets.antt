@@ -59,7 +59,7 @@ IsUnderBody known bases (base_table n) columns u =
     (leaf_positions columns ≡ map (λ p. p.0) (enumerate_from 0 columns)) × (length columns ≡ width_at bases n)
 IsUnderBody known bases (viewed_table q check_option) columns u = IsUnderView known q check_option columns u
 
--- so it is for each table and view under which something is known, as the catalog says
+-- What is under each table and view that may be changed is what the catalog says.
 abbrev pub AreUnder : KnownTables → List BaseTable → Tables → Type 0
 AreUnder known bases tables =
     AllByRecursion

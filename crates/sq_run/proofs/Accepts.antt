@@ -18,7 +18,7 @@ use Rattle.sq_run.specs.Written.{IsReported, Wrote}
 use Rattle.sq_run.proofs.Scripts.{script_accepted}
 
 module _ (row_numbers : ℕ) (schemas modules : List Bytes) (script : Bytes) where
-  -- its texts are accepted
+  -- The texts of a run are accepted.
   abbrev texts_of : Run row_numbers schemas modules script → Accepted schemas modules script
   texts_of r = record {
     schemas_are = record {
@@ -58,7 +58,7 @@ module _ (row_numbers : ℕ) (schemas modules : List Bytes) (script : Bytes) whe
     stops (Ok u) h = h
     stops (Err fault) h = wrote fault h
 
-  -- laws of the machine
+  -- What the laws of the machine say of the texts.
   pub constraints_kept : ConstraintsAreKept row_numbers schemas modules script
   unfolding ConstraintsAreKept
   constraints_kept a count =

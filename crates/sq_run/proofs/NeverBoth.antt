@@ -25,7 +25,7 @@ use Rattle.sq_run.specs.Refused.{IsOfSchemas, IsOfScript, RefusedText, ScriptIsR
 
 -- ---- one text
 
--- one that spells a tree is not refused for how it is spelled
+-- A text that spells a tree is not refused for how it is spelled.
 well_spelled : {T : Type 0} (tokens_of : T → List Lexeme) (depth_of : T → ℕ) (text : Bytes) (tree : T) (refusal : Refusal) (m : Matter)
     → SpellsTree tokens_of depth_of text tree → (m ≡ Meaning → ⊥) → IsRefused tokens_of depth_of text refusal m → ⊥
 well_spelled tokens_of depth_of text tree refusal Tokens spells other is = cc (spells.spelled.read, is.read)
@@ -35,7 +35,7 @@ well_spelled tokens_of depth_of text tree refusal Depth spells other is =
     omega (arith, deep, spells.shallow)
 well_spelled tokens_of depth_of text tree refusal Meaning spells other is = other refl
 
--- its tree is the only one
+-- The tree of a text is its only one.
 same_tree : {T : Type 0} (tokens_of : T → List Lexeme) (depth_of : T → ℕ) (one : (a b : T) → tokens_of a ≡ tokens_of b → a ≡ b) (text : Bytes) (a b : T)
     → SpellsTree tokens_of depth_of text a → SpellsTree tokens_of depth_of text b → a ≡ b
 same_tree tokens_of depth_of one text a b p q =

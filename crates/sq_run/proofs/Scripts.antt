@@ -52,7 +52,7 @@ use Rattle.sq_perform.specs.declared.refusal.RefusalName.TheVariants as refusal
 use Rattle.sq_laws.proofs.SiteLaws.{all_parts}
 use Rattle.sq_agreement.proofs.Numbers.{none_there}
 
--- none on both sides, or a name and the fault that it is for
+-- The code and the definitions find no fault, or the code a name and the definitions the fault that it is for.
 abbrev pub AreAlike : Option RefusalName → Option ScriptFault → Type 0
 AreAlike None o = o ≡ None
 AreAlike (Some what) o = (f : ScriptFault) × (o ≡ Some f) × (script_fault what ≡ Some f)
@@ -209,7 +209,7 @@ module _ (row_numbers : ℕ) (texts : List SchemaText) (modules : List ModuleTex
       ap (λ o. option_or (option_map (λ g. record { item = n; fault = g }) o) (first_of (map (item_refusal elements modules) (enumerate_from (n + 1) xs)))) (no_fault y before.0)
       ∙ first_refusal (n + 1) k xs x f at is before.1 ∙ ap (λ i. Some (record { item = i; fault = f })) there
 
-  -- Where one is not taken, and all before it are, its fault is the first refusal.
+  -- Where an item is not taken, and all before it are, its fault is the first refusal.
   pub record IsFirst (text : ScriptText) (number : ℕ) (what : RefusalName) : Type 0 where
     pub fault : ScriptFault
     pub first : first_script_refusal elements modules text ≡ Some (record { item = number; fault = fault })

@@ -34,16 +34,20 @@ pub record Accepted (schemas modules : List Bytes) (script : Bytes) : Type 0 whe
   pub accepted : first_script_refusal (elements_of schemas_are.trees) modules_are.trees tree ≡ None
 
 -- what the script asks for
-abbrev pub items : {schemas modules : List Bytes} {script : Bytes} → Accepted schemas modules script → List Item
+abbrev pub items : {schemas modules : List Bytes} {script : Bytes} → Accepted schemas modules script
+    → List Item
 items a = map item_of_script a.tree.items
 
--- the machine of the schemas and modules, whose rows may have numbers up to this one
-abbrev pub machine : {schemas modules : List Bytes} {script : Bytes} → ℕ → Accepted schemas modules script → Program
+-- The table machine of the schemas and modules, whose rows may have numbers up to this one.
+abbrev pub machine : {schemas modules : List Bytes} {script : Bytes} → ℕ → Accepted schemas modules script
+    → Program
 machine row_numbers a = program_of a.schemas_are.trees a.modules_are.trees row_numbers
 
--- what it reports of some items, from the first state on, and the state behind them
-abbrev pub lines : {schemas modules : List Bytes} {script : Bytes} → ℕ → Accepted schemas modules script → List Item → Bytes
+-- What the table machine reports of some items, from the first state on.
+abbrev pub lines : {schemas modules : List Bytes} {script : Bytes} → ℕ → Accepted schemas modules script
+    → List Item → Bytes
 lines row_numbers a some = report (machine row_numbers a) (first_state (machine row_numbers a)) some
 
-abbrev pub behind : {schemas modules : List Bytes} {script : Bytes} → ℕ → Accepted schemas modules script → List Item → State
+abbrev pub behind : {schemas modules : List Bytes} {script : Bytes} → ℕ → Accepted schemas modules script
+    → List Item → State
 behind row_numbers a some = after (machine row_numbers a) (first_state (machine row_numbers a)) some

@@ -37,7 +37,8 @@ IsOfSchemas schemas refusal _ = ⊤
 -- ---- the script
 
 -- the first refusal of the script that this text spells, for its fault, at the first token of the item
-pub record IsFirstItem (elements : Elements) (modules : List ModuleText) (script : Bytes) (refusal : Refusal) : Type 0 where
+pub record IsFirstItem (elements : Elements) (modules : List ModuleText) (script : Bytes)
+    (refusal : Refusal) : Type 0 where
   pub tree : ScriptText
   pub spelled : SpellsTree script_tokens script_depth script tree
   pub found : ScriptRefusal
@@ -57,7 +58,8 @@ pub record ScriptIsRefused (schemas modules : List Bytes) (script : Bytes) (refu
   pub schemas_are : AcceptedSchemas schemas
   pub modules_are : AcceptedModules modules
   pub text : refusal.text ≡ 0
-  pub refused : IsOfScript (elements_of schemas_are.trees) modules_are.trees script refusal (matter refusal.what)
+  pub refused : IsOfScript (elements_of schemas_are.trees) modules_are.trees script refusal
+      (matter refusal.what)
 
 -- ---- the texts of a run
 
@@ -69,7 +71,8 @@ unfoldable pub RefusedText : List Bytes → List Bytes → Bytes → RunFault �
 RefusedText schemas modules script (SchemaRefused refusal) =
     OneRefused schema_tokens schema_depth schemas refusal × IsOfSchemas schemas refusal (matter refusal.what)
 RefusedText schemas modules script (ModuleRefused refusal) =
-    AcceptedSchemas schemas × OneRefused module_tokens module_depth modules refusal × IsOfModules modules refusal (matter refusal.what)
+    AcceptedSchemas schemas × OneRefused module_tokens module_depth modules refusal
+    × IsOfModules modules refusal (matter refusal.what)
 RefusedText schemas modules script (ScriptRefused refusal) = ScriptIsRefused schemas modules script refusal
 RefusedText schemas modules script (Write bytes) = ⊤
 RefusedText schemas modules script (NoMemory items) = ⊤

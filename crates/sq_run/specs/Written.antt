@@ -18,7 +18,9 @@ Wrote row_numbers schemas modules script old new (SchemaRefused refusal) = new �
 Wrote row_numbers schemas modules script old new (ModuleRefused refusal) = new ≡ old
 Wrote row_numbers schemas modules script old new (ScriptRefused refusal) = new ≡ old
 Wrote row_numbers schemas modules script old new (Write bytes) =
-    (a : Accepted schemas modules script) × (bytes < length (lines row_numbers a (items a))) × Appends old new (take bytes (lines row_numbers a (items a)))
+    (a : Accepted schemas modules script) × (bytes < length (lines row_numbers a (items a)))
+    × Appends old new (take bytes (lines row_numbers a (items a)))
 Wrote row_numbers schemas modules script old new (NoMemory zero) = new ≡ old
 Wrote row_numbers schemas modules script old new (NoMemory (suc count)) =
-    (a : Accepted schemas modules script) × (suc count < length (items a)) × Appends old new (lines row_numbers a (take (suc count) (items a)))
+    (a : Accepted schemas modules script) × (suc count < length (items a))
+    × Appends old new (lines row_numbers a (take (suc count) (items a)))

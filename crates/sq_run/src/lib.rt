@@ -5,6 +5,6 @@ mod processor;
 
 pub use processor::run;
 pub use sq_perform::{
-    LexFaultKind, Limits, ModuleRefusalName, Out, OutFault, OutOf, Refusal, RefusalName, RunFault,
+    LexFaultKind, Limits, ModuleFault, Out, OutFault, OutOf, Refusal, RefusalName, RunFault,
     SchemaRefusalName,
 };

@@ -1,3 +1,5 @@
+//! The entry of a run: its contract says what is written and refused by the definitions of the language alone.
+
 ghost use Rattle.std.specs.Prelude.{◌≡◌, ◌≤◌, false, IfErr, OnOk};
 ghost use Rattle.sq_perform.specs.Stop.{is_write};
 ghost use Rattle.sq_perform.specs.Texts.{texts};
@@ -43,8 +45,10 @@ pub fn run<S: Store, W: Out>(
     ensures refused { IfErr result (RefusedText (texts schemas.now) (texts modules.now) script.now) }
 
     // Behind each item each declared constraint holds, and a call that is not successful changes no table.
-    ensures constraints { ConstraintsAreKept limits.row_numbers (texts schemas.now) (texts modules.now) script.now }
-    ensures failures { FailuresChangeNothing limits.row_numbers (texts schemas.now) (texts modules.now) script.now }
+    ensures constraints { ConstraintsAreKept
+        limits.row_numbers (texts schemas.now) (texts modules.now) script.now }
+    ensures failures { FailuresChangeNothing
+        limits.row_numbers (texts schemas.now) (texts modules.now) script.now }
 {
     sq_perform::run::<S, W>(alloc, schemas, modules, script, limits, out)
 }

@@ -21,7 +21,7 @@ use Rattle.sq_session.specs.Step.{MayDelete, MayDeleteAt, MayStep, MayUpdate, Ma
 use Rattle.sq_session.specs.Target.{ended}
 use Rattle.sq_session.specs.declared.cursor.CursorState.{CursorState}
 use Rattle.sq_session.specs.declared.reply.Done.{Done}
-use Rattle.sq_session.specs.declared.walk.ListedCursor.{ListedCursor}
+use Rattle.sq_session.specs.declared.walk_list.ListedCursor.{ListedCursor}
 
 -- lists put in the place of walks
 pub put_as_many : (cs : List CursorState) (ls : List ListedCursor) → length (put_all cs ls) ≡ length cs

@@ -43,7 +43,7 @@ number_unfit d (Chars t) small unfit = cc
 
 -- ---- a value that fits
 
--- it is null, a number for a domain of numbers, or a text for one of texts
+-- A value that fits a domain is null, a number where the domain is of numbers, or a text where it is of texts.
 pub kind_fits : (d : Domain) (v : Value) → fits_in d v ≡ true → FitsKind d v
 kind_fits d Null h = tt
 kind_fits Small (Num n) h = search rules
@@ -57,13 +57,13 @@ kind_fits (Numeric p s) (Chars t) h = cc
 kind_fits (Char k) (Chars t) h = search rules
 kind_fits (VarChar k) (Chars t) h = search rules
 
--- storing it has no fault
+-- A value that fits a domain is stored without a fault.
 pub is_stored : (d : Domain) (v : Value) (fault : StoreFault) → fits_in d v ≡ true → ¬ (stored d v ≡ Err fault)
 is_stored d v fault h e = true≢false (sym h ∙ ap is_ok e)
 
 -- ---- one parameter after the other
 
--- the values of those before fit
+-- The values of the parameters before this one fit.
 abbrev pub FitSoFar : List ParameterDesc → List Value → ℕ → Type 0
 FitSoFar ps vs i = fit (map declared (drop i ps)) (drop i vs) ≡ fit (map declared ps) vs
 
@@ -77,14 +77,14 @@ fit_here ps vs i p v lt in_values at_p at_v =
     ap₂ (λ qs ws. fit (map declared qs) ws) (drop_more ps i p lt) (drop_more vs i v in_values)
     ∙ ap₂ (λ (q : ParameterDesc) w. fits_in q.domain w && rest) (sym at_p) (sym at_v)
 
--- one that does not fit
+-- One value that does not fit: not all fit.
 pub fit_stops : (ps : List ParameterDesc) (vs : List Value) (i : ℕ) (p : ParameterDesc) (v : Value) (b : Bool) → i < length ps → i < length vs → p ≡ get_or ps i p → v ≡ get_or vs i v
     → b ≡ fits_in p.domain v → b ≡ false → FitSoFar ps vs i → false ≡ fit (map declared ps) vs
 fit_stops ps vs i p v b lt in_values at_p at_v fits none so =
     let rest = fit (map declared (drop (i + 1) ps)) (drop (i + 1) vs) in
     sym (sym so ∙ fit_here ps vs i p v lt in_values at_p at_v ∙ ap (λ c. c && rest) (sym fits ∙ none))
 
--- one more that fits
+-- One more value fits.
 pub fit_next : (ps : List ParameterDesc) (vs : List Value) (i : ℕ) (p : ParameterDesc) (v : Value) (b : Bool) → i < length ps → i < length vs → p ≡ get_or ps i p → v ≡ get_or vs i v
     → b ≡ fits_in p.domain v → b ≡ true → FitSoFar ps vs i → FitSoFar ps vs (i + 1)
 fit_next ps vs i p v b lt in_values at_p at_v fits passes so =
@@ -97,13 +97,13 @@ past [] (suc i) h = refl
 past (x ∷ xs) zero h = absurd (omega (arith, h))
 past (x ∷ xs) (suc i) h = past xs i (omega (arith, h))
 
--- all fit
+-- All values fit.
 pub fit_all : (ps : List ParameterDesc) (vs : List Value) (i : ℕ) → length ps ≤ i → length ps ≡ length vs → FitSoFar ps vs i → true ≡ fit (map declared ps) vs
 fit_all ps vs i le even so =
     let none : length vs ≤ i = omega (arith, le, even) in
     sym (ap₂ (λ qs ws. fit (map declared qs) ws) (past ps i le) (past vs i none)) ∙ so
 
--- more or fewer values than parameters
+-- There are more or fewer values than parameters.
 pub fit_uneven : (ps : List ParameterDesc) (vs : List Value) → ¬ (length ps ≡ length vs) → false ≡ fit (map declared ps) vs
 fit_uneven [] [] h = absurd (h refl)
 fit_uneven [] (v ∷ vs) h = refl

@@ -17,7 +17,7 @@ use Rattle.sq_session.specs.Session.{procedures_of}
 abbrev Entry : Type 0
 Entry = ProcedureName × BoundProcedure
 
--- it is well formed, where those of all procedures are
+-- A statement is well formed, where those of all procedures are.
 pub asked_at : (columns : TableKinds) (cs : List DeclaredCursor) (es : List Entry) (n : ℕ) (e : Entry) (s : BoundStatement) → slice_get es n ≡ Some e → e.1.statement ≡ Ok s
     → ProceduresAreWellFormed columns (kinds_of_cursors cs) es → ProceduresOpen columns cs es → IsAsked columns cs (kinds_of_parameters e.1.parameters) s
 asked_at columns cs es n e s at is formed opened =
@@ -25,14 +25,14 @@ asked_at columns cs es n e s at is formed opened =
     let two : ProcedureOpens columns cs e.1 = all_at (λ (x : Entry). ProcedureOpens columns cs x.1) es n e opened at in
     (rw is at one, rw is at two)
 
--- it fits the base tables and the cursors, where those of all procedures do
+-- A statement fits the base tables and the cursors, where those of all procedures do.
 pub fitting_at : (bases : List BaseTable) (cursors : ℕ) (es : List Entry) (n : ℕ) (e : Entry) (s : BoundStatement) → slice_get es n ≡ Some e → e.1.statement ≡ Ok s
     → ProceduresFit bases cursors es → FitsStatement bases cursors (length e.1.parameters) s
 fitting_at bases cursors es n e s at is fit =
     let one : FitsProcedure bases cursors e.1 = all_at (λ (x : Entry). FitsProcedure bases cursors x.1) es n e fit at in
     rw is at one
 
--- one with a fault is of no kind
+-- A statement with a fault is of no kind.
 pub no_kind_is : (cs : List DeclaredCursor) (es : List Entry) (n : ℕ) (e : Entry) (f : Fault) → slice_get es n ≡ Some e → e.1.statement ≡ Err f → kind_at (procedures_of cs es) n ≡ None
 no_kind_is cs [] n e f h k = cc
 no_kind_is cs (x ∷ es) zero e f h k = grind (arith, h, k)

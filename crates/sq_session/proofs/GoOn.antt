@@ -10,19 +10,19 @@ use Rattle.sq_session.specs.Cursors.{AreThere, go_on, goes_on, listed, put, put_
 use Rattle.sq_session.specs.declared.cursor.CursorState.{CursorState}
 use Rattle.sq_session.specs.declared.cursor.CursorState.TheVariants as cursor
 use Rattle.sq_session.specs.declared.cursor.NumbersCursor.{NumbersCursor}
-use Rattle.sq_session.specs.declared.walk.ListedCursor.{ListedCursor}
+use Rattle.sq_session.specs.declared.walk_list.ListedCursor.{ListedCursor}
 use Rattle.sq_session.specs.declared.walk.WalkingCursor.{WalkingCursor}
 
 -- ---- one cursor
 
--- where it reads what changes
+-- A walking cursor that reads what an UPDATE changes goes on over its list.
 pub goes_on_listed : (u : BoundUpdate) (tables : Content) (d : DeclaredCursor) (w : WalkingCursor) → reads u d w ≡ true → goes_on u tables d (cursor.Walking w) ≡ cursor.Numbers (listed d tables w)
 goes_on_listed u tables d w h = rw h refl
 
 pub goes_on_walking : (u : BoundUpdate) (tables : Content) (d : DeclaredCursor) (w : WalkingCursor) → reads u d w ≡ false → goes_on u tables d (cursor.Walking w) ≡ cursor.Walking w
 goes_on_walking u tables d w h = rw h refl
 
--- the list that is made where it does, and there alone
+-- The list is made exactly for such a cursor.
 pub some_listed : (b : Bool) (x y : NumbersCursor) → Some x ≡ then_some b y → (b ≡ true) × (x ≡ y)
 some_listed true x y h = (refl, cc)
 some_listed false x y h = cc
@@ -31,7 +31,7 @@ pub none_listed : (b : Bool) (y : NumbersCursor) → None ≡ then_some b y → 
 none_listed true y h = cc
 none_listed false y h = refl
 
--- one that does not walk stays as it is
+-- A cursor that does not walk stays as it is.
 pub goes_on_same : (u : BoundUpdate) (tables : Content) (d : DeclaredCursor) (c : CursorState) → ((w : WalkingCursor) → c ≡ cursor.Walking w → ⊥) → goes_on u tables d c ≡ c
 goes_on_same u tables d cursor.Closed h = refl
 goes_on_same u tables d (cursor.Rows c) h = refl
@@ -57,7 +57,7 @@ module _ (u : BoundUpdate) (tables : Content) where
   same_suc (y ∷ ds) (e ∷ cs) zero d c lt h = ap (λ z. z ∷ cs) (sym h)
   same_suc (y ∷ ds) (e ∷ cs) (suc n) d c lt h = ap (λ zs. goes_on u tables y e ∷ zs) (same_suc ds cs n d c (omega (arith, lt)) h)
 
-  -- the next one is put in place
+  -- The list of the next cursor is put in its place.
   pub listed_next : (ds : List DeclaredCursor) (cs : List CursorState) (ls : List ListedCursor) (n : ℕ) (d : DeclaredCursor) (c : CursorState) (l : NumbersCursor) → n < length ds
       → goes_on u tables (get_or ds n d) (get_or cs n c) ≡ cursor.Numbers l → put_all cs ls ≡ go_on u tables (take n ds) cs
       → put_all cs (ls ++ record { number = n; cursor = l } ∷ []) ≡ go_on u tables (take (n + 1) ds) cs
@@ -67,18 +67,18 @@ module _ (u : BoundUpdate) (tables : Content) where
       ∙ put_suc ds cs n d c (cursor.Numbers l) lt h
       ∙ ap (λ m. go_on u tables (take m ds) cs) (sym (add-one n))
 
-  -- the next one stays as it is
+  -- The next cursor walks, and stays as it is.
   pub same_next : (ds : List DeclaredCursor) (cs xs : List CursorState) (n : ℕ) (d : DeclaredCursor) (c : CursorState) → n < length ds
       → goes_on u tables (get_or ds n d) (get_or cs n c) ≡ get_or cs n c → xs ≡ go_on u tables (take n ds) cs → xs ≡ go_on u tables (take (n + 1) ds) cs
   same_next ds cs xs n d c lt h so_far = so_far ∙ same_suc ds cs n d c lt h ∙ ap (λ m. go_on u tables (take m ds) cs) (sym (add-one n))
 
-  -- so does one that does not walk
+  -- The next cursor does not walk, and stays as it is.
   pub idle_next : (ds : List DeclaredCursor) (cs xs : List CursorState) (n : ℕ) (c : CursorState) → n < length ds
       → ((d : DeclaredCursor) → goes_on u tables d (get_or cs n c) ≡ get_or cs n c) → xs ≡ go_on u tables (take n ds) cs → xs ≡ go_on u tables (take (n + 1) ds) cs
   idle_next [] cs xs n c lt h so_far = absurd (omega (arith, lt))
   idle_next (y ∷ ds) cs xs n c lt h so_far = same_next (y ∷ ds) cs xs n y c lt (h (get_or (y ∷ ds) n y)) so_far
 
-  -- in the end all do
+  -- In the end all cursors are looked at.
   pub listed_all : (ds : List DeclaredCursor) (cs xs : List CursorState) (n : ℕ) → length ds ≤ n → xs ≡ go_on u tables (take n ds) cs → xs ≡ go_on u tables ds cs
   listed_all ds cs xs n enough so_far = so_far ∙ ap (λ es. go_on u tables es cs) (take_all n ds enough)
 

@@ -74,7 +74,7 @@ wide_in columns (r ∷ rows) h =
     let rest = wide_in columns rows h.1 in
     grind (arith, common_steps)
 
--- then a row has a value for each column of its table
+-- A row whose values are in the domains of its columns has a value for each column of its table.
 pub wide_where_in : (bases : List BaseTable) (content : Content) → AreInDomains bases content → holds bases content ≡ true
 wide_where_in [] [] h = refl
 wide_where_in [] (t ∷ ts) h = absurd h
@@ -95,7 +95,7 @@ as_many_tables [] (t ∷ ts) h = none h
 as_many_tables (b ∷ bases) [] h = none h
 as_many_tables (b ∷ bases) (t ∷ ts) h = ap suc (as_many_tables bases ts (and_parts (have_width (length b.columns) t.rows) (holds bases ts) h).1)
 
--- and as many names
+-- A catalog has as many names of base tables as base tables.
 pub as_many_names : (c : Catalog) → length c.bases ≡ length c.tables
 as_many_names c = eqb-true (length c.bases) (length c.tables) c.counted
 

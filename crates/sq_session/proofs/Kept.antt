@@ -35,7 +35,7 @@ use Rattle.sq_session.proofs.Reached.{number_kept, walk_kept}
 module _ (columns : TableKinds) where
   -- ---- a cursor that is put in place of another
 
-  -- one that has listed what the other had, or nothing
+  -- A cursor that keeps what the one before it kept is put in its place.
   pub put_like : (ds : List DeclaredCursor) (cs : List CursorState) (n : ℕ) (c e : CursorState) → HaveKept columns ds cs → slice_index_or cs n cursor.Closed ≡ c
       → ((k : BoundCursor) → HasKept columns k c → HasKept columns k e) → HaveKept columns ds (slice_set cs n e)
   put_like [] [] n c e h at like = h
@@ -45,7 +45,7 @@ module _ (columns : TableKinds) where
       (like d.cursor (subst (λ (y : CursorState). HasKept columns d.cursor y) at h.0), h.1)
   put_like (d ∷ ds) (x ∷ xs) (suc n) c e h at like = (h.0, put_like ds xs n c e h.1 at like)
 
-  -- one that has listed rows of its columns' kinds
+  -- A cursor that has listed rows of the kinds of its columns is put in place.
   pub put_kept : (ds : List DeclaredCursor) (cs : List CursorState) (n : ℕ) (d : DeclaredCursor) (e : CursorState) → HaveKept columns ds cs
       → HasKept columns (get_or ds n d).cursor e → HaveKept columns ds (slice_set cs n e)
   put_kept [] [] n d e h is = h
@@ -112,7 +112,7 @@ module _ (columns : TableKinds) where
       (put_like ds b.cursors f.cursor (cursor.Rows c) (cursor.Rows come.0) has at (λ k is. subst (λ (rs : List (List Value)). AreRowsOf (kinds_of_results k.columns) rs) (sym rows) is)) h.1
   come_rows ds f vs c (Err st) b d a at e has h = same ds b a has h.1
 
-  -- one over numbers passes no more than it has
+  -- A cursor over numbers passes no more numbers than it has.
   number_passed : (f : Fetching) (tables : Content) (c : NumbersCursor) (come : NumbersCursor × Done) → come_to_number f tables c ≡ Ok come → come.0.passed ≤ length come.0.numbers
   number_passed f tables c come e =
       let next = next_number (table_at tables c.table) c in
@@ -192,7 +192,7 @@ module _ (columns : TableKinds) where
   open_kept ds statement.Commit cs h = tt
   open_kept ds statement.Rollback cs h = tt
 
-  -- after an OPEN they have listed rows of their kinds, and after any other statement they still do
+  -- After OPEN the cursors keep what they were declared to, and after any other statement they still do.
   pub kept_after : (sc : Schemas) (ds : List DeclaredCursor) (user : Name) (ps : List ParameterDesc) (s : BoundStatement) (vs : List Value) (b : State) (d : Done) (a : State) → HaveKept columns ds b.cursors
       → OpenHaveKept columns ds s a.cursors → MayStep sc (kind_of ds user ps s) vs b d a → HaveKept columns ds a.cursors
   kept_after sc ds user ps (statement.Open n) vs b d a has opened h = opened

@@ -63,7 +63,7 @@ passes_behind test low number mark (r ∷ rs) next f h e = passes_by test number
     (λ at t u v q. rw (← q) (grind (arith, common_steps)))
     (λ same k. let ih : r.number + 1 ≤ f.number = passes_behind test (r.number + 1) number mark rs next f (grind (arith, common_steps)) k in grind (arith, common_steps))
 
--- the first that passes, and those that come after it
+-- The rows that pass are the first one that does, and those that come after it.
 pass_next : (test : Numbered → Bool) (low number mark : ℕ) (rs : List Numbered) (next : ℕ) (f : Numbered) → rising_between low rs next ≡ true → find test (rows_between number mark rs) ≡ Some f
     → filter test (rows_between number mark rs) ≡ f ∷ filter test (rows_between (f.number + 1) mark rs)
 pass_next test low number mark [] next f h e = cc
@@ -82,7 +82,7 @@ pass_next test low number mark (r ∷ rs) next f h e = passes_by test number mar
 
 -- ---- the numbers of those that conditions mean
 
--- the number of the first, and those after it
+-- The numbers listed are that of the first row, and those after it.
 pub numbers_next : (row_numbers : ℕ) (content : Content) (table : ℕ) (conditions : List BoundCond) (values : List Value) (user : Name) (from mark : ℕ) (f : Numbered)
     → all_rising row_numbers content ≡ true → first_meant conditions values user from mark (table_at content table).rows ≡ Some f
     → numbers_meant conditions values user from mark (table_at content table).rows ≡ f.number ∷ numbers_meant conditions values user (f.number + 1) mark (table_at content table).rows
@@ -90,7 +90,7 @@ numbers_next row_numbers content table conditions values user from mark f h e =
     let t = table_at content table in
     ap (map (λ (r : Numbered). r.number)) (pass_next (is_meant conditions values user) 1 from mark t.rows t.next f (rows_rise_at row_numbers content table h) e)
 
--- where there is no first there are none
+-- Where no row is found, no number is left.
 pub numbers_end : (conditions : List BoundCond) (values : List Value) (user : Name) (from mark : ℕ) (rows : List Numbered)
     → first_meant conditions values user from mark rows ≡ None → numbers_meant conditions values user from mark rows ≡ []
 numbers_end conditions values user from mark rows e = ap (map (λ (r : Numbered). r.number)) (none_pass (is_meant conditions values user) (rows_between from mark rows) e)

@@ -34,14 +34,14 @@ use Rattle.sq_session.specs.declared.reply.Done.{Done}
 use Rattle.sq_session.specs.declared.reply.Reply.{Reply}
 use Rattle.sq_session.specs.declared.walk.WalkingCursor.{WalkingCursor}
 
--- what is so however a statement ends
+-- What holds in any case holds however a statement ends.
 pub however : {P : Type 0} (o : Option Done) → P → IfSome o (λ d. P)
 however None p = tt
 however (Some d) p = p
 
 -- ---- a walk
 
--- its meter rises no more than the numbers that it passes
+-- The meter of a walk rises by no more than the numbers that it passes.
 passes_by : (start old new from number found : ℕ) → old + (from - 1) ≤ start + (number - 1) → number ≤ found → 1 ≤ found → new ≤ old + 1 → new + (from - 1) ≤ start + (found + 1 - 1)
 passes_by start old new from number found so_far behind positive most = omega arith
 
@@ -83,13 +83,13 @@ opened_at cursors number declared count there h =
 
 -- ---- FETCH
 
--- a walk whose target names a row by a key
+-- A FETCH of a walk whose target names a row by a key reads at most one row.
 by_key : (f : Fetching) (c : WalkingCursor) (t : Target) (start count : ℕ) → f.target ≡ Some t → start ≡ 0 → (IsKeyedUnder t c.values f.user → count ≤ start + 1)
     → IfSome f.target (λ t. IsKeyedUnder t c.values f.user → count ≤ 1)
 by_key f c t start count is none once =
     subst (λ (o : Option Target). IfSome o (λ t. IsKeyedUnder t c.values f.user → count ≤ 1)) (sym is) (λ keyed. let most = once keyed in omega (arith, none, most))
 
--- where a walk comes to a row
+-- A FETCH by which a walk comes to a row.
 pub row_come_to : (f : Fetching) (tables : Content) (c : WalkingCursor) (t : Target) (row : Numbered) (start count : ℕ) → f.target ≡ Some t → next_walked f (table_at tables c.table) c ≡ Some row → start ≡ 0
     → (1 ≤ count) × (count ≤ start + (row.number - (c.next - 1))) → (IsKeyedUnder t c.values f.user → count ≤ start + 1) → FetchReadsFrom (cursor.Walking c) f tables count
 row_come_to f tables c t row start count is next none h once = (
@@ -97,13 +97,13 @@ row_come_to f tables c t row start count is next none h once = (
   by_key f c t start count is none once,
 )
 
--- and where it comes to its end
+-- A FETCH by which a walk comes to its end.
 pub end_come_to : (f : Fetching) (tables : Content) (c : WalkingCursor) (t : Target) (start count : ℕ) → f.target ≡ Some t → next_walked f (table_at tables c.table) c ≡ None → start ≡ 0
     → (IsKeyedUnder t c.values f.user → count ≤ start + 1) → FetchReadsFrom (cursor.Walking c) f tables count
 end_come_to f tables c t start count is next none once =
     (subst (λ (o : Option Numbered). IfSome o (λ r. (1 ≤ count) × (count ≤ r.number - (c.next - 1)))) (sym next) tt, by_key f c t start count is none once)
 
--- the cursor is that of the state
+-- FETCH reads what its cursor in the state makes it read.
 pub fetched_at : (f : Fetching) (tables committed : Content) (keys : List Keys) (row_numbers : ℕ) (cs : List CursorState) (old : CursorState) (r : Result Done Fault) (count : ℕ) → f.cursor < length cs → old ≡ get_or cs f.cursor old
     → IfSome (ending r) (λ d. FetchReadsFrom old f tables count)
     → IfSome (ending r) (λ d. FetchReads f (record { tables = tables; committed = committed; keys = keys; row_numbers = row_numbers; cursors = cs }) count)
@@ -156,7 +156,7 @@ pub call_read : (cs : List DeclaredCursor) (user : Name) (ps : List ParameterDes
 call_read cs user ps s vs b None count h = tt
 call_read cs user ps s vs b (Some d) count h = step_read cs user ps s vs b count h
 
--- the reply tells how many
+-- What is known of a call's reads holds of the reads that the reply tells.
 pub told : (k : Option Kind) (vs : List Value) (b : State) (o : Option Done) (meter count : ℕ) (r : Result Reply AllocError) → IfSome o (λ d. CallReads k vs b meter) → count ≡ meter
     → IfOk r (λ reply. o ≡ Some (record { status = reply.status; outputs = reply.outputs })) → IfOk r (λ reply. reply.reads ≡ count) → IfOk r (λ reply. CallReads k vs b reply.reads)
 told k vs b o meter count (Err e) read is ends reads = tt

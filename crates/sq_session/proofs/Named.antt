@@ -1,5 +1,5 @@
 -- Procedures by their names and numbers.
-use Rattle.std.proofs.Common.{true, ◌≡◌, ◌&&◌, ◌+◌, ◌<◌, ℕ, zero, suc, Bool, not, cond, List, [], ◌∷◌, length, map, nat_eq, nat_lt, position, Some, None, slice_get, Ok, Err, refl, sym, ap, ap₂, subst, arith}
+use Rattle.std.proofs.Common.{true, ◌≡◌, ◌&&◌, ◌+◌, ◌<◌, ℕ, zero, suc, Bool, not, cond, List, [], ◌∷◌, length, map, nat_eq, nat_lt, position, Some, None, slice_get, Ok, Err, refl, sym, ap, ap₂, subst, ◌∙◌, arith}
 use Rattle.std.specs.Cmp.Lexicographic.{pointwise}
 use Rattle.std.specs.List.{position_or_len}
 use Rattle.std.specs.Map.{keys_of, values_of}
@@ -9,6 +9,7 @@ use Rattle.sq_tree.specs.declared.module.ModuleText.{ModuleText}
 use Rattle.sq_rules.specs.Script.{fit}
 use Rattle.sq_binder.specs.declared.stop.Fault.{Fault}
 use Rattle.sq_catalog.specs.Catalog.{Catalog, column_kinds, known}
+use Rattle.sq_bound.specs.Fits.{keys_of_bases}
 use Rattle.sq_bound.specs.declared.statement.BoundStatement.{BoundStatement}
 use Rattle.sq_module.specs.declared.program.BoundProcedure.{BoundProcedure}
 use Rattle.sq_module.specs.declared.program.DeclaredCursor.{DeclaredCursor}
@@ -42,19 +43,19 @@ same_length cs (e ∷ es) = ap (λ n. suc n) (same_length cs es)
 pub number_is : (cs : List DeclaredCursor) («module» name : Name) (es : List Entry) → procedure_number (procedures_of cs es) «module» name ≡ position (is_name «module» name) (map (λ e. e.0) es)
 number_is cs «module» name es = ap₂ (λ n m. cond (nat_lt n m) (Some n) None) (same_place cs «module» name es) (same_length cs es)
 
--- what its statement is, is so of its entry's
+-- A procedure's statement is of the same kind as its entry's.
 pub kind_is : (cs : List DeclaredCursor) (es : List Entry) (n : ℕ) (e : Entry) (s : BoundStatement) → slice_get es n ≡ Some e → e.1.statement ≡ Ok s → kind_at (procedures_of cs es) n ≡ Some (kind_of cs e.1.user e.1.parameters s)
 kind_is cs [] n e s h k = cc
 kind_is cs (x ∷ es) zero e s h k = grind (arith, h, k)
 kind_is cs (x ∷ es) (suc n) e s h k = kind_is cs es n e s h k
 
--- and its fault is that of its entry
+-- A procedure has the fault of its entry.
 pub fault_is : (cs : List DeclaredCursor) (es : List Entry) (n : ℕ) (e : Entry) (f : Fault) → slice_get es n ≡ Some e → e.1.statement ≡ Err f → fault_at (procedures_of cs es) n ≡ Some f
 fault_is cs [] n e f h k = cc
 fault_is cs (x ∷ es) zero e f h k = grind (arith, h, k)
 fault_is cs (x ∷ es) (suc n) e f h k = fault_is cs es n e f h k
 
--- it takes the values that the parameters of its entry do
+-- A procedure takes the values that the parameters of its entry take.
 pub fits_are : (cs : List DeclaredCursor) (es : List Entry) (n : ℕ) (e : Entry) (values : List Value) → slice_get es n ≡ Some e → fits_at (procedures_of cs es) n values ≡ fit (map declared e.1.parameters) values
 fits_are cs [] n e values h = cc
 fits_are cs (x ∷ es) zero e values h = let same : x ≡ e = cc in ap (λ (y : Entry). fit (map declared y.1.parameters) values) same
@@ -81,8 +82,8 @@ names_are cs (e ∷ es) = ap (λ names. e.0 ∷ names) (names_are cs es)
 
 pub of_modules : (c : Catalog) (modules : List ModuleText) (p : Program) (s : Session) → IsOfTexts (known c) modules p → IsProgramOf (names_in c) modules p → FitsProgram c.bases p
     → ProgramIsWellFormed (column_kinds c) p → s.schemas ≡ schemas_of c → s.procedures ≡ procedures_of p.cursors.items p.procedures.entries → are_over p.cursors.items s.state.cursors ≡ true
-    → IsOfModules (known c) (names_in c) modules s
-of_modules c modules p s is_of computed fits well_formed schemas are cursors = record {
+    → s.state.keys ≡ keys_of_bases c.bases → IsOfModules (known c) (names_in c) modules s
+of_modules c modules p s is_of computed fits well_formed schemas are cursors keys = record {
   program = p;
   is_of = is_of;
   computed = computed;
@@ -90,4 +91,5 @@ of_modules c modules p s is_of computed fits well_formed schemas are cursors = r
   well_formed = subst (λ (x : Schemas). ProgramIsWellFormed (columns_of x) p) (sym schemas) well_formed;
   are = are;
   cursors = cursors;
+  keys = keys ∙ ap (λ (x : Schemas). keys_of_bases x.bases) (sym schemas);
 }

@@ -6,7 +6,7 @@ use Rattle.std.specs.List.{position_or_len}
 use Rattle.sq_store.specs.declared.table.Table.{Table}
 use Rattle.sq_session.specs.State.{is_there}
 
--- so many are gone as were looked at, and as are gone among the others
+-- The numbers without a row: those looked at so far, and those among the numbers behind them.
 abbrev pub LooksOn : Table → List ℕ → ℕ → Type 0
 LooksOn t xs i = position_or_len (is_there t) xs ≡ i + position_or_len (is_there t) (drop i xs)
 
@@ -35,7 +35,7 @@ get_there (x ∷ xs) (suc i) d lt = get_there xs i d (omega (arith, lt))
 pub left_is : (p : ℕ) (xs : List ℕ) → take (length xs - p) (drop p xs) ≡ drop p xs
 left_is p xs = take_rest xs p
 
--- where one is there
+-- A row is found under a number that is looked at.
 pub reached : (t : Table) (all xs : List ℕ) (p i : ℕ) → p ≤ length all → xs ≡ drop p all → i < length xs → LooksOn t xs i → is_there t (get_or xs i 0) ≡ true
     → (slice_get (drop p all) (position_or_len (is_there t) (drop p all)) ≡ Some (get_or xs i 0)) × (min (length all) (p + position_or_len (is_there t) (drop p all) + 1) ≡ p + i + 1)
 reached t all xs p i few e lt h there =
@@ -44,7 +44,7 @@ reached t all xs p i few e lt h there =
     let got : slice_get xs i ≡ Some (get_or xs i 0) = get_there xs i 0 lt in
     (ap (slice_get (drop p all)) at ∙ ap (λ z. slice_get z i) (sym e) ∙ got, omega (arith, at, few, long, lt, length-drop p all))
 
--- where none is
+-- No row is found under any of the numbers.
 pub none_there : (t : Table) (all xs : List ℕ) (p i : ℕ) → p ≤ length all → xs ≡ drop p all → length xs ≤ i → LooksOn t xs i
     → (slice_get (drop p all) (position_or_len (is_there t) (drop p all)) ≡ None) × (min (length all) (p + position_or_len (is_there t) (drop p all) + 1) ≡ length all)
 none_there t all xs p i few e le h =

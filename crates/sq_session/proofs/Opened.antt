@@ -82,7 +82,7 @@ pub over_numbers : (s : Schemas) (t : Target) (user : Name) (values : List Value
     → HasOpened (Over.numbers t.base) (NumbersAreMeant s t user values tables) values tables (Ok (before_numbers t.base numbers))
 over_numbers s t user values tables numbers h = ((Ok numbers, refl), h)
 
--- what is answered in place of rows or numbers: a status, or want of memory
+-- The answer in place of rows or numbers: a status, or that memory ran out.
 pub over_fault_of_rows : (s : Schemas) (q : BoundQuery) (order : List SortColumn) (given user : Name) (ps : List ParameterDesc) (inputs values : List Value) (tables : Content) (f : Fault)
     → given ≡ user → inputs ≡ values → RowsAnswer s q order given ps inputs tables (Err f) → HasOpened Over.rows (RowsAreMeant s q order user ps values tables) values tables (Err f)
 over_fault_of_rows s q order given user ps inputs values tables (fault.Status f) same_user same_values h =

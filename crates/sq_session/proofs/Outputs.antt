@@ -11,7 +11,7 @@ use Rattle.sq_session.specs.declared.target.Assignment.{Assignment}
 abbrev value_of : Option Assignment → Option Value
 value_of o = option_map (λ (a : Assignment). a.value) o
 
--- without an assignment to a parameter it is set to nothing
+-- A parameter without an assignment is set to nothing.
 pub none_to : (place : ℕ) (set : List Assignment) → position (λ a. nat_eq a.parameter place) set ≡ None → value_of (set_to set place) ≡ None
 none_to place [] e = refl
 none_to place (x ∷ set) e = grind (arith, common_steps, none_to place set)

@@ -77,7 +77,7 @@ over_here (y ∷ ds) (x ∷ xs) (suc i) d c h lt = over_here ds xs i d c (first_
 
 -- ---- a cursor that is put in place of another
 
--- over what the other was
+-- A cursor over what the one before it was over is put in its place.
 pub put_like : (ds : List DeclaredCursor) (cs : List CursorState) (i : ℕ) (c e : CursorState) → are_over ds cs ≡ true → slice_index_or cs i cursor.Closed ≡ c
     → ((o : Over) → is_over o c ≡ true → is_over o e ≡ true) → are_over ds (slice_set cs i e) ≡ true
 put_like [] [] i c e h at like = h
@@ -90,7 +90,7 @@ put_like (d ∷ ds) (x ∷ xs) (suc i) c e h at like =
     let k = first_over d ds x xs h in
     next_over d ds x (slice_set xs i e) k.0 (put_like ds xs i c e k.1 at like)
 
--- over what is declared
+-- A cursor over what is declared is put in place.
 pub put_over : (ds : List DeclaredCursor) (cs : List CursorState) (i : ℕ) (e : CursorState) → are_over ds cs ≡ true → is_over (over_at ds i) e ≡ true → are_over ds (slice_set cs i e) ≡ true
 put_over [] [] i e h is = h
 put_over [] (x ∷ xs) i e h is = some_over x xs h
@@ -167,7 +167,7 @@ body_over bases (body.Rows q order) table fits h = none h
 body_over bases (body.Updatable q) table fits h =
     subst (λ (p : ℕ). HasColumns bases p q.columns) (over_quiet q.target.is_quiet q.target.base table h) (query_over bases q fits)
 
--- it has the columns that the cursor shows
+-- The table that a cursor walks has the columns that the cursor shows.
 table_over : (bases : List BaseTable) (ds : List DeclaredCursor) (i table : ℕ) → CursorsFit bases ds → is_over_numbers (over_at ds i) table ≡ true → HasColumns bases table (columns_at ds i)
 table_over bases [] i table fit h = none h
 table_over bases (d ∷ ds) zero table fit h = body_over bases d.cursor.body table fit.0 h
@@ -179,7 +179,7 @@ numbers_over bases ds i c fit h = table_over bases ds i c.table fit h
 pub walk_over : (bases : List BaseTable) (ds : List DeclaredCursor) (i : ℕ) (w : WalkingCursor) → CursorsFit bases ds → is_over (over_at ds i) (cursor.Walking w) ≡ true → HasColumns bases w.table (columns_at ds i)
 walk_over bases ds i w fit h = table_over bases ds i w.table fit (as_numbers (over_at ds i) w.table h)
 
--- it is in a store that has rows for the base tables
+-- The table of a cursor is in a store that has rows for the base tables.
 pub numbers_there : (bases : List BaseTable) (tables : Content) (ds : List DeclaredCursor) (i : ℕ) (c : NumbersCursor) → holds bases tables ≡ true → CursorsFit bases ds
     → is_over (over_at ds i) (cursor.Numbers c) ≡ true → c.table < length tables
 numbers_there bases tables ds i c held fit h = let t = numbers_over bases ds i c fit h in is_there bases tables c.table t.0 held t.1

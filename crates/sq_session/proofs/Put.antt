@@ -7,7 +7,7 @@ use Rattle.sq_session.specs.declared.cursor.CursorState.TheVariants as cursor
 pub put_same : (cs : List CursorState) (n : ℕ) (c : CursorState) → c ≡ slice_index_or cs n cursor.Closed → slice_set cs n c ≡ cs
 put_same cs n c e = rw e (set-get_or cs n cursor.Closed)
 
--- where there is none, nothing changes
+-- Putting a cursor at a number past the last changes nothing.
 pub put_past : (cs : List CursorState) (n : ℕ) (c : CursorState) → length cs ≤ n → cs ≡ slice_set cs n c
 put_past [] n c h = refl
 put_past (x ∷ xs) zero c h = absurd (omega (arith, h))

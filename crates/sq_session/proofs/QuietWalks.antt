@@ -47,7 +47,7 @@ use Rattle.sq_session.proofs.Holding.{none}
 
 -- ---- conditions one after the other
 
--- where each has a truth it is known whether all are true
+-- Where each condition has a truth value, it is known whether all are true.
 truths_known : (test : BoundCond → Outcome Truth) (cs : List BoundCond) → AllByRecursion (λ c. HasValue (test c)) cs → HasValue (are_true test cs)
 truths_known test [] h = tt
 truths_known test (c ∷ cs) h = by (test c) refl h.0 (truths_known test cs h.1)
@@ -67,14 +67,14 @@ known_on_row columns t values user row q is_row =
     truths_known (λ c. truth (by_place quiet.no_tables) (cond_of [] c) (outside (row ∷ []) values user)) (conditions_of t)
     (both_are (λ c. HasValue (truth (by_place quiet.no_tables) (cond_of [] c) (outside (row ∷ []) values user))) t.leaf.conditions t.condition each.0 each.1)
 
--- it answers no status on a row of its base table
+-- A quiet target answers no status on a row of its base table.
 pub no_status : (columns : TableKinds) (t : Target) (values : List Value) (user : Name) (row : Row) (f : Failure) → IsQuietWith columns t values → IsRowOf (base_kinds t.leaf.table) row
     → IsChosen (Err (fault.Status f)) (conditions_of t) row values user → ⊥
 no_status columns t values user row f q is_row h =
     let ends = h (are_plain t q.quiet) quiet.no_tables in
     rw ends at (known_on_row columns t values user row q is_row)
 
--- what it answers is whether the row is meant
+-- The answer of a quiet target is whether it means the row.
 pub meant : (columns : TableKinds) (t : Target) (values : List Value) (user : Name) (number : ℕ) (row : Row) (b : Bool) → IsQuietWith columns t values → IsChosen (Ok b) (conditions_of t) row values user
     → is_meant (conditions_of t) values user (record { number = number; row = row }) ≡ b
 meant columns t values user number row b q h = rw (h (are_plain t q.quiet) no_tables) refl
@@ -109,7 +109,7 @@ walks_quietly false base table h = none h
 over_target_of : (b : CursorBody) (u : UpdatableQuery) (table : ℕ) → b ≡ body.Updatable u → is_over_table (over_of b) table ≡ true → is_over_table (over_target u.target) table ≡ true
 over_target_of b u table is over = subst (λ (x : CursorBody). is_over_table (over_of x) table ≡ true) is over
 
--- its target is quiet where it walks with the values that it keeps
+-- The target of a walking cursor is quiet with the values that the cursor keeps.
 pub quiet_with : (columns : TableKinds) (c : BoundCursor) (u : UpdatableQuery) (values : List Value) (table : ℕ) → c.body ≡ body.Updatable u → MayKeep columns c values
     → is_over_table (over_of c.body) table ≡ true → IsQuietWith columns u.target values
 quiet_with columns c u values table is may over =
@@ -120,7 +120,7 @@ walks_over : (quiet : Bool) (base table : ℕ) → is_over_table (if quiet then 
 walks_over true base table h = eqb-true base table h
 walks_over false base table h = none h
 
--- and it is over the table that is walked
+-- The target of a walking cursor is over the table that is walked.
 pub over_that : (c : BoundCursor) (u : UpdatableQuery) (table : ℕ) → c.body ≡ body.Updatable u → is_over_table (over_of c.body) table ≡ true → u.target.base ≡ table
 over_that c u table is over = walks_over u.target.is_quiet u.target.base table (over_target_of c.body u table is over)
 
@@ -157,7 +157,7 @@ kept_here columns (y ∷ ds) [] n d c h lt = absurd h
 kept_here columns (y ∷ ds) (x ∷ cs) zero d c h lt = h.0
 kept_here columns (y ∷ ds) (x ∷ cs) (suc n) d c h lt = kept_here columns ds cs n d c h.1 (omega (arith, lt))
 
--- one over numbers has passed no more than it has
+-- A cursor over numbers has passed no more numbers than it has.
 pub passed_there : (columns : TableKinds) (ds : List DeclaredCursor) (n : ℕ) (c : NumbersCursor) → is_over (over_at ds n) (cursor.Numbers c) ≡ true → HasKeptAt columns ds n (cursor.Numbers c) → c.passed ≤ length c.numbers
 passed_there columns [] n c over h = none over
 passed_there columns (d ∷ ds) zero c over h = h

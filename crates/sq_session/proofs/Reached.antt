@@ -25,7 +25,7 @@ use Rattle.sq_session.specs.declared.walk.WalkingCursor.{WalkingCursor}
 
 -- ---- a cursor over numbers
 
--- it comes to the number that is next, with the reply to the row there
+-- FETCH comes to the next number, with the reply to the row there.
 abbrev reached_by : Fetching → Table → NumbersCursor → ℕ → Option ℕ → Outcome (NumbersCursor × Done)
 reached_by f t c p on = and_then (shown_fetched f (row_on t on)) (λ d. Ok (record c { passed = p; on = on }, d))
 
@@ -55,7 +55,7 @@ comes_to_fault f tables c columns p n row (fault.Status s) known on_is p_is ther
     comes_to f tables c p (Some n) on_is p_is ∙ ap (λ o. and_then o (λ x. Ok (record c { passed = p; on = Some n }, x))) (reply_there f (table_at tables c.table) n row columns (Err (status_of s)) known there done)
 comes_to_fault f tables c columns p n row fault.NoMemory known on_is p_is there done = tt
 
--- it has passed numbers alone
+-- A cursor over numbers after FETCH differs only in the numbers that it has passed.
 pub number_kept : (f : Fetching) (tables : Content) (c : NumbersCursor) (come : NumbersCursor × Done) → come_to_number f tables c ≡ Ok come → come.0 ≡ next_number (table_at tables c.table) c
 number_kept f tables c come e =
     let next = next_number (table_at tables c.table) c in
@@ -64,7 +64,7 @@ number_kept f tables c come e =
 
 -- ---- a cursor that walks
 
--- it keeps its table and its values, and is before the same mark
+-- A walking cursor after FETCH keeps its table, its values and its mark.
 walked_same : (c : WalkingCursor) (reached : Option Numbered) → walked_to c reached ≡ record c { next = (walked_to c reached).next; on = (walked_to c reached).on }
 walked_same c None = refl
 walked_same c (Some r) = refl

@@ -41,7 +41,7 @@ module _ (c : Catalog) (tables : Content) (user : Name) (kinds : List Kind) (val
   pub may_read : (shown : TablePlace → Outcome (List Row)) → AreMeant c.views tables user shown → MayRead c.bases c.views (column_kinds c) tables user values kinds shown
   may_read shown are = record { inputs = given_row kinds values given; there = bases_there c; in_domains = in_domains; meant = are }
 
-  -- and there are such tables
+  -- There are tables that a statement reads.
   pub some_tables : (shown : TablePlace → Outcome (List Row)) × MayRead c.bases c.views (column_kinds c) tables user values kinds shown
   some_tables =
       let there = has_tables c tables user in

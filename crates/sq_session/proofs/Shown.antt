@@ -18,7 +18,7 @@ use Rattle.sq_session.specs.Columns.{are_columns_of, values_in}
 use Rattle.sq_session.specs.Fetch.{row_on}
 use Rattle.sq_session.proofs.Holding.{HasColumns, row_wide}
 
--- each of them is there
+-- Each column that is shown is there.
 pub column_there : (n : ℕ) (columns : List ℕ) (i d : ℕ) → are_positions n columns ≡ true → i < length columns → get_or columns i d < n
 column_there n [] i d h lt = absurd (omega (arith, lt))
 column_there n (c ∷ columns) zero d h lt = ltb-true c n (and_parts (nat_lt c n) (are_positions n columns) h).0
@@ -53,7 +53,7 @@ pub shown_whole : (row : List Value) (shown : Option (Bor (List ℕ))) (place : 
 shown_whole row (Some c) place v lt at e = cc
 shown_whole row None place v lt at e = slice_get-get_or row place v lt ∙ ap Some (sym at)
 
--- a row of the base table has them
+-- A row of the base table has the columns that are shown.
 pub columns_there : (bases : List BaseTable) (tables : Content) (p n : ℕ) (columns : List ℕ) (row : List Value) → holds bases tables ≡ true → HasColumns bases p columns
     → row_on (table_at tables p) (Some n) ≡ Some row → are_positions (length row) columns ≡ true
 columns_there bases tables p n columns row held has found = by (row_at (table_at tables p) n) refl found

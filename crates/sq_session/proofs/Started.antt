@@ -37,7 +37,7 @@ starts_stored d (Chars t) w h given = let k : assigned d (Chars t) ≡ Ok w = ou
 
 -- ---- one parameter after the other
 
--- these are started, and the others stand behind them
+-- The parameters so far are started, and the others come behind them.
 abbrev pub IsStarted : List ParameterDesc → List Value → ℕ → List Value → Type 0
 IsStarted ps vs i ws = ws ++ started_values (drop i ps) (drop i vs) ≡ started_values ps vs
 
@@ -96,7 +96,7 @@ given_started (p ∷ ps) (v ∷ vs) even = ((started_of_its_kind p.domain v, sta
 pub given_all : (ps : List ParameterDesc) (vs : List Value) (i : ℕ) (ws : List Value) → length ps ≡ length vs → length ps ≤ i → IsStarted ps vs i ws → AreGiven (kinds_of_parameters ps) ws
 given_all ps vs i ws even h so = subst (λ (l : List Value). AreGiven (kinds_of_parameters ps) l) (sym (started_all ps vs i ws h so)) (given_started ps vs even)
 
--- so are the rows that a query reads them as
+-- The values, as a query reads them, are of the kinds of the parameters.
 pub given_row : (kinds : List Kind) (values : List Value) → AreGiven kinds values → IsRowOf kinds values
 given_row [] [] h = tt
 given_row [] (v ∷ values) h = absurd h

@@ -10,7 +10,7 @@ use Rattle.sq_session.specs.Walk.{rows_between, rows_from}
 use Rattle.sq_store.proofs.Rises.{rows_rise_at, next_at}
 use Rattle.sq_store.proofs.Walk.{rows_from_none, walked}
 
--- below all numbers, these are all rows
+-- From a number below all others on, there are all rows.
 pub rows_from_low : (low number : ℕ) (rs : List Numbered) (next : ℕ) → rising_between low rs next ≡ true → number ≤ low → rows_from number rs ≡ rs
 rows_from_low low number [] next h le = refl
 rows_from_low low number (r ∷ rs) next h le = grind (arith, common_steps, rows_from_low (r.number + 1) number rs next)
@@ -89,7 +89,7 @@ between_next row_numbers content table number mark f h e lt =
     let below : nat_lt f.number mark ≡ true = grind (arith, common_steps) in
     rw (next, below) refl
 
--- where it isn't before the mark there are none
+-- Where the row found is not before the mark, there are no rows before it.
 pub between_past : (row_numbers : ℕ) (content : Content) (table number mark : ℕ) (f : Numbered) → all_rising row_numbers content ≡ true → first_from (table_at content table) number ≡ Some f → mark ≤ f.number
     → rows_between number mark (table_at content table).rows ≡ []
 between_past row_numbers content table number mark f h e le =

@@ -50,7 +50,7 @@ takes_varying (domain.Numeric p t) n h = sym h
 takes_varying (domain.Char m) n h = refl
 takes_varying (domain.VarChar m) n h = refl
 
--- so a value of that kind fits it
+-- A value of a kind that is comparable with a domain's kind fits the domain.
 fits_of_kind : (d : Domain) (k : Kind) (v : Value) → IsTrue (is_comparable (kind_of d) k) → IsOfKind k v → FitsKind d v
 fits_of_kind d k value.Null h is = tt
 fits_of_kind d (kind.Num s) (value.Num n) h is = takes_number d s h
@@ -70,7 +70,7 @@ at_domain (p ∷ ps) (suc n) k h = at_domain ps n k h
 target_fits : (ps : List ParameterDesc) (t : Target) (k : Kind) (v : Value) → TakesKind (kinds_of_parameters ps) t k → IsOfKind k v → FitsKind (domain_at ps t.parameter) v
 target_fits ps t k v takes is = fits_of_kind (domain_at ps t.parameter) k v (at_domain ps t.parameter k takes.0) is
 
--- what is set in it is set, or ends with a status of retrieving
+-- A value sets a target, or ends with a status of retrieving.
 indicator_answers : (t : Target) (o : Option ℕ) → Answers (λ indicator. ⊤) (or_status status.NullWithoutIndicator o)
 indicator_answers t None = tt
 indicator_answers t (Some i) = tt
@@ -168,7 +168,7 @@ status_replied ps ts row f st d may set same done =
     let known : is_refused (status_of f) ≡ false = no_refusal (status_of f) (subst (λ (o : Outcome Assignments). Answers (λ a. ⊤) o) set (row_answers ps ts row may)) in
     rw (set, known, done, same) refl
 
--- nor does it end with 42000
+-- Retrieving does not end with 42000.
 pub status_allowed : (ps : List ParameterDesc) (ts : List Target) (row : List Value) (f : Failure) (st : Status) (d : Done) → MayTake ps ts row → row_set ps ts row ≡ Err (status_of f) → st ≡ status_of f
     → d ≡ ended st → EndsRight d
 status_allowed ps ts row f st d may set same done =

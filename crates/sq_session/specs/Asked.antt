@@ -6,6 +6,8 @@ use Rattle.sq_bound.specs.declared.statement.BoundStatement.{BoundStatement}
 use Rattle.sq_module.specs.Program.{OpensWellFormed, kinds_of_cursors}
 use Rattle.sq_module.specs.declared.program.DeclaredCursor.{DeclaredCursor}
 
--- a statement of a procedure whose parameters have these kinds: it is well formed, and so is a cursor that it opens
+-- A statement of a procedure whose parameters have these kinds, and the cursor that it opens, are well formed.
 abbrev pub IsAsked : TableKinds → List DeclaredCursor → List Kind → BoundStatement → Type 0
-IsAsked columns cursors parameters s = IsStatement columns (kinds_of_cursors cursors) parameters s × OpensWellFormed columns cursors parameters s
+IsAsked columns cursors parameters s =
+    IsStatement columns (kinds_of_cursors cursors) parameters s
+    × OpensWellFormed columns cursors parameters s

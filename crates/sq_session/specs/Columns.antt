@@ -9,7 +9,7 @@ abbrev pub values_in : List Value → Option (Bor (List ℕ)) → List Value
 values_in row None = row
 values_in row (Some columns) = in_columns row columns.now
 
--- the columns are there
+-- A row has a value at each of these columns.
 abbrev pub are_columns_of : List Value → Option (Bor (List ℕ)) → Bool
 are_columns_of row None = true
 are_columns_of row (Some columns) = are_positions (length row) columns.now

@@ -1,5 +1,5 @@
--- The cursors of a session: one for each that a module declares, closed or over what that one goes over (ISO/IEC 9075:1992,
--- 4.21).
+-- The cursors of a session, one for each declared cursor: closed, or open over what the declaration says
+-- (ISO/IEC 9075:1992, 4.21).
 use Rattle.std.specs.Prelude.{◌≡◌, ◌≤◌, ◌<◌, ⊤, ℕ, Bool, true, false, ◌&&◌, if◌then◌else◌, nat_eq, List, [], ◌∷◌, fold, length, slice_get, slice_set, IfSome}
 use Rattle.std.specs.List.{AllByRecursion, AllZip}
 use Rattle.sq_value.specs.declared.domain.Kind.{Kind}
@@ -23,7 +23,7 @@ use Rattle.sq_session.specs.Walk.{numbers_meant}
 use Rattle.sq_session.specs.declared.cursor.CursorState.{CursorState}
 use Rattle.sq_session.specs.declared.cursor.CursorState.TheVariants as cursor
 use Rattle.sq_session.specs.declared.cursor.NumbersCursor.{NumbersCursor}
-use Rattle.sq_session.specs.declared.walk.ListedCursor.{ListedCursor}
+use Rattle.sq_session.specs.declared.walk_list.ListedCursor.{ListedCursor}
 use Rattle.sq_session.specs.declared.walk.WalkingCursor.{WalkingCursor}
 
 -- ---- what an open cursor goes over
@@ -33,7 +33,7 @@ is_over_rows Over.rows = true
 is_over_rows (Over.numbers table) = false
 is_over_rows (Over.walk table) = false
 
--- numbers of rows of this table; a walk may go on over them
+-- A cursor may be open over numbers of rows of this table: also one that walked before an UPDATE.
 abbrev pub is_over_numbers : Over → ℕ → Bool
 is_over_numbers Over.rows table = false
 is_over_numbers (Over.numbers base) table = nat_eq base table
@@ -50,7 +50,7 @@ is_over over (cursor.Rows c) = is_over_rows over
 is_over over (cursor.Numbers c) = is_over_numbers over c.table
 is_over over (cursor.Walking c) = is_over_table over c.table
 
--- whether it is updatable
+-- Whether a cursor over this is updatable.
 abbrev pub is_updatable : Over → Bool
 is_updatable Over.rows = false
 is_updatable (Over.numbers table) = true
@@ -58,7 +58,7 @@ is_updatable (Over.walk table) = true
 
 -- ---- all cursors
 
--- there are as many as are declared, each over what the declared one goes over
+-- There is one cursor for each declared cursor, over what that one goes over.
 abbrev pub are_over : List DeclaredCursor → List CursorState → Bool
 are_over [] [] = true
 are_over [] (c ∷ cs) = false
@@ -67,70 +67,75 @@ are_over (d ∷ ds) (c ∷ cs) = is_over (over_of d.cursor.body) c && are_over d
 
 -- ---- what open cursors keep
 
--- rows of these kinds
+-- An open cursor has listed rows of these kinds.
 abbrev pub HasListed : List Kind → CursorState → Type 0
 HasListed kinds (cursor.Rows c) = AreRowsOf kinds c.rows
 HasListed kinds _ = ⊥
 
--- values of parameters with which a cursor is well formed
+-- A cursor is well formed for parameters of the kinds of these values.
 pub record MayKeep (columns : TableKinds) (declared : BoundCursor) (values : List Value) : Type 0 where
   pub parameters : List Kind
   pub is_cursor : IsCursor columns parameters declared
   pub given : IsRowOf parameters values
 
--- one over rows has listed rows of the kinds of its columns; one over numbers has passed no more than it has; one that walks keeps
--- the values of the parameters that it was opened with
+-- What an open cursor keeps: a cursor over rows has listed rows of the kinds of its columns, a cursor over
+-- numbers has passed no more numbers than it has, and a walking cursor keeps the values of the parameters with
+-- which it was opened.
 abbrev pub HasKept : TableKinds → BoundCursor → CursorState → Type 0
 HasKept columns declared cursor.Closed = ⊤
 HasKept columns declared (cursor.Rows c) = AreRowsOf (kinds_of_results declared.columns) c.rows
 HasKept columns declared (cursor.Numbers c) = c.passed ≤ length c.numbers
 HasKept columns declared (cursor.Walking c) = MayKeep columns declared c.values
 
--- where the cursor is the one that is declared with a number
+-- A cursor keeps what the cursor declared with this number does.
 abbrev pub HasKeptAt : TableKinds → List DeclaredCursor → ℕ → CursorState → Type 0
 HasKeptAt columns declared number c = IfSome (slice_get declared number) (λ d. HasKept columns d.cursor c)
 
 abbrev pub HaveKept : TableKinds → List DeclaredCursor → List CursorState → Type 0
 HaveKept columns = AllZip (λ d c. HasKept columns d.cursor c)
 
--- after an OPEN they have
+-- After an OPEN all cursors keep what they were declared to.
 abbrev pub OpenHaveKept : TableKinds → List DeclaredCursor → BoundStatement → List CursorState → Type 0
 OpenHaveKept columns declared (statement.Open n) cursors = HaveKept columns declared cursors
 OpenHaveKept columns declared _ cursors = ⊤
 
 -- ---- a session
 
--- The tables as they are now and as they were committed are those of the base tables, with their keys, each cursor is over
--- what is declared, every value in the tables, now and as committed, is in the domain of its column, and what open cursors keep
--- is of the kinds of their columns and parameters; and NOT NULL and references hold, now and as committed (11.4, 11.8).
+-- The state of a session that is in order: its tables, now and as committed, are those of the base tables with
+-- their keys; every value in them is in the domain of its column, and all constraints hold (11.4, 11.8); each
+-- cursor is over what is declared, and what open cursors keep is of the kinds of their columns and parameters.
 abbrev pub IsWhole : TableKinds → List BaseTable → List DeclaredCursor → State → Type 0
 IsWhole columns bases declared s =
-    (holds bases s.tables ≡ true) × (holds bases s.committed ≡ true) × (s.keys ≡ keys_of_bases bases) × (are_over declared s.cursors ≡ true)
+    (holds bases s.tables ≡ true) × (holds bases s.committed ≡ true) × (s.keys ≡ keys_of_bases bases)
+    × (are_over declared s.cursors ≡ true)
     × AreInDomains bases s.tables × AreInDomains bases s.committed × HaveKept columns declared s.cursors
     × (constraints_hold bases s.tables ≡ true) × (constraints_hold bases s.committed ≡ true)
 
 -- ---- an UPDATE
 
--- the numbers of the rows that a cursor that walks still has in these tables
+-- The numbers of the rows in these tables that a walking cursor has still to come to.
 abbrev pub numbers_left : DeclaredCursor → Content → WalkingCursor → List ℕ
-numbers_left d tables c = numbers_meant (conditions_in d.cursor.body) c.values d.user c.next c.mark (table_at tables c.table).rows
+numbers_left d tables c =
+    numbers_meant (conditions_in d.cursor.body) c.values d.user c.next c.mark (table_at tables c.table).rows
 
--- a cursor over those numbers in place of one that walks, on the row that that one is on
+-- The cursor over those numbers that takes the place of a walking one, on the same row.
 abbrev pub listed : DeclaredCursor → Content → WalkingCursor → NumbersCursor
 listed d tables c = record { table = c.table; numbers = numbers_left d tables c; passed = 0; on = c.on }
 
--- whether one that walks goes over the base table that changes, and its conditions read what changes
+-- Whether a cursor walks over the base table that an UPDATE changes, with conditions that read what changes.
 abbrev pub reads : BoundUpdate → DeclaredCursor → WalkingCursor → Bool
 reads u d c = nat_eq c.table (base_of u.target) && one_reads u.assignments (conditions_in d.cursor.body)
 
--- a walking cursor that reads what an UPDATE changes goes on over the numbers of its rows; any other cursor stays as it is
+-- After an UPDATE a walking cursor that reads what changed goes on over the numbers of its rows; any other
+-- cursor stays as it is.
 abbrev pub goes_on : BoundUpdate → Content → DeclaredCursor → CursorState → CursorState
 goes_on u tables d cursor.Closed = cursor.Closed
 goes_on u tables d (cursor.Rows c) = cursor.Rows c
 goes_on u tables d (cursor.Numbers c) = cursor.Numbers c
-goes_on u tables d (cursor.Walking c) = if reads u d c then cursor.Numbers (listed d tables c) else cursor.Walking c
+goes_on u tables d (cursor.Walking c) =
+    if reads u d c then cursor.Numbers (listed d tables c) else cursor.Walking c
 
--- each of the cursors that these are
+-- All cursors after an UPDATE.
 abbrev pub go_on : BoundUpdate → Content → List DeclaredCursor → List CursorState → List CursorState
 go_on u tables [] cs = cs
 go_on u tables (d ∷ ds) [] = []
@@ -144,6 +149,6 @@ put cursors l = slice_set cursors l.number (cursor.Numbers l.cursor)
 abbrev pub put_all : List CursorState → List ListedCursor → List CursorState
 put_all cursors lists = fold put cursors lists
 
--- each is of a cursor that there is
+-- Each list is of a cursor that there is.
 abbrev pub AreThere : ℕ → List ListedCursor → Type 0
 AreThere count lists = AllByRecursion (λ l. l.number < count) lists

@@ -1,5 +1,5 @@
--- FETCH (ISO/IEC 9075:1992, 13.3): where a cursor comes, and how the statement ends then. Where a rule of the language is
--- broken it ends with 42000, and the cursor stays where it is.
+-- FETCH (ISO/IEC 9075:1992, 13.3): where a cursor comes, and how the statement ends then. Where a rule of the
+-- language is broken, the statement ends with 42000, and the cursor stays where it is.
 use Rattle.std.specs.Prelude.{◌≡◌, ◌+◌, ⊤, ℕ, ℤ, List, length, slice_get, Option, None, Some, Result, Ok, Err}
 use Rattle.std.specs.List.{AllByRecursion}
 use Rattle.std.specs.Option.{option_and_then, option_map}
@@ -42,12 +42,12 @@ whole_number (value.Num n) = Ok n.unscaled
 whole_number value.Null = not_well_formed
 whole_number (value.Chars t) = not_well_formed
 
--- a number that is written, or that of a parameter
+-- The number of an orientation: written as a literal, or the value of a parameter.
 abbrev pub number_of : List Value → Distance → Outcome ℤ
 number_of values (distance.Number n) = Ok n
 number_of values (distance.Parameter p) = and_then (well_formed (slice_get values p)) whole_number
 
--- an orientation means a place: it needs no number, or has one
+-- The distance of an orientation is a number.
 abbrev pub HasNumber : List Value → Distance → Type 0
 HasNumber values d = HasValue (number_of values d)
 
@@ -64,22 +64,22 @@ move_of values orientation.Last = Ok Move.last
 move_of values (orientation.Absolute d) = and_then (number_of values d) (λ n. Ok (Move.absolute n))
 move_of values (orientation.Relative d) = and_then (number_of values d) (λ n. Ok (Move.relative n))
 
--- the place that is wanted among so many rows, from the place that the cursor is at
+-- The place that an orientation names, from the place of the cursor and the count of rows.
 abbrev pub place_wanted : List Value → FetchOrientation → ℕ → ℕ → Outcome ℤ
 place_wanted values o count place = and_then (move_of values o) (λ m. Ok (wanted m count place))
 
--- that one, or the nearest that there is
+-- The place that a cursor comes to: the one named, or the nearest that there is.
 abbrev pub place_reached : List Value → FetchOrientation → ℕ → ℕ → Outcome ℕ
 place_reached values o count place = and_then (place_wanted values o count place) (λ w. Ok (bounded count w))
 
 -- ---- the reply
 
--- without a row it ends with 02000; with one, the targets are set from it
+-- How FETCH ends: with 02000 without a row, else with the targets set from it.
 abbrev pub row_fetched : Fetching → Option (List Value) → Outcome Done
 row_fetched f None = Ok (ended status.NoData)
 row_fetched f (Some row) = row_reply f.parameters f.targets row
 
--- an updatable cursor's query shows some columns of a row of the base table
+-- How FETCH of an updatable cursor ends: its query shows some columns of a row of the base table.
 abbrev pub shown_fetched : Fetching → Option (List Value) → Outcome Done
 shown_fetched f row = row_fetched f (option_map (λ r. in_columns r f.columns) row)
 
@@ -89,12 +89,15 @@ row_on t on = option_map (λ r. r.row) (option_and_then (row_at t) on)
 
 -- ---- a FETCH that is well formed (13.3)
 
--- its orientation's number is a whole one, and its targets take the columns of its cursor, where the cursors have columns of
--- these kinds
+-- A FETCH is well formed, where the cursors have columns of these kinds: the number of its orientation is a
+-- whole one, and its targets can take the columns of its cursor.
 abbrev pub IsFetch : List (List Kind) → List Kind → BoundFetch → Type 0
-IsFetch cursors parameters f = IsOrientation parameters f.orientation × Has (TakeKinds parameters f.outputs) (well_formed (slice_get cursors f.cursor))
+IsFetch cursors parameters f =
+    IsOrientation parameters f.orientation
+    × Has (TakeKinds parameters f.outputs) (well_formed (slice_get cursors f.cursor))
 
--- the targets take what the cursor may come to: its rows, or those of its base table as its query shows them
+-- The targets can take whatever row the cursor comes to: one of its rows, or of its base table as its query
+-- shows it.
 abbrev pub MayTakeShown : Fetching → Table → Type 0
 MayTakeShown f t = AllByRecursion (λ r. MayTake f.parameters f.targets (in_columns r.row f.columns)) t.rows
 
@@ -106,21 +109,24 @@ MayTakeFrom f tables (cursor.Walking c) = MayTakeShown f (table_at tables c.tabl
 
 -- ---- where a cursor comes, and the reply
 
--- one over rows comes to the place that is reached
+-- A cursor over rows comes to the place that is reached.
 abbrev pub row_come_to : Fetching → RowsCursor → ℕ → Outcome (RowsCursor × Done)
-row_come_to f c place = and_then (row_fetched f (row_of c.rows place)) (λ d. Ok (record c { place = place }, d))
+row_come_to f c place =
+    and_then (row_fetched f (row_of c.rows place)) (λ d. Ok (record c { place = place }, d))
 
 abbrev pub come_to_row : Fetching → List Value → RowsCursor → Outcome (RowsCursor × Done)
-come_to_row f values c = and_then (place_reached values f.orientation (length c.rows) c.place) (row_come_to f c)
+come_to_row f values c =
+    and_then (place_reached values f.orientation (length c.rows) c.place) (row_come_to f c)
 
--- one over numbers comes to the next under which there is a row now
+-- A cursor over numbers comes to the next number under which there is a row now.
 abbrev pub number_come_to : Fetching → Table → NumbersCursor → Outcome (NumbersCursor × Done)
 number_come_to f t c = and_then (shown_fetched f (row_on t c.on)) (λ d. Ok (c, d))
 
 abbrev pub come_to_number : Fetching → Content → NumbersCursor → Outcome (NumbersCursor × Done)
-come_to_number f tables c = number_come_to f (table_at tables c.table) (next_number (table_at tables c.table) c)
+come_to_number f tables c =
+    number_come_to f (table_at tables c.table) (next_number (table_at tables c.table) c)
 
--- one that walks comes to the next row before its mark that its query means, or to its end
+-- A walking cursor comes to the next row before its mark that its query means, or to its end.
 abbrev pub next_walked : Fetching → Table → WalkingCursor → Option Numbered
 next_walked f t c = first_meant f.conditions c.values f.user c.next c.mark t.rows
 
@@ -129,7 +135,8 @@ walked_to c None = record c { next = c.mark; on = None }
 walked_to c (Some r) = record c { next = r.number + 1; on = Some r.number }
 
 abbrev pub walk_come_to : Fetching → WalkingCursor → Option Numbered → Outcome (WalkingCursor × Done)
-walk_come_to f c reached = and_then (shown_fetched f (option_map (λ r. r.row) reached)) (λ d. Ok (walked_to c reached, d))
+walk_come_to f c reached =
+    and_then (shown_fetched f (option_map (λ r. r.row) reached)) (λ d. Ok (walked_to c reached, d))
 
 abbrev pub come_to_walk : Fetching → Content → WalkingCursor → Outcome (WalkingCursor × Done)
 come_to_walk f tables c = walk_come_to f c (next_walked f (table_at tables c.table) c)
@@ -147,13 +154,15 @@ over_walk o = and_then o (λ come. Ok (cursor.Walking come.0, come.1))
 
 -- ---- while the statement runs
 
--- the cursor has come where it is to come, and the statement ends so, or with a status; want of memory is no outcome of a definition
+-- The cursor has come to where the definition says, and the statement ends as it says; definitions say nothing
+-- of running out of memory.
 abbrev pub HasCome : {C : Type 0} → Result Done Fault → C → Outcome (C × Done) → Type 0
 HasCome (Ok d) now wanted = wanted ≡ Ok (now, d)
 HasCome (Err (fault.Status f)) now wanted = wanted ≡ Err (status_of f)
 HasCome (Err fault.NoMemory) now wanted = ⊤
 
-abbrev pub HasFetched : Fetching → List Value → Content → CursorState → Result Done Fault → CursorState → Type 0
+abbrev pub HasFetched : Fetching → List Value → Content → CursorState → Result Done Fault → CursorState
+    → Type 0
 HasFetched f values tables cursor.Closed r now = r ≡ Err (fault.Status failure.InvalidCursorState)
 HasFetched f values tables (cursor.Rows c) r now = HasCome r now (over_rows (come_to_row f values c))
 HasFetched f values tables (cursor.Numbers c) r now = HasCome r now (over_numbers (come_to_number f tables c))

@@ -41,7 +41,7 @@ abbrev pub conditions_in : CursorBody → List BoundCond
 conditions_in (body.Rows query order) = []
 conditions_in (body.Updatable u) = conditions_of u.target
 
--- the rows of the base table that it may change
+-- The rows of the base table that may be changed through a cursor.
 abbrev pub target_in : CursorBody → Option Target
 target_in (body.Rows query order) = None
 target_in (body.Updatable u) = Some u.target
@@ -87,7 +87,7 @@ pub record Caller : Type 0 where
   pub user : Name
   pub parameters : List ParameterDesc
 
--- OPEN (13.2)
+-- What OPEN works on (13.2).
 pub record Opening : Type 0 where
   pub cursor : ℕ
   pub over : Over
@@ -104,7 +104,7 @@ opening cursors user parameters number = record {
   parameters = parameters;
 }
 
--- FETCH (13.3); the columns, the conditions and the target are those of an updatable cursor
+-- What FETCH works on (13.3). The columns, the conditions and the target are those of an updatable cursor.
 pub record Fetching : Type 0 where
   pub cursor : ℕ
   pub orientation : FetchOrientation
@@ -127,7 +127,7 @@ fetching cursors user parameters f = record {
   targets = f.outputs;
 }
 
--- SELECT INTO (13.5)
+-- What a SELECT INTO works on (13.5).
 pub record Selecting : Type 0 where
   pub query : BoundSpecification
   pub user : Name
@@ -135,9 +135,11 @@ pub record Selecting : Type 0 where
   pub targets : List Output
 
 abbrev pub selecting : Name → List ParameterDesc → BoundSelect → Selecting
-selecting user parameters s = record { query = s.query; user = user; parameters = parameters; targets = s.outputs }
+selecting user parameters s =
+    record { query = s.query; user = user; parameters = parameters; targets = s.outputs }
 
--- UPDATE (13.9, 13.10); the conditions of the cursors that modules declare may read the columns that get values
+-- What an UPDATE works on (13.9, 13.10). The conditions of declared cursors may read the columns that get
+-- values.
 pub record Updating : Type 0 where
   pub caller : Caller
   pub statement : BoundUpdate
@@ -148,7 +150,7 @@ updating cursors caller u = record { caller = caller; statement = u; cursors = c
 
 -- ---- statements
 
--- CLOSE names a cursor by its number
+-- What each kind of statement works on; CLOSE names a cursor by its number.
 pub data Kind : Type 0 where
   opens : Opening → Kind
   fetches : Fetching → Kind
@@ -173,19 +175,21 @@ delete_kind caller (target.Positioned p) = Kind.deletes_at caller p
 abbrev pub caller_of : Name → List ParameterDesc → Caller
 caller_of user parameters = record { user = user; parameters = parameters }
 
--- a statement of a user's procedure with these parameters, where modules declare these cursors
+-- The kind of a statement of a procedure with this user and these parameters, where modules declare these
+-- cursors.
 abbrev pub kind_of : List DeclaredCursor → Name → List ParameterDesc → BoundStatement → Kind
 kind_of cursors user parameters (statement.Open number) = Kind.opens (opening cursors user parameters number)
 kind_of cursors user parameters (statement.Fetch f) = Kind.fetches (fetching cursors user parameters f)
 kind_of cursors user parameters (statement.Close number) = Kind.closes number
 kind_of cursors user parameters (statement.Select s) = Kind.selects (selecting user parameters s)
 kind_of cursors user parameters (statement.Insert i) = Kind.inserts (caller_of user parameters) i
-kind_of cursors user parameters (statement.Update u) = update_kind (updating cursors (caller_of user parameters) u) u.target
+kind_of cursors user parameters (statement.Update u) =
+    update_kind (updating cursors (caller_of user parameters) u) u.target
 kind_of cursors user parameters (statement.Delete t) = delete_kind (caller_of user parameters) t
 kind_of cursors user parameters statement.Commit = Kind.commits
 kind_of cursors user parameters statement.Rollback = Kind.rolls_back
 
--- the parameters of the procedure, where the statement reads their values itself
+-- The parameters whose values a statement reads: those of its procedure, or none.
 abbrev pub read_parameters : Kind → List ParameterDesc
 read_parameters (Kind.opens o) = o.parameters
 read_parameters (Kind.fetches f) = f.parameters
@@ -207,24 +211,27 @@ takes_memory _ = true
 
 -- ---- procedures
 
--- the names of its module and its own, its parameters, and what its statement is, or the fault that it has (12.3)
+-- A procedure: the name of its module, its own name, its parameters, and the kind of its statement, or the
+-- fault that the statement has (12.3).
 pub record Procedure : Type 0 where
   pub «module» : Name
   pub name : Name
   pub parameters : List Declared
   pub statement : Result Kind Fault
 
--- what the statement of a procedure is, if there is such a procedure and its statement has no fault
+-- The kind of the statement of a procedure, if there is such a procedure and its statement has no fault.
 abbrev pub kind_at : List Procedure → ℕ → Option Kind
 kind_at procedures number = option_and_then (λ p. result_ok p.statement) (slice_get procedures number)
 
--- the fault for which a procedure answers 42000 at each call
+-- The fault for which each call of a procedure answers 42000.
 abbrev pub fault_at : List Procedure → ℕ → Option Fault
 fault_at procedures number = option_and_then (λ p. result_err p.statement) (slice_get procedures number)
 
--- whether a procedure takes these values: as many as it has parameters, each null or one that its parameter can store
+-- Whether a procedure can be called with these values: one for each parameter, each null or one that the
+-- parameter can store.
 abbrev pub fits_at : List Procedure → ℕ → List Value → Bool
-fits_at procedures number values = option_map_or (λ p. fit p.parameters values) (slice_get procedures number) false
+fits_at procedures number values =
+    option_map_or (λ p. fit p.parameters values) (slice_get procedures number) false
 
 abbrev pub needs_memory : Option Kind → Bool
 needs_memory None = false

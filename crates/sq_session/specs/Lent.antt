@@ -4,6 +4,6 @@ use Rattle.std.specs.Borrow.{Bor}
 use Rattle.sq_value.specs.declared.value.Value.{Value}
 use Rattle.sq_store.specs.declared.table.Numbered.{Numbered}
 
--- a number and the row that is lent with it
+-- A numbered row, where the row is lent.
 abbrev pub lent : ℕ × Bor (List Value) → Numbered
 lent r = record { number = r.0; row = r.1.now }

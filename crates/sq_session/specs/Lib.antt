@@ -1,4 +1,5 @@
 pub mod Asked
+pub mod Called
 pub mod Columns
 pub mod Cursors
 pub mod Fetch

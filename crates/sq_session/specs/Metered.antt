@@ -1,5 +1,5 @@
--- How many rows a call reads to choose those of its target or query (own rule; ISO/IEC 9075:1992 asks nothing of how rows are found).
--- Nothing is said of statements that are not named here.
+-- How many rows a call reads to choose the rows of its target or query (own rule; ISO/IEC 9075:1992 asks
+-- nothing of how rows are found). Nothing is promised of statements that are not named here.
 use Rattle.std.specs.Prelude.{◌≡◌, ◌-◌, ◌≤◌, ⊤, ℕ, List, Option, None, Some, IfSome}
 use Rattle.sq_lex.specs.declared.name.Name.{Name}
 use Rattle.sq_value.specs.declared.value.Value.{Value}
@@ -15,17 +15,18 @@ use Rattle.sq_session.specs.declared.cursor.CursorState.{CursorState}
 use Rattle.sq_session.specs.declared.cursor.CursorState.TheVariants as cursor
 use Rattle.sq_session.specs.declared.walk.WalkingCursor.{WalkingCursor}
 
--- OPEN of a cursor that walks over its base table reads none
+-- OPEN of a cursor that walks over its base table reads no row.
 abbrev pub OpenReads : Over → ℕ → Type 0
 OpenReads (Over.walk table) count = count ≡ 0
 OpenReads _ count = ⊤
 
--- the number of the row that a walk came to last, and 0 after OPEN
+-- The number of the row that a walk came to last; 0 after OPEN.
 abbrev pub last_number : WalkingCursor → ℕ
 last_number c = c.next - 1
 
--- A FETCH by which a walk comes to a row reads that row, and at most those between it and the one to which it came last. Where the walk
--- means a row that is named by a key, none of whose values is null, each FETCH reads one row at most, through views too.
+-- A FETCH by which a walk comes to a row reads that row, and at most those between it and the row before. Where
+-- the conditions of the walk name a row by a key, none of whose values is null, each FETCH reads at most one
+-- row, through views too.
 abbrev pub FetchReadsFrom : CursorState → Fetching → Content → ℕ → Type 0
 FetchReadsFrom (cursor.Walking c) f tables count =
     IfSome (next_walked f (table_at tables c.table) c) (λ r. (1 ≤ count) × (count ≤ r.number - last_number c))
@@ -35,11 +36,12 @@ FetchReadsFrom _ f tables count = ⊤
 abbrev pub FetchReads : Fetching → State → ℕ → Type 0
 FetchReads f before count = FetchReadsFrom (cursor_at before f.cursor) f before.tables count
 
--- A searched UPDATE or DELETE that names its row by a key, none of whose values is null in this call, reads one row at most.
+-- A searched UPDATE or DELETE that names its row by a key, none of whose values is null in this call, reads at
+-- most one row.
 abbrev pub SearchReads : ChangeTarget → List Value → Name → ℕ → Type 0
 SearchReads t values user count = IsKeyedChange t values user → count ≤ 1
 
--- So does a SELECT that names its row by a key, and reads no table in subqueries.
+-- A SELECT INTO that names its row by a key, and reads no table in subqueries, reads at most one row.
 abbrev pub SelectReads : Selecting → List Value → State → ℕ → Type 0
 SelectReads s values before count = IsKeyedSelect s.query before.keys values s.user → count ≤ 1
 
@@ -48,10 +50,11 @@ StepReads (Kind.opens o) values before count = OpenReads o.over count
 StepReads (Kind.fetches f) values before count = FetchReads f before count
 StepReads (Kind.selects s) values before count = SelectReads s values before count
 StepReads (Kind.updates u) values before count = SearchReads u.statement.target values u.caller.user count
-StepReads (Kind.deletes caller t) values before count = SearchReads (target.Searched t) values caller.user count
+StepReads (Kind.deletes caller t) values before count =
+    SearchReads (target.Searched t) values caller.user count
 StepReads _ values before count = ⊤
 
--- the call of a procedure that hands in these values
+-- What the call of a procedure with these values reads.
 abbrev pub CallReads : Option Kind → List Value → State → ℕ → Type 0
 CallReads None values before count = ⊤
 CallReads (Some k) values before count = StepReads k (started_values (read_parameters k) values) before count

@@ -38,66 +38,87 @@ abbrev pub before_rows : List (List Value) → CursorState
 before_rows rows = cursor.Rows (record { rows = rows; place = 0 })
 
 abbrev pub before_numbers : ℕ → List ℕ → CursorState
-before_numbers table numbers = cursor.Numbers (record { table = table; numbers = numbers; passed = 0; on = None })
+before_numbers table numbers =
+    cursor.Numbers (record { table = table; numbers = numbers; passed = 0; on = None })
 
--- a walk keeps the values of the parameters, and its mark is the number of the next new row
+-- A walk after OPEN: it keeps the values of the parameters, and its mark is the number that the next new row
+-- will have.
 abbrev pub walk_before : Content → ℕ → List Value → WalkingCursor
-walk_before tables table values = record { table = table; values = values; next = 0; mark = (table_at tables table).next; on = None }
+walk_before tables table values =
+    record { table = table; values = values; next = 0; mark = (table_at tables table).next; on = None }
 
 -- ---- what is opened
 
--- rows of a query, or its status
+-- The cursor over the rows of a query, or the status of finding them.
 abbrev pub rows_opened : Outcome (List (List Value)) → Outcome CursorState
 rows_opened found = and_then found (λ rows. Ok (before_rows rows))
 
--- numbers of rows of a base table, or the status of choosing them
+-- The cursor over numbers of rows of a base table, or the status of choosing them.
 abbrev pub numbers_opened : ℕ → Outcome (List ℕ) → Outcome CursorState
 numbers_opened table found = and_then found (λ numbers. Ok (before_numbers table numbers))
 
--- A cursor that goes over this is opened so, whatever rows its query has, or numbers are chosen.
+-- What a cursor may be after OPEN by what it goes over alone, whatever rows or numbers are found.
 abbrev pub IsOpenOver : Over → List Value → Content → Outcome CursorState → Type 0
-IsOpenOver Over.rows values tables opened = (found : Outcome (List (List Value))) × (opened ≡ rows_opened found)
-IsOpenOver (Over.numbers table) values tables opened = (found : Outcome (List ℕ)) × (opened ≡ numbers_opened table found)
-IsOpenOver (Over.walk table) values tables opened = opened ≡ Ok (cursor.Walking (walk_before tables table values))
+IsOpenOver Over.rows values tables opened =
+    (found : Outcome (List (List Value))) × (opened ≡ rows_opened found)
+IsOpenOver (Over.numbers table) values tables opened =
+    (found : Outcome (List ℕ)) × (opened ≡ numbers_opened table found)
+IsOpenOver (Over.walk table) values tables opened =
+    opened ≡ Ok (cursor.Walking (walk_before tables table values))
 
 -- ---- the rows and numbers
 
--- the rows of a query expression, in order, or the status of finding them
-abbrev pub opened_in_order : Kinds (Placed TablePlace) → BoundQuery → List SortColumn → Name → List Value → (TablePlace → Outcome (List Row)) → Outcome CursorState
+-- The cursor over the rows of a query expression, in order, or the status of finding them.
+abbrev pub opened_in_order : Kinds (Placed TablePlace) → BoundQuery → List SortColumn → Name → List Value
+    → (TablePlace → Outcome (List Row)) → Outcome CursorState
 opened_in_order kinds query order user values shown =
-    rows_opened (and_then (query_rows (by_place shown) kinds (query_of query) (outermost (inputs_of values) user)) (λ rows. Ok (sorted (by_columns (sort_columns order)) rows)))
+    rows_opened (and_then (query_rows (by_place shown) kinds (query_of query)
+    (outermost (inputs_of values) user)) (λ rows. Ok (sorted (by_columns (sort_columns order)) rows)))
 
--- those over the tables that the stored rows and the views' queries make for the user
-abbrev pub RowsAreMeant : Schemas → BoundQuery → List SortColumn → Name → List ParameterDesc → List Value → Content → Outcome CursorState → Type 0
+-- The rows are the query's over the tables that the stored rows and the views' queries make for the user.
+abbrev pub RowsAreMeant : Schemas → BoundQuery → List SortColumn → Name → List ParameterDesc → List Value
+    → Content → Outcome CursorState → Type 0
 RowsAreMeant s query order user parameters values tables opened =
     (shown : TablePlace → Outcome (List Row)) → AreMeant s.views tables user shown
-    → opened ≡ opened_in_order (kinds_by_place (columns_of s) (kinds_of_parameters parameters)) query order user values shown
+    → opened ≡ opened_in_order (kinds_by_place (columns_of s) (kinds_of_parameters parameters)) query order
+    user values shown
 
--- the numbers of the rows of which the conditions of a target are true, or the status of choosing them
+-- The numbers are of the rows of which the conditions of a target are true, or the status is that of choosing
+-- them.
 abbrev pub NumbersAreMeant : Schemas → Target → Name → List Value → Content → Outcome CursorState → Type 0
 NumbersAreMeant s t user values tables opened =
     (shown : TablePlace → Outcome (List Row)) → AreMeant s.views tables user shown
-    → opened ≡ numbers_opened t.base (and_then (stored_numbered tables t.base) (numbers_chosen (is_true_of shown values user) (conditions_of t)))
+    → opened ≡ numbers_opened t.base
+    (and_then (stored_numbered tables t.base)
+    (numbers_chosen (is_true_of shown values user) (conditions_of t)))
 
--- a quiet target is walked
+-- A target that is not quiet is opened over the numbers of its rows; a quiet one is walked.
 abbrev pub TargetIsMeant : Schemas → Target → Name → List Value → Content → Outcome CursorState → Type 0
-TargetIsMeant s t user values tables opened = t.is_quiet ≡ false → NumbersAreMeant s t user values tables opened
+TargetIsMeant s t user values tables opened =
+    t.is_quiet ≡ false → NumbersAreMeant s t user values tables opened
 
-abbrev pub IsMeant : Schemas → CursorBody → Name → List ParameterDesc → List Value → Content → Outcome CursorState → Type 0
-IsMeant s (body.Rows query order) user parameters values tables opened = RowsAreMeant s query order user parameters values tables opened
-IsMeant s (body.Updatable u) user parameters values tables opened = TargetIsMeant s u.target user values tables opened
+abbrev pub IsMeant : Schemas → CursorBody → Name → List ParameterDesc → List Value → Content
+    → Outcome CursorState → Type 0
+IsMeant s (body.Rows query order) user parameters values tables opened =
+    RowsAreMeant s query order user parameters values tables opened
+IsMeant s (body.Updatable u) user parameters values tables opened =
+    TargetIsMeant s u.target user values tables opened
 
-abbrev pub IsMeantIfAny : Schemas → Option CursorBody → Name → List ParameterDesc → List Value → Content → Outcome CursorState → Type 0
+abbrev pub IsMeantIfAny : Schemas → Option CursorBody → Name → List ParameterDesc → List Value → Content
+    → Outcome CursorState → Type 0
 IsMeantIfAny s None user parameters values tables opened = ⊤
-IsMeantIfAny s (Some b) user parameters values tables opened = IsMeant s b user parameters values tables opened
+IsMeantIfAny s (Some b) user parameters values tables opened =
+    IsMeant s b user parameters values tables opened
 
 -- ---- while the statement runs
 
--- want of memory is no outcome of a definition
+-- What a definition says of an answer; it says nothing of running out of memory.
 abbrev pub IfAnswered : (Outcome CursorState → Type 0) → Result CursorState Fault → Type 0
 IfAnswered P (Ok c) = P (Ok c)
 IfAnswered P (Err (fault.Status f)) = P (Err (status_of f))
 IfAnswered P (Err fault.NoMemory) = ⊤
 
-abbrev pub HasOpened : Over → (Outcome CursorState → Type 0) → List Value → Content → Result CursorState Fault → Type 0
-HasOpened over IsSo values tables answer = IfAnswered (λ opened. IsOpenOver over values tables opened × IsSo opened) answer
+abbrev pub HasOpened : Over → (Outcome CursorState → Type 0) → List Value → Content
+    → Result CursorState Fault → Type 0
+HasOpened over IsSo values tables answer =
+    IfAnswered (λ opened. IsOpenOver over values tables opened × IsSo opened) answer

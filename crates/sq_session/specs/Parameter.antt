@@ -9,15 +9,15 @@ use Rattle.sq_bound.specs.declared.names.ParameterDesc.{ParameterDesc}
 use Rattle.sq_meaning.specs.Tables.{Declared}
 use Rattle.sq_model.specs.Parameter.{started}
 
--- what is declared of one
+-- The declaration of a parameter: its name and its domain.
 abbrev pub declared : ParameterDesc → Declared
 declared p = record { name = p.name; domain = p.domain }
 
--- the values at which they start, each with the one that is handed in for it
+-- The values with which parameters start, from the values that are handed in.
 abbrev pub started_values : List ParameterDesc → List Value → List Value
 started_values parameters values = map (λ p. started p.0.domain p.1) (zip parameters values)
 
--- while a call runs each parameter has a value of its kind, and not null
+-- While a call runs, each parameter has a value of its kind that is not null.
 abbrev pub IsGiven : Kind → Value → Type 0
 IsGiven k v = IsOfKind k v × ¬ (v ≡ Null)
 

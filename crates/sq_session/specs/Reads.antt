@@ -15,11 +15,13 @@ use Rattle.sq_session.specs.Walk.{is_meant}
 abbrev pub is_assigned : List BoundAssignment → ℕ → Bool
 is_assigned assignments position = list_any (λ a. nat_eq a.column.position position) assignments
 
--- rows that differ in no other column
+-- Two rows differ only in columns that are assigned to.
 abbrev pub AreAlike : List BoundAssignment → Row → Row → Type 0
-AreAlike assignments row other = (position : ℕ) → is_assigned assignments position ≡ false → slice_get row position ≡ slice_get other position
+AreAlike assignments row other =
+    (position : ℕ) → is_assigned assignments position ≡ false
+    → slice_get row position ≡ slice_get other position
 
--- trees by place, on rows of that base table alone
+-- Whether bound expressions and conditions on one row of the base table read a column that is assigned to.
 module _ {T : Type 0} (assignments : List BoundAssignment) where
   abbrev pub expr_reads : Expr (Placed T) → Bool
   expr_reads (literal v) = false
@@ -37,7 +39,7 @@ module _ {T : Type 0} (assignments : List BoundAssignment) where
   escape_reads None = false
   escape_reads (Some e) = expr_reads e
 
-  -- what a subquery reads is not looked into: a predicate with one reads every column
+  -- A predicate with a subquery is taken to read every column.
   abbrev mutual
     pub cond_reads : Cond (Placed T) → Bool
     cond_reads (compare op a b) = expr_reads a || expr_reads b
@@ -57,13 +59,14 @@ module _ {T : Type 0} (assignments : List BoundAssignment) where
     conds_read no_cond = false
     conds_read (a_cond c cs) = cond_reads c || conds_read cs
 
--- whether one of these conditions does
+-- Whether one of these conditions reads a column that is assigned to.
 abbrev pub one_reads : List BoundAssignment → List BoundCond → Bool
 one_reads assignments conditions = list_any (λ c. cond_reads assignments (cond_of [] c)) conditions
 
 -- ---- what follows for the rows that conditions mean
 
--- those of rows that are alike, both or neither
+-- Of two rows that differ only in columns that are assigned to, the conditions mean both or neither.
 abbrev pub AreUnread : List BoundAssignment → List BoundCond → Type 0
 AreUnread assignments conditions =
-    (values : List Value) (name : Name) (r other : Numbered) → AreAlike assignments r.row other.row → is_meant conditions values name r ≡ is_meant conditions values name other
+    (values : List Value) (name : Name) (r other : Numbered) → AreAlike assignments r.row other.row
+    → is_meant conditions values name r ≡ is_meant conditions values name other

@@ -1,4 +1,4 @@
--- A session.
+-- A session: its procedures, and what they work on.
 use Rattle.std.specs.Prelude.{◌≡◌, ℕ, Bool, true, ◌&&◌, List, map, nat_eq, position, Option}
 use Rattle.std.specs.Cmp.Lexicographic.{pointwise}
 use Rattle.std.specs.Option.{option_map}
@@ -7,6 +7,7 @@ use Rattle.sq_lex.specs.declared.name.Name.{Name}
 use Rattle.sq_store.specs.Content.{table_at}
 use Rattle.sq_store.specs.declared.table.Numbered.{Numbered}
 use Rattle.sq_tree.specs.declared.module.ModuleText.{ModuleText}
+use Rattle.sq_bound.specs.Fits.{keys_of_bases}
 use Rattle.sq_bound.specs.Known.{KnownTables}
 use Rattle.sq_binding.specs.Changeable.{UserNames}
 use Rattle.sq_catalog.specs.Catalog.{table_number}
@@ -24,7 +25,8 @@ use Rattle.sq_session.specs.Parameter.{declared}
 use Rattle.sq_session.specs.Schemas.{Schemas, columns_of}
 use Rattle.sq_session.specs.State.{State}
 
--- the procedures and the names of the base tables, each at its number, what the schemas define, and what calls work on
+-- A session: the procedures and the names of the base tables, each at its number, what the schemas define, and
+-- the state that calls work on.
 pub record Session : Type 0 where
   pub procedures : List Procedure
   pub tables : List FullName
@@ -65,9 +67,10 @@ abbrev pub names_of : List Procedure → List ProcedureName
 names_of procedures = map name_of procedures
 
 -- The procedures of a session are those of a program that is bound from these modules, where the names of tables and views mean this
--- (12.1 and 12.3), as the definitions compute it, the faults included. It is well formed over the session's tables and views, and the
--- session has a cursor for each that it declares.
-pub record IsOfModules (known : KnownTables) (names : Name → UserNames) (modules : List ModuleText) (s : Session) : Type 0 where
+-- (12.1 and 12.3), as the definitions compute it, the faults included. It is well formed over the session's tables and views, the session
+-- has a cursor for each that it declares, and its tables have the keys of the base tables.
+pub record IsOfModules (known : KnownTables) (names : Name → UserNames) (modules : List ModuleText)
+    (s : Session) : Type 0 where
   pub program : Program
   pub is_of : IsOfTexts known modules program
   pub computed : IsProgramOf names modules program
@@ -75,3 +78,4 @@ pub record IsOfModules (known : KnownTables) (names : Name → UserNames) (modul
   pub well_formed : ProgramIsWellFormed (columns_of s.schemas) program
   pub are : s.procedures ≡ procedures_of program.cursors.items program.procedures.entries
   pub cursors : are_over program.cursors.items s.state.cursors ≡ true
+  pub keys : s.state.keys ≡ keys_of_bases s.schemas.bases

@@ -8,8 +8,8 @@ use Rattle.sq_session.specs.declared.cursor.CursorState.{CursorState}
 use Rattle.sq_session.specs.declared.cursor.CursorState.TheVariants as cursor
 use Rattle.sq_session.specs.declared.cursor.NumbersCursor.{NumbersCursor}
 
--- the tables now, the tables at the last COMMIT, the columns of each key of each table, the greatest number of a row, and a cursor for
--- each that a module declares
+-- The tables now, the tables at the last COMMIT, the columns of each key of each table, the greatest number of
+-- a row, and one cursor for each declared cursor.
 pub record State : Type 0 where
   pub tables : Content
   pub committed : Content
@@ -48,7 +48,7 @@ number_on (cursor.Numbers c) = c.on
 number_on (cursor.Walking c) = c.on
 number_on (cursor.Rows c) = None
 
--- off that row
+-- A cursor after its row was deleted: on no row.
 abbrev pub off_row : CursorState → CursorState
 off_row cursor.Closed = cursor.Closed
 off_row (cursor.Numbers c) = cursor.Numbers (record c { on = None })
@@ -65,13 +65,18 @@ is_there t number = is_some (row_at t number)
 abbrev pub left : NumbersCursor → List ℕ
 left c = drop c.passed c.numbers
 
--- how many of them come before the first under which there is a row now
+-- How many of the numbers left to a cursor come before the first under which there is a row now.
 abbrev pub gone : Table → NumbersCursor → ℕ
 gone t c = position_or_len (is_there t) (left c)
 
--- on that number, if there is one; those before it are passed for good
+-- A cursor over numbers after FETCH: on the first number left under which there is a row now, if any; those
+-- before it are passed for good.
 abbrev pub next_number : Table → NumbersCursor → NumbersCursor
-next_number t c = record c { passed = min (length c.numbers) (c.passed + gone t c + 1); on = slice_get (left c) (gone t c) }
+next_number t c =
+    record c {
+      passed = min (length c.numbers) (c.passed + gone t c + 1);
+      on = slice_get (left c) (gone t c);
+    }
 
 -- ---- COMMIT and ROLLBACK (14.3, 14.4) close all cursors
 

@@ -40,7 +40,8 @@ use Rattle.sq_session.specs.declared.reply.Done.{Done}
 
 -- ---- how a statement ends
 
--- a statement that is not performed ends with a status alone; want of memory is no ending
+-- How a statement ends: a statement that is not performed, with a status alone. A statement that runs out of
+-- memory does not end.
 abbrev pub ending : Result Done Fault → Option Done
 ending (Ok d) = Some d
 ending (Err (fault.Status f)) = Some (ended (status_of f))
@@ -54,23 +55,25 @@ abbrev pub is_success : Status → Bool
 is_success status.SuccessfulCompletion = true
 is_success _ = false
 
--- a call ends with this status, and nothing changes
+-- A statement ends with this status, and nothing changes.
 abbrev pub Refuses : Status → State → Done → State → Type 0
 Refuses st before d after = (d ≡ ended st) × (after ≡ before)
 
 -- ---- OPEN (13.2)
 
--- the cursor is then so; or it ends with a status, and nothing changes
+-- OPEN puts this cursor in place; or it ends with a status, and nothing changes.
 abbrev pub OpensAs : Outcome CursorState → ℕ → State → Done → State → Type 0
-OpensAs (Ok c) number before d after = (d ≡ ended status.SuccessfulCompletion) × (after ≡ with_cursor before number c)
+OpensAs (Ok c) number before d after =
+    (d ≡ ended status.SuccessfulCompletion) × (after ≡ with_cursor before number c)
 OpensAs (Err st) number before d after = Refuses st before d after
 
 abbrev pub MayOpenClosed : Schemas → Opening → List Value → State → Done → State → Type 0
 MayOpenClosed s o values before d after =
-    (opened : Outcome CursorState) × IsOpenOver o.over values before.tables opened × IsMeantIfAny s o.body o.user o.parameters values before.tables opened
+    (opened : Outcome CursorState) × IsOpenOver o.over values before.tables opened
+    × IsMeantIfAny s o.body o.user o.parameters values before.tables opened
     × OpensAs opened o.cursor before d after
 
--- a cursor that is open already is left alone
+-- OPEN of a cursor that is open already is refused.
 abbrev pub MayOpenIf : Bool → Schemas → Opening → List Value → State → Done → State → Type 0
 MayOpenIf true s o values before d after = Refuses status.InvalidCursorState before d after
 MayOpenIf false s o values before d after = MayOpenClosed s o values before d after
@@ -80,16 +83,19 @@ MayOpen s o values before d after = MayOpenIf (is_open (cursor_at before o.curso
 
 -- ---- FETCH (13.3)
 
--- the cursor is then so, and it ends so; or with a status, and nothing changes
+-- FETCH puts this cursor in place and ends with this reply; or it ends with a status, and nothing changes.
 abbrev pub Comes : Outcome (CursorState × Done) → ℕ → State → Done → State → Type 0
 Comes (Ok come) number before d after = (d ≡ come.1) × (after ≡ with_cursor before number come.0)
 Comes (Err st) number before d after = Refuses st before d after
 
 abbrev pub MayFetchFrom : CursorState → Fetching → List Value → State → Done → State → Type 0
 MayFetchFrom cursor.Closed f values before d after = Refuses status.InvalidCursorState before d after
-MayFetchFrom (cursor.Rows c) f values before d after = Comes (over_rows (come_to_row f values c)) f.cursor before d after
-MayFetchFrom (cursor.Numbers c) f values before d after = Comes (over_numbers (come_to_number f before.tables c)) f.cursor before d after
-MayFetchFrom (cursor.Walking c) f values before d after = Comes (over_walk (come_to_walk f before.tables c)) f.cursor before d after
+MayFetchFrom (cursor.Rows c) f values before d after =
+    Comes (over_rows (come_to_row f values c)) f.cursor before d after
+MayFetchFrom (cursor.Numbers c) f values before d after =
+    Comes (over_numbers (come_to_number f before.tables c)) f.cursor before d after
+MayFetchFrom (cursor.Walking c) f values before d after =
+    Comes (over_walk (come_to_walk f before.tables c)) f.cursor before d after
 
 abbrev pub MayFetch : Fetching → List Value → State → Done → State → Type 0
 MayFetch f values before d after = MayFetchFrom (cursor_at before f.cursor) f values before d after
@@ -97,7 +103,8 @@ MayFetch f values before d after = MayFetchFrom (cursor_at before f.cursor) f va
 -- ---- CLOSE (13.4)
 
 abbrev pub MayCloseIf : Bool → ℕ → State → Done → State → Type 0
-MayCloseIf true number before d after = (d ≡ ended status.SuccessfulCompletion) × (after ≡ with_cursor before number cursor.Closed)
+MayCloseIf true number before d after =
+    (d ≡ ended status.SuccessfulCompletion) × (after ≡ with_cursor before number cursor.Closed)
 MayCloseIf false number before d after = Refuses status.InvalidCursorState before d after
 
 abbrev pub MayClose : ℕ → State → Done → State → Type 0
@@ -105,82 +112,95 @@ MayClose number before d after = MayCloseIf (is_open (cursor_at before number)) 
 
 -- ---- SELECT INTO (13.5)
 
--- the rows of the query, or the status of finding them, over the tables that the stored rows and the views' queries make for the user
+-- The rows of the query of a SELECT INTO, or the status of finding them, over the tables that the stored rows
+-- and the views' queries make for the user.
 abbrev pub SelectIsMeant : Schemas → Selecting → List Value → Content → Outcome (List (List Value)) → Type 0
 SelectIsMeant s select values tables found =
     (shown : TablePlace → Outcome (List Row)) → AreMeant s.views tables select.user shown
     → found ≡ rows (by_place shown) (select_of select.query) (outermost (inputs_of values) select.user)
 
--- the query has these rows, or ends with a status: the targets are set from the only row
-pub record Selects (s : Schemas) (select : Selecting) (values : List Value) (tables : Content) (d : Done) : Type 0 where
+-- A SELECT INTO finds the rows of its query, and sets its targets from the only one.
+pub record Selects (s : Schemas) (select : Selecting) (values : List Value) (tables : Content)
+    (d : Done) : Type 0 where
   pub found : Outcome (List (List Value))
   pub meant : SelectIsMeant s select values tables found
   pub ends : d ≡ ended_by (and_then (and_then found single_row) (row_reply select.parameters select.targets))
 
 -- ---- INSERT, UPDATE and DELETE (13.6 to 13.10)
 
--- With success the tables are those that the statement comes to, and all else is as it is wanted to be; with another status nothing
--- changes.
+-- With success the tables are those that the statement gives, and all else is as wanted; with another status
+-- nothing changes.
 abbrev pub Performs : Outcome Content → State → State → Done → State → Type 0
-Performs (Ok tables) wanted before d after = (d ≡ ended status.SuccessfulCompletion) × (after ≡ record wanted { tables = tables })
+Performs (Ok tables) wanted before d after =
+    (d ≡ ended status.SuccessfulCompletion) × (after ≡ record wanted { tables = tables })
 Performs (Err st) wanted before d after = Refuses st before d after
 
--- what the statement of a caller that hands in these values sees of these tables
+-- What the statement of a caller sees of these tables, with these values of its parameters.
 abbrev pub seen_in : Schemas → Caller → List Value → Content → Seen
 seen_in s caller values tables = seen_by s.views tables caller.user values
 
--- this is what INSERT comes to, over the tables that the stored rows and the views' queries make for the caller
+-- This is the outcome of INSERT, over the tables that the stored rows and the views' queries make for the
+-- caller.
 abbrev pub InsertComesTo : Schemas → Caller → List Value → BoundInsert → State → Outcome Content → Type 0
 InsertComesTo s caller values i before done =
     (shown : Shown) → IsShown (seen_in s caller values before.tables) shown
     → done ≡ insert_outcome shown (seen_in s caller values before.tables) s.bases before.row_numbers i
 
 abbrev pub MayInsert : Schemas → Caller → List Value → BoundInsert → State → Done → State → Type 0
-MayInsert s caller values i before d after = (done : Outcome Content) × InsertComesTo s caller values i before done × Performs done before before d after
+MayInsert s caller values i before d after =
+    (done : Outcome Content) × InsertComesTo s caller values i before done
+    × Performs done before before d after
 
--- UPDATE; the cursor of a positioned one is on the row of this number
+-- This is the outcome of UPDATE; the cursor of a positioned one is on the row of this number.
 abbrev pub UpdateComesTo : Schemas → Updating → List Value → Option ℕ → Content → Outcome Content → Type 0
 UpdateComesTo s u values on tables done =
     (shown : Shown) → IsShown (seen_in s u.caller values tables) shown
     → done ≡ update_outcome shown (seen_in s u.caller values tables) s.bases u.statement on
 
--- cursors that walk and read what an UPDATE changes go on over the numbers that were left to them before it
+-- The state in which walking cursors that read what an UPDATE changes go on over the numbers that were left to
+-- them before it.
 abbrev pub walks_listed : Updating → State → State
 walks_listed u s = record s { cursors = go_on u.statement s.tables u.cursors s.cursors }
 
 abbrev pub MayUpdate : Schemas → Updating → List Value → Option ℕ → State → Done → State → Type 0
 MayUpdate s u values on before d after =
-    (done : Outcome Content) × UpdateComesTo s u values on before.tables done × Performs done (walks_listed u before) before d after
+    (done : Outcome Content) × UpdateComesTo s u values on before.tables done
+    × Performs done (walks_listed u before) before d after
 
--- DELETE, in the same way
-abbrev pub DeleteComesTo : Schemas → Caller → List Value → ChangeTarget → Option ℕ → Content → Outcome Content → Type 0
+-- This is the outcome of DELETE; the cursor of a positioned one is on the row of this number.
+abbrev pub DeleteComesTo : Schemas → Caller → List Value → ChangeTarget → Option ℕ → Content
+    → Outcome Content → Type 0
 DeleteComesTo s caller values t on tables done =
     (shown : Shown) → IsShown (seen_in s caller values tables) shown
     → done ≡ delete_outcome shown (seen_in s caller values tables) s.bases t on
 
-abbrev pub MayDelete : Schemas → Caller → List Value → ChangeTarget → Option ℕ → State → State → Done → State → Type 0
+abbrev pub MayDelete : Schemas → Caller → List Value → ChangeTarget → Option ℕ → State → State → Done
+    → State → Type 0
 MayDelete s caller values t on wanted before d after =
-    (done : Outcome Content) × DeleteComesTo s caller values t on before.tables done × Performs done wanted before d after
+    (done : Outcome Content) × DeleteComesTo s caller values t on before.tables done
+    × Performs done wanted before d after
 
 -- whether the cursor is on a row that is there
 abbrev pub is_on_row : State → PositionedTarget → Bool
-is_on_row s p = is_some (option_and_then (row_at (table_at s.tables p.base)) (number_on (cursor_at s p.cursor)))
+is_on_row s p =
+    is_some (option_and_then (row_at (table_at s.tables p.base)) (number_on (cursor_at s p.cursor)))
 
 -- a positioned statement needs a cursor that is on a row that is there
 abbrev pub is_ready : State → ChangeTarget → Bool
 is_ready s (target.Searched t) = true
 is_ready s (target.Positioned p) = is_on_row s p
 
--- the number of that row
+-- The number of the row that the cursor of a positioned statement is on.
 abbrev pub on_row : State → PositionedTarget → Option ℕ
 on_row s p = number_on (cursor_at s p.cursor)
 
--- none where the statement is searched
+-- The number of the row that a positioned statement means; none for a searched statement.
 abbrev pub number_meant : State → ChangeTarget → Option ℕ
 number_meant s (target.Searched t) = None
 number_meant s (target.Positioned p) = on_row s p
 
-abbrev pub MayUpdateAt : Bool → Schemas → Updating → PositionedTarget → List Value → State → Done → State → Type 0
+abbrev pub MayUpdateAt : Bool → Schemas → Updating → PositionedTarget → List Value → State → Done → State
+    → Type 0
 MayUpdateAt true s u p values before d after = MayUpdate s u values (on_row before p) before d after
 MayUpdateAt false s u p values before d after = Refuses status.InvalidCursorState before d after
 
@@ -188,8 +208,10 @@ MayUpdateAt false s u p values before d after = Refuses status.InvalidCursorStat
 abbrev pub left_row : State → PositionedTarget → State
 left_row s p = with_cursor s p.cursor (off_row (cursor_at s p.cursor))
 
-abbrev pub MayDeleteAt : Bool → Schemas → Caller → PositionedTarget → List Value → State → Done → State → Type 0
-MayDeleteAt true s caller p values before d after = MayDelete s caller values (target.Positioned p) (on_row before p) (left_row before p) before d after
+abbrev pub MayDeleteAt : Bool → Schemas → Caller → PositionedTarget → List Value → State → Done → State
+    → Type 0
+MayDeleteAt true s caller p values before d after =
+    MayDelete s caller values (target.Positioned p) (on_row before p) (left_row before p) before d after
 MayDeleteAt false s caller p values before d after = Refuses status.InvalidCursorState before d after
 
 -- ---- a statement, and a call
@@ -197,30 +219,39 @@ MayDeleteAt false s caller p values before d after = Refuses status.InvalidCurso
 abbrev pub Ends : State → Done → State → Type 0
 Ends wanted d after = (d ≡ ended status.SuccessfulCompletion) × (after ≡ wanted)
 
--- a statement of a procedure whose parameters start at these values, over what the schemas define
+-- What a statement of a procedure may do, whose parameters start with these values, over what the schemas
+-- define.
 abbrev pub MayStep : Schemas → Kind → List Value → State → Done → State → Type 0
 MayStep s (Kind.opens o) values before d after = MayOpen s o values before d after
 MayStep s (Kind.fetches f) values before d after = MayFetch f values before d after
 MayStep s (Kind.closes number) values before d after = MayClose number before d after
-MayStep s (Kind.selects select) values before d after = (after ≡ before) × Selects s select values before.tables d
+MayStep s (Kind.selects select) values before d after =
+    (after ≡ before) × Selects s select values before.tables d
 MayStep s (Kind.inserts caller i) values before d after = MayInsert s caller values i before d after
 MayStep s (Kind.updates u) values before d after = MayUpdate s u values None before d after
-MayStep s (Kind.deletes caller t) values before d after = MayDelete s caller values (target.Searched t) None before before d after
-MayStep s (Kind.updates_at u p) values before d after = MayUpdateAt (is_on_row before p) s u p values before d after
-MayStep s (Kind.deletes_at caller p) values before d after = MayDeleteAt (is_on_row before p) s caller p values before d after
+MayStep s (Kind.deletes caller t) values before d after =
+    MayDelete s caller values (target.Searched t) None before before d after
+MayStep s (Kind.updates_at u p) values before d after =
+    MayUpdateAt (is_on_row before p) s u p values before d after
+MayStep s (Kind.deletes_at caller p) values before d after =
+    MayDeleteAt (is_on_row before p) s caller p values before d after
 MayStep s Kind.commits values before d after = Ends (committed_state before) d after
 MayStep s Kind.rolls_back values before d after = Ends (rolled_back before) d after
 
--- a call does not end with 42000
+-- A statement does not end with 42000.
 abbrev pub EndsRight : Done → Type 0
 EndsRight d = IsNoSyntaxError d.status
 
--- for each user there are tables that the stored rows and the views' queries make, since a view reads earlier ones alone
+-- For each user there are tables that the stored rows and the views' queries make, since a view reads earlier
+-- views alone.
 abbrev pub HasTables : Schemas → Content → Type 0
-HasTables s tables = (user : Name) → (shown : TablePlace → Outcome (List Row)) × AreMeant s.views tables user shown
+HasTables s tables =
+    (user : Name) → (shown : TablePlace → Outcome (List Row)) × AreMeant s.views tables user shown
 
--- The call of a procedure that hands in these values. A statement with a fault ends with 42000 and changes nothing; one without a fault
--- does not end so.
+-- What the call of a procedure with these values may do. A statement with a fault ends with 42000 and changes
+-- nothing; a statement without a fault does not end with 42000.
 abbrev pub MayCall : Schemas → Option Kind → List Value → State → Done → State → Type 0
 MayCall s None values before d after = Refuses status.SyntaxErrorOrAccessRuleViolation before d after
-MayCall s (Some k) values before d after = MayStep s k (started_values (read_parameters k) values) before d after × EndsRight d × HasTables s before.tables
+MayCall s (Some k) values before d after =
+    MayStep s k (started_values (read_parameters k) values) before d after × EndsRight d
+    × HasTables s before.tables

@@ -29,17 +29,20 @@ use Rattle.sq_session.specs.declared.target.Assignments.{Assignments}
 
 -- ---- one target
 
--- an indicator is set to -1 beside null, to the length before a cut, and otherwise to 0
+-- What an indicator is set to, if there is one.
 abbrev pub indicated : Option ℕ → ℤ → List Assignment
 indicated None n = []
 indicated (Some indicator) n = record { parameter = indicator; value = whole n } ∷ []
 
 abbrev pub with_indicator : Target → Value → ℤ → Bool → Assignments
-with_indicator t v n cut = record { list = record { parameter = t.parameter; value = v } ∷ indicated t.indicator n; is_cut = cut }
+with_indicator t v n cut =
+    record { list = record { parameter = t.parameter; value = v } ∷ indicated t.indicator n; is_cut = cut }
 
--- null is retrieved beside an indicator alone
+-- Null sets a target only if it has an indicator, which is set to -1.
 abbrev pub null_set : Target → Outcome Assignments
-null_set t = and_then (or_status status.NullWithoutIndicator t.indicator) (λ indicator. Ok (with_indicator t value.Null (negsuc 0) false))
+null_set t =
+    and_then (or_status status.NullWithoutIndicator t.indicator)
+    (λ indicator. Ok (with_indicator t value.Null (negsuc 0) false))
 
 abbrev pub value_set : Target → Retrieved → Assignments
 value_set t r = with_indicator t r.value (length_before_cut r) (is_some r.uncut)
@@ -51,14 +54,16 @@ fits d (value.Num n) = is_of_numbers d
 fits d (value.Chars t) = not (is_of_numbers d)
 
 abbrev pub set_in : Domain → Target → Value → Outcome Assignments
-set_in d t v = and_then (well_formed_if (fits d v)) (λ fitting. and_then (retrieved_into d v) (λ r. Ok (value_set t r)))
+set_in d t v =
+    and_then (well_formed_if (fits d v))
+    (λ fitting. and_then (retrieved_into d v) (λ r. Ok (value_set t r)))
 
 abbrev pub target_set_in : Domain → Target → Value → Outcome Assignments
 target_set_in d t value.Null = null_set t
 target_set_in d t (value.Num n) = set_in d t (value.Num n)
 target_set_in d t (value.Chars c) = set_in d t (value.Chars c)
 
--- the domain of a parameter; a target is one of the procedure's
+-- The domain of the parameter at a place.
 abbrev pub domain_at : List ParameterDesc → ℕ → Domain
 domain_at parameters place = option_map_or (λ p. p.domain) (slice_get parameters place) domain.Int
 
@@ -79,10 +84,13 @@ set_behind a others = and_then others (λ b. Ok (joined a b))
 abbrev pub each_set : List ParameterDesc → List Target → List Value → Outcome Assignments
 each_set parameters [] row = Ok none_set
 each_set parameters (t ∷ ts) [] = Ok none_set
-each_set parameters (t ∷ ts) (v ∷ vs) = and_then (target_set parameters t v) (λ a. set_behind a (each_set parameters ts vs))
+each_set parameters (t ∷ ts) (v ∷ vs) =
+    and_then (target_set parameters t v) (λ a. set_behind a (each_set parameters ts vs))
 
 abbrev pub row_set : List ParameterDesc → List Target → List Value → Outcome Assignments
-row_set parameters targets row = and_then (well_formed_if (nat_eq (length targets) (length row))) (λ as_many. each_set parameters targets row)
+row_set parameters targets row =
+    and_then (well_formed_if (nat_eq (length targets) (length row)))
+    (λ as_many. each_set parameters targets row)
 
 -- ---- what parameters are set to
 
@@ -90,13 +98,13 @@ row_set parameters targets row = and_then (well_formed_if (nat_eq (length target
 abbrev pub set_to : List Assignment → ℕ → Option Assignment
 set_to set place = find (λ a. nat_eq a.parameter place) set
 
--- parameters from a place on are set alike
+-- Two lists of assignments set the parameters from a place on to the same values.
 abbrev pub AreSetAlike : ℕ → List Assignment → List Assignment → Type 0
 AreSetAlike from set other = (place : ℕ) → from ≤ place → set_to set place ≡ set_to other place
 
 -- ---- rows that targets take
 
--- a row has as many values as there are targets, each of a kind that its target takes
+-- A row has one value for each target, of a kind that the target takes.
 pub record MayTake (parameters : List ParameterDesc) (targets : List Target) (row : List Value) : Type 0 where
   pub kinds : List Kind
   pub taken : TakeKinds (kinds_of_parameters parameters) targets kinds
@@ -118,30 +126,33 @@ abbrev pub output_first : Name → Option Assignment → List Output → List Ou
 output_first name None others = others
 output_first name (Some a) others = record { name = name; value = a.value } ∷ others
 
--- the parameters that are set, in the order of their declaration, where the first of these has this place
+-- The parameters that are set, in the order of their declaration; `first` is the place of the first parameter
+-- of the list.
 abbrev pub outputs_from : ℕ → List Assignment → List ParameterDesc → List Output
 outputs_from first set [] = []
-outputs_from first set (p ∷ ps) = output_first p.name (find (λ a. nat_eq a.parameter first) set) (outputs_from (suc first) set ps)
+outputs_from first set (p ∷ ps) =
+    output_first p.name (find (λ a. nat_eq a.parameter first) set) (outputs_from (suc first) set ps)
 
--- done, with the warning where a text was cut
+-- The reply to a row that was retrieved: success, or the warning that a text was cut.
 abbrev pub set_reply : List ParameterDesc → Assignments → Done
 set_reply parameters a = record {
   status = if a.is_cut then status.TextTruncated else status.SuccessfulCompletion;
   outputs = outputs_from 0 a.list parameters;
 }
 
--- a failure of retrieving sets no target
+-- The reply to a row: if retrieving fails, no target is set.
 abbrev pub reply_of : List ParameterDesc → Outcome Assignments → Outcome Done
 reply_of parameters (Ok a) = Ok (set_reply parameters a)
 reply_of parameters (Err st) = if is_refused st then not_well_formed else Ok (ended st)
 
--- the targets are set from a row
+-- The reply where targets are set from a row.
 abbrev pub row_reply : List ParameterDesc → List Target → List Value → Outcome Done
 row_reply parameters targets row = reply_of parameters (row_set parameters targets row)
 
 -- ---- while the targets are set one after the other
 
--- one more is set, or a status stands in its place; want of memory is no outcome of a definition
+-- The code has set one target more, or ends with the status that is wanted; a definition says nothing of
+-- running out of memory.
 abbrev pub IsSet : Result (Unit {0}) Fault → Outcome Assignments → Assignments → Type 0
 IsSet (Ok done) wanted now = wanted ≡ Ok now
 IsSet (Err (fault.Status f)) wanted now = wanted ≡ Err (status_of f)

@@ -1,5 +1,5 @@
--- A cursor that walks over a base table (ISO/IEC 9075:1992, 13.3): the rows that it comes to, and what a walk asks, so that its
--- conditions answer no status.
+-- A cursor that walks over a base table (ISO/IEC 9075:1992, 13.3): the rows that it comes to, and what is asked
+-- of it so that its conditions answer no status.
 use Rattle.std.specs.Prelude.{◌≡◌, ℕ, Bool, true, false, nat_le, nat_lt, filter, find, map, List, [], ◌∷◌, Option, Ok, Err}
 use Rattle.std.specs.List.{AllByRecursion}
 use Rattle.sq_lex.specs.declared.name.Name.{Name}
@@ -21,15 +21,15 @@ use Rattle.sq_query.specs.Target.{are_true}
 
 -- ---- the rows
 
--- from a number on
+-- The rows from a number on.
 abbrev pub rows_from : ℕ → List Numbered → List Numbered
 rows_from number rows = filter (λ r. nat_le number r.number) rows
 
--- rows from a number on and before a mark
+-- The rows from a number on that come before a mark.
 abbrev pub rows_between : (from mark : ℕ) → List Numbered → List Numbered
 rows_between from mark rows = filter (λ r. nat_lt r.number mark) (rows_from from rows)
 
--- conditions without a subquery read no table
+-- The tables of conditions without a subquery, which read none.
 abbrev pub no_tables : TablePlace → Outcome (List Row)
 no_tables place = not_well_formed
 
@@ -37,27 +37,32 @@ abbrev pub is_yes : Outcome Bool → Bool
 is_yes (Ok b) = b
 is_yes (Err status) = false
 
--- whether each condition in turn is true of a row
+-- Whether all conditions are true of a row, so that the cursor means it.
 abbrev pub is_meant : List BoundCond → List Value → Name → Numbered → Bool
-is_meant conditions values user r = is_yes (are_true (λ c. truth (by_place no_tables) (cond_of [] c) (outside (r.row ∷ []) values user)) conditions)
+is_meant conditions values user r =
+    is_yes (are_true (λ c.
+    truth (by_place no_tables) (cond_of [] c) (outside (r.row ∷ []) values user)) conditions)
 
--- the first of which they are
-abbrev pub first_meant : List BoundCond → List Value → Name → (from mark : ℕ) → List Numbered → Option Numbered
-first_meant conditions values user from mark rows = find (is_meant conditions values user) (rows_between from mark rows)
+-- The first row in a range of numbers of which all conditions are true.
+abbrev pub first_meant : List BoundCond → List Value → Name → (from mark : ℕ) → List Numbered
+    → Option Numbered
+first_meant conditions values user from mark rows =
+    find (is_meant conditions values user) (rows_between from mark rows)
 
--- the numbers of all of which they are, in the order of the rows
+-- The numbers of all rows in a range of which all conditions are true, in the order of the rows.
 abbrev pub numbers_meant : List BoundCond → List Value → Name → (from mark : ℕ) → List Numbered → List ℕ
-numbers_meant conditions values user from mark rows = map (λ r. r.number) (filter (is_meant conditions values user) (rows_between from mark rows))
+numbers_meant conditions values user from mark rows =
+    map (λ r. r.number) (filter (is_meant conditions values user) (rows_between from mark rows))
 
 -- ---- what a walk asks
 
--- a quiet target, well formed where the parameters have these values
+-- A target is quiet, and well formed for parameters with these values.
 pub record IsQuietWith (columns : TableKinds) (t : Target) (values : List Value) : Type 0 where
   pub quiet : t.is_quiet ≡ true
   pub parameters : List Kind
   pub is_target : IsTarget columns parameters t
   pub given : IsRowOf parameters values
 
--- rows of the base table under a target
+-- These are rows of the base table under a target.
 abbrev pub AreRowsUnder : Target → List Numbered → Type 0
 AreRowsUnder t rows = AllByRecursion (λ r. IsRowOf (base_kinds t.leaf.table) r.row) rows

@@ -8,10 +8,11 @@ ghost use Rattle.sq_change.specs.Constraints.{constraints_hold};
 ghost use Rattle.sq_module.specs.Program.{CursorsAreWellFormed, CursorsFit, FitsProgram, ProgramIsWellFormed};
 ghost use Rattle.sq_rules.specs.Script.{fit};
 ghost use Rattle.sq_session.specs.Asked.{IsAsked};
+ghost use Rattle.sq_session.specs.Called.{HasValues, IsWholeFor, kind_for, parameter_kinds};
 ghost use Rattle.sq_session.specs.Cursors.{IsWhole, OpenHaveKept};
 ghost use Rattle.sq_session.specs.Kind.{fits_at, kind_at, kind_of, needs_memory, takes_memory};
 ghost use Rattle.sq_session.specs.Metered.{CallReads, StepReads};
-ghost use Rattle.sq_session.specs.Parameter.{AreGiven, declared, started_values};
+ghost use Rattle.sq_session.specs.Parameter.{declared, started_values};
 ghost use Rattle.sq_session.specs.Schemas.{schemas_of};
 ghost use Rattle.sq_session.specs.Session.{procedures_of};
 ghost use Rattle.sq_session.specs.Step.{EndsRight, MayCall, MayStep, ending};
@@ -47,7 +48,8 @@ pub(crate) fn call<S: Store>(
     requires meter { meter.old ≡ 0 }
     ensures step { IfSome (ending result) (λ d.
         MayCall (schemas_of catalog.now)
-        (kind_at (procedures_of program.now.cursors.items program.now.procedures.entries) procedure) values.now machine.old d machine.new) }
+        (kind_at (procedures_of program.now.cursors.items program.now.procedures.entries) procedure)
+        values.now machine.old d machine.new) }
     ensures whole { IsWhole
         (column_kinds catalog.now) catalog.now.bases program.now.cursors.items machine.new }
     ensures err { OnErr result (machine.new ≡ machine.old) }
@@ -180,28 +182,24 @@ fn performed_with<S: Store>(
         (length called.now.procedure.now.parameters)
         statement.now }
     requires asked { IsAsked (column_kinds called.now.catalog.now) called.now.cursors.now
-        (kinds_of_parameters called.now.procedure.now.parameters) statement.now }
-    requires given { AreGiven
-        (kinds_of_parameters called.now.procedure.now.parameters) called.now.values.now }
+        (parameter_kinds called.now) statement.now }
+    requires given { HasValues called.now }
     requires fit { CursorsFit called.now.catalog.now.bases called.now.cursors.now }
     requires well_formed { CursorsAreWellFormed (column_kinds called.now.catalog.now) called.now.cursors.now }
-    requires whole { IsWhole
-        (column_kinds called.now.catalog.now) called.now.catalog.now.bases called.now.cursors.now machine.old }
+    requires whole { IsWholeFor called.now machine.old }
     requires meter { meter.old ≡ 0 }
-    requires memory { takes_memory
-        (kind_of called.now.cursors.now called.now.procedure.now.user called.now.procedure.now.parameters
-        statement.now) ≡ true }
+    requires memory { takes_memory (kind_for called.now statement.now) ≡ true }
     ensures rows { holds called.now.catalog.now.bases machine.new.tables ≡ true }
     ensures in_domains { AreInDomains called.now.catalog.now.bases machine.new.tables }
     ensures constraints { constraints_hold called.now.catalog.now.bases machine.new.tables ≡ true }
     ensures opened { OpenHaveKept
         (column_kinds called.now.catalog.now) called.now.cursors.now statement.now machine.new.cursors }
     ensures step { IfSome (ending result) (λ d. MayStep (schemas_of called.now.catalog.now)
-        (kind_of called.now.cursors.now called.now.procedure.now.user called.now.procedure.now.parameters statement.now)
+        (kind_for called.now statement.now)
         called.now.values.now machine.old d machine.new) }
     ensures err { OnErr result (machine.new ≡ machine.old) }
     ensures read { IfSome (ending result) (λ d. StepReads
-        (kind_of called.now.cursors.now called.now.procedure.now.user called.now.procedure.now.parameters statement.now)
+        (kind_for called.now statement.now)
         called.now.values.now machine.old meter.new) }
     ensures right { IfSome (ending result) EndsRight }
 {

@@ -24,15 +24,15 @@ pub enum CursorState {
     Rows(RowsCursor),
 }
 
-/// A cursor over the rows of a base table under some numbers.
+/// A cursor over the rows of a base table with these numbers.
 #[derive(Drop)]
 pub struct NumbersCursor {
     /// The place of the base table.
     pub table: usize,
     pub numbers: Items<u64>,
-    /// How many of them are passed; no more than there are.
+    /// How many of the numbers are passed.
     pub passed: usize,
-    /// The number that the cursor is on.
+    /// The number of the row that the cursor is on.
     pub on: Option<u64>,
 }
 
@@ -40,11 +40,12 @@ pub struct NumbersCursor {
 #[derive(Drop)]
 pub struct RowsCursor {
     pub rows: Items<Row>,
-    /// 0 before the first row, n on the nth, and one more than their count behind the last.
+    /// The place of the cursor: 0 before the first row, n on the nth, and one more than the count of rows
+    /// behind the last.
     pub place: usize,
 }
 
-/// The number that a cursor is on.
+/// The number of the row that an updatable cursor is on.
 pub(crate) fn number_on(cursor: &CursorState) -> Option<u64>
     ensures { result ≡ number_on cursor.now }
 {
@@ -55,7 +56,7 @@ pub(crate) fn number_on(cursor: &CursorState) -> Option<u64>
     }
 }
 
-/// The place that a fetch orientation reaches, from a place among so many rows.
+/// The place that a fetch orientation reaches, from `place` among `count` rows.
 pub(crate) fn place_reached(
     orientation: FetchOrientation,
     values: &[Value],
@@ -69,7 +70,7 @@ pub(crate) fn place_reached(
     bounded(count, place_wanted(orientation, values, count, place))
 }
 
-/// The place that a fetch orientation wants, which need not be one that there is.
+/// The place that a fetch orientation names, which may lie outside the rows.
 fn place_wanted(orientation: FetchOrientation, values: &[Value], count: usize, place: usize) -> i128
     requires { MeansPlace values.now orientation }
     ensures { place_wanted values.now orientation count place ≡ Ok result }
@@ -91,7 +92,7 @@ fn place_wanted(orientation: FetchOrientation, values: &[Value], count: usize, p
     }
 }
 
-/// The place, or the nearest one that there is.
+/// The place, or the nearest place that there is.
 fn bounded(count: usize, wanted: i128) -> usize
     requires { count < 2 ^ 63 }
     ensures { result ≡ bounded count wanted }

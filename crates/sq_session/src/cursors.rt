@@ -5,10 +5,10 @@ ghost use Rattle.sq_session.specs.Cursors.{AreThere, put_all};
 ghost use Rattle.sq_session.specs.State.{all_closed, off_row};
 
 use crate::cursor::CursorState;
-use crate::walk::ListedCursor;
+use crate::walk_list::ListedCursor;
 use std::alloc::{AllocError, Global};
 
-/// So many closed cursors.
+/// `count` closed cursors.
 pub(crate) fn closed_cursors(alloc: Global, count: usize) -> Result<Vec<CursorState>, AllocError>
     ensures { IfOk result (λ cursors. cursors.items ≡ replicate count CursorState.Closed) }
 {
@@ -48,7 +48,7 @@ fn off_row(cursor: &mut CursorState)
     }
 }
 
-/// Puts cursors over lists in place of those that walk.
+/// Puts each list in place of the walking cursor with its number.
 pub(crate) fn put_lists(cursors: &mut [CursorState], lists: Vec<ListedCursor>)
     requires { AreThere (length cursors.old) lists.items }
     ensures { cursors.new ≡ put_all cursors.old lists.items }

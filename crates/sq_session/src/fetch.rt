@@ -4,16 +4,15 @@ ghost use Rattle.std.specs.Prelude.{◌≡◌, ◌≤◌, ◌<◌, length, true,
 ghost use Rattle.sq_value.specs.Key.{in_columns};
 ghost use Rattle.sq_bound.specs.Fits.{AreInDomains, are_parameters, holds, keys_of_bases, not_nulls_hold};
 ghost use Rattle.sq_bound.specs.Names.{are_positions};
-ghost use Rattle.sq_bound.specs.WellFormed.{kinds_of_parameters};
 ghost use Rattle.sq_catalog.specs.Catalog.{column_kinds};
 ghost use Rattle.sq_module.specs.Program.{CursorsAreWellFormed, CursorsFit, kinds_of_cursors};
 ghost use Rattle.sq_expression.specs.Fault.{Meets};
 ghost use Rattle.sq_store.specs.Content.{table_at};
-ghost use Rattle.sq_session.specs.Cursors.{HasKeptAt, HaveKept, are_over, is_over, is_updatable};
+ghost use Rattle.sq_session.specs.Called.{HasValues, HaveKeptFor, fetching_for, parameter_kinds};
+ghost use Rattle.sq_session.specs.Cursors.{HasKeptAt, are_over, is_over, is_updatable};
 ghost use Rattle.sq_session.specs.Fetch.{HasCome, HasFetched, IsFetch, MayTakeFrom, MayTakeShown, MeansPlace, come_to_number, come_to_row, come_to_walk};
-ghost use Rattle.sq_session.specs.Kind.{IsDeclaredAt, fetching, over_at};
+ghost use Rattle.sq_session.specs.Kind.{IsDeclaredAt, over_at};
 ghost use Rattle.sq_session.specs.Metered.{FetchReads, FetchReadsFrom};
-ghost use Rattle.sq_session.specs.Parameter.{AreGiven};
 ghost use Rattle.sq_session.specs.Step.{EndsRight, MayFetch, ending};
 ghost use Rattle.sq_session.specs.Target.{MayTake, MayTakeRows, row_reply};
 
@@ -47,22 +46,39 @@ pub(crate) fn fetch_at<S: Store>(
     requires not_null { not_nulls_hold called.now.catalog.now.bases (S.content_now store.now) ≡ true }
     requires rows { holds called.now.catalog.now.bases (S.content_now store.now) ≡ true }
     requires asked { IsFetch (kinds_of_cursors called.now.cursors.now)
-        (kinds_of_parameters called.now.procedure.now.parameters) fetch.now }
-    requires given { AreGiven
-        (kinds_of_parameters called.now.procedure.now.parameters) called.now.values.now }
+        (parameter_kinds called.now) fetch.now }
+    requires given { HasValues called.now }
     requires well_formed { CursorsAreWellFormed (column_kinds called.now.catalog.now) called.now.cursors.now }
     requires in_domains { AreInDomains called.now.catalog.now.bases (S.content_now store.now) }
-    requires kept { HaveKept (column_kinds called.now.catalog.now) called.now.cursors.now cursors.old }
+    requires kept { HaveKeptFor called.now cursors.old }
     requires meter { meter.old ≡ 0 }
     ensures step { IfSome (ending result) (λ d. MayFetch
-        (fetching called.now.cursors.now called.now.procedure.now.user called.now.procedure.now.parameters fetch.now) called.now.values.now
-        (record { tables = S.content_now store.now; committed = S.committed store.now; keys = S.key_columns store.now; row_numbers = S.row_numbers store.now; cursors = cursors.old }) d
-        (record { tables = S.content_now store.now; committed = S.committed store.now; keys = S.key_columns store.now; row_numbers = S.row_numbers store.now; cursors = cursors.new })) }
+        (fetching_for called.now fetch.now) called.now.values.now
+        (record {
+          tables = S.content_now store.now;
+          committed = S.committed store.now;
+          keys = S.key_columns store.now;
+          row_numbers = S.row_numbers store.now;
+          cursors = cursors.old;
+        }) d
+        (record {
+          tables = S.content_now store.now;
+          committed = S.committed store.now;
+          keys = S.key_columns store.now;
+          row_numbers = S.row_numbers store.now;
+          cursors = cursors.new;
+        })) }
     ensures err { OnErr result (cursors.new ≡ cursors.old) }
     ensures right { IfSome (ending result) EndsRight }
     ensures read { IfSome (ending result) (λ d. FetchReads
-        (fetching called.now.cursors.now called.now.procedure.now.user called.now.procedure.now.parameters fetch.now)
-        (record { tables = S.content_now store.now; committed = S.committed store.now; keys = S.key_columns store.now; row_numbers = S.row_numbers store.now; cursors = cursors.old })
+        (fetching_for called.now fetch.now)
+        (record {
+          tables = S.content_now store.now;
+          committed = S.committed store.now;
+          keys = S.key_columns store.now;
+          row_numbers = S.row_numbers store.now;
+          cursors = cursors.old;
+        })
         meter.new) }
 {
     fetch_cursor(called, fetch, &mut cursors[fetch.cursor], store, meter)
@@ -83,21 +99,19 @@ fn fetch_cursor<S: Store>(
     requires not_null { not_nulls_hold called.now.catalog.now.bases (S.content_now store.now) ≡ true }
     requires rows { holds called.now.catalog.now.bases (S.content_now store.now) ≡ true }
     requires place { MeansPlace called.now.values.now fetch.now.orientation }
-    requires taken { MayTakeFrom
-        (fetching called.now.cursors.now called.now.procedure.now.user called.now.procedure.now.parameters
-        fetch.now) (S.content_now store.now) cursor.old }
+    requires taken { MayTakeFrom (fetching_for called.now fetch.now) (S.content_now store.now) cursor.old }
     requires kept { HasKeptAt
         (column_kinds called.now.catalog.now) called.now.cursors.now fetch.now.cursor cursor.old }
     requires domains { AreInDomains called.now.catalog.now.bases (S.content_now store.now) }
     requires meter { meter.old ≡ 0 }
     ensures fetched { HasFetched
-        (fetching called.now.cursors.now called.now.procedure.now.user called.now.procedure.now.parameters fetch.now) called.now.values.now (S.content_now store.now)
+        (fetching_for called.now fetch.now) called.now.values.now (S.content_now store.now)
         cursor.old result cursor.new }
     ensures err { OnErr result (cursor.new ≡ cursor.old) }
     ensures right { IfSome (ending result) EndsRight }
     ensures read { IfSome (ending result)
-        (λ d. FetchReadsFrom cursor.old (fetching called.now.cursors.now called.now.procedure.now.user
-        called.now.procedure.now.parameters fetch.now) (S.content_now store.now) meter.new) }
+        (λ d. FetchReadsFrom cursor.old (fetching_for called.now fetch.now) (S.content_now store.now)
+        meter.new) }
 {
     match cursor {
         CursorState::Closed => Err(Fault::Status(Failure::InvalidCursorState)),
@@ -118,8 +132,7 @@ fn fetch_row(
     requires place { MeansPlace called.now.values.now fetch.now.orientation }
     requires taken { MayTakeRows called.now.procedure.now.parameters fetch.now.outputs cursor.old.rows }
     ensures comes { HasCome result cursor.new
-        (come_to_row (fetching called.now.cursors.now called.now.procedure.now.user
-        called.now.procedure.now.parameters fetch.now) called.now.values.now cursor.old) }
+        (come_to_row (fetching_for called.now fetch.now) called.now.values.now cursor.old) }
     ensures err { OnErr result (cursor.new ≡ cursor.old) }
     ensures right { IfSome (ending result) EndsRight }
 {
@@ -151,12 +164,11 @@ fn fetch_number<S: Store>(
     requires fit { CursorsFit called.now.catalog.now.bases called.now.cursors.now }
     requires rows { holds called.now.catalog.now.bases (S.content_now store.now) ≡ true }
     requires taken { MayTakeShown
-        (fetching called.now.cursors.now called.now.procedure.now.user called.now.procedure.now.parameters
+        (fetching_for called.now
         fetch.now) (table_at (S.content_now store.now) cursor.old.table) }
     requires passed { cursor.old.passed ≤ length cursor.old.numbers }
     ensures comes { HasCome result cursor.new
-        (come_to_number (fetching called.now.cursors.now called.now.procedure.now.user
-        called.now.procedure.now.parameters fetch.now) (S.content_now store.now) cursor.old) }
+        (come_to_number (fetching_for called.now fetch.now) (S.content_now store.now) cursor.old) }
     ensures err { OnErr result (cursor.new ≡ cursor.old) }
     ensures right { IfSome (ending result) EndsRight }
 {
@@ -193,20 +205,18 @@ fn fetch_walk<S: Store>(
     requires not_null { not_nulls_hold called.now.catalog.now.bases (S.content_now store.now) ≡ true }
     requires rows { holds called.now.catalog.now.bases (S.content_now store.now) ≡ true }
     requires taken { MayTakeShown
-        (fetching called.now.cursors.now called.now.procedure.now.user called.now.procedure.now.parameters
+        (fetching_for called.now
         fetch.now) (table_at (S.content_now store.now) walk.old.table) }
     requires kept { HasKeptAt (column_kinds called.now.catalog.now) called.now.cursors.now fetch.now.cursor
         (CursorState.Walking walk.old) }
     requires domains { AreInDomains called.now.catalog.now.bases (S.content_now store.now) }
     requires meter { meter.old ≡ 0 }
     ensures comes { HasCome result walk.new
-        (come_to_walk (fetching called.now.cursors.now called.now.procedure.now.user
-        called.now.procedure.now.parameters fetch.now) (S.content_now store.now) walk.old) }
+        (come_to_walk (fetching_for called.now fetch.now) (S.content_now store.now) walk.old) }
     ensures err { OnErr result (walk.new ≡ walk.old) }
     ensures right { IfSome (ending result) EndsRight }
     ensures read { IfSome (ending result)
-        (λ d. FetchReadsFrom (CursorState.Walking walk.old) (fetching called.now.cursors.now
-        called.now.procedure.now.user called.now.procedure.now.parameters fetch.now)
+        (λ d. FetchReadsFrom (CursorState.Walking walk.old) (fetching_for called.now fetch.now)
         (S.content_now store.now) meter.new) }
 {
     let query = updatable_query(called, fetch.cursor);

@@ -11,6 +11,7 @@
 
 mod call;
 mod called;
+mod change;
 mod cursor;
 mod cursors;
 mod fetch;
@@ -24,11 +25,12 @@ mod rows;
 mod session;
 mod target;
 mod walk;
+mod walk_list;
 
 pub use cursor::{CursorState, NumbersCursor, RowsCursor};
 pub use reply::{Done, Output, Reply};
 pub use rows::TableRows;
 pub use session::Session;
 pub use sq_binder::Fault;
-pub use sq_module::{ModuleRefusal, ModuleRefusalName, SessionFault};
+pub use sq_module::{ModuleRefusal, SessionFault};
 pub use walk::WalkingCursor;

@@ -2,16 +2,16 @@
 
 ghost use Rattle.std.specs.Prelude.{◌≡◌, ◌<◌, ⊤, length, true, IfErr, IfOk, IfSome, OnErr};
 ghost use Rattle.sq_bound.specs.Fits.{AreInDomains, FitsCursor, IsBase, holds, keys_of_bases, not_nulls_hold};
-ghost use Rattle.sq_bound.specs.WellFormed.{IsCursor, IsQuery, IsTarget, kinds_of_parameters, kinds_of_query};
+ghost use Rattle.sq_bound.specs.WellFormed.{IsCursor, IsQuery, IsTarget, kinds_of_query};
 ghost use Rattle.sq_bound.specs.declared.statement.BoundStatement.TheVariants.{Open};
 ghost use Rattle.sq_catalog.specs.Catalog.{column_kinds};
 ghost use Rattle.sq_module.specs.Program.{CursorsFit, OpensWellFormed};
 ghost use Rattle.sq_query.specs.MayRead.{MayEnd};
-ghost use Rattle.sq_session.specs.Cursors.{HasKept, HasListed, HaveKept, are_over};
-ghost use Rattle.sq_session.specs.Kind.{Over, opening, over_at, over_of, over_target};
+ghost use Rattle.sq_session.specs.Called.{HasValues, HaveKeptFor, opening_for, parameter_kinds};
+ghost use Rattle.sq_session.specs.Cursors.{HasKept, HasListed, are_over};
+ghost use Rattle.sq_session.specs.Kind.{Over, over_at, over_of, over_target};
 ghost use Rattle.sq_session.specs.Metered.{OpenReads};
 ghost use Rattle.sq_session.specs.Open.{HasOpened, IsMeant, NumbersAreMeant, RowsAreMeant, TargetIsMeant};
-ghost use Rattle.sq_session.specs.Parameter.{AreGiven};
 ghost use Rattle.sq_session.specs.Schemas.{schemas_of};
 ghost use Rattle.sq_session.specs.Step.{EndsRight, MayOpenClosed, ending};
 
@@ -40,18 +40,29 @@ pub(crate) fn open_closed<S: Store>(
     requires rows { holds called.now.catalog.now.bases (S.content_now store.now) ≡ true }
     requires keys { S.key_columns store.now ≡ keys_of_bases called.now.catalog.now.bases }
     requires not_null { not_nulls_hold called.now.catalog.now.bases (S.content_now store.now) ≡ true }
-    requires kept { HaveKept (column_kinds called.now.catalog.now) called.now.cursors.now cursors.old }
+    requires kept { HaveKeptFor called.now cursors.old }
     requires asked { OpensWellFormed (column_kinds called.now.catalog.now) called.now.cursors.now
-        (kinds_of_parameters called.now.procedure.now.parameters) (Open number) }
-    requires given { AreGiven
-        (kinds_of_parameters called.now.procedure.now.parameters) called.now.values.now }
+        (parameter_kinds called.now) (Open number) }
+    requires given { HasValues called.now }
     requires domains { AreInDomains called.now.catalog.now.bases (S.content_now store.now) }
     requires meter { meter.old ≡ 0 }
-    ensures kept { HaveKept (column_kinds called.now.catalog.now) called.now.cursors.now cursors.new }
+    ensures kept { HaveKeptFor called.now cursors.new }
     ensures step { IfSome (ending result) (λ d. MayOpenClosed (schemas_of called.now.catalog.now)
-        (opening called.now.cursors.now called.now.procedure.now.user called.now.procedure.now.parameters number) called.now.values.now
-        (record { tables = S.content_now store.now; committed = S.committed store.now; keys = S.key_columns store.now; row_numbers = S.row_numbers store.now; cursors = cursors.old }) d
-        (record { tables = S.content_now store.now; committed = S.committed store.now; keys = S.key_columns store.now; row_numbers = S.row_numbers store.now; cursors = cursors.new })) }
+        (opening_for called.now number) called.now.values.now
+        (record {
+          tables = S.content_now store.now;
+          committed = S.committed store.now;
+          keys = S.key_columns store.now;
+          row_numbers = S.row_numbers store.now;
+          cursors = cursors.old;
+        }) d
+        (record {
+          tables = S.content_now store.now;
+          committed = S.committed store.now;
+          keys = S.key_columns store.now;
+          row_numbers = S.row_numbers store.now;
+          cursors = cursors.new;
+        })) }
     ensures err { OnErr result (cursors.new ≡ cursors.old) }
     ensures right { IfSome (ending result) EndsRight }
     ensures read { OpenReads (over_at called.now.cursors.now number) meter.new }
@@ -78,9 +89,8 @@ fn opened<S: Store>(
     requires keys { S.key_columns store.now ≡ keys_of_bases called.now.catalog.now.bases }
     requires not_null { not_nulls_hold called.now.catalog.now.bases (S.content_now store.now) ≡ true }
     requires asked { IsCursor (column_kinds called.now.catalog.now)
-        (kinds_of_parameters called.now.procedure.now.parameters) cursor.now }
-    requires given { AreGiven
-        (kinds_of_parameters called.now.procedure.now.parameters) called.now.values.now }
+        (parameter_kinds called.now) cursor.now }
+    requires given { HasValues called.now }
     requires domains { AreInDomains called.now.catalog.now.bases (S.content_now store.now) }
     requires meter { meter.old ≡ 0 }
     ensures opened { HasOpened (over_of cursor.now.body)
@@ -108,10 +118,8 @@ fn opened_over_rows<S: Store>(
     store: &S,
     meter: &mut Meter,
 ) -> Result<CursorState, Fault>
-    requires asked { IsQuery (column_kinds called.now.catalog.now)
-        (kinds_of_parameters called.now.procedure.now.parameters) query.now }
-    requires given { AreGiven
-        (kinds_of_parameters called.now.procedure.now.parameters) called.now.values.now }
+    requires asked { IsQuery (column_kinds called.now.catalog.now) (parameter_kinds called.now) query.now }
+    requires given { HasValues called.now }
     requires domains { AreInDomains called.now.catalog.now.bases (S.content_now store.now) }
     requires keys { S.key_columns store.now ≡ keys_of_bases called.now.catalog.now.bases }
     requires not_null { not_nulls_hold called.now.catalog.now.bases (S.content_now store.now) ≡ true }
@@ -155,9 +163,8 @@ fn opened_over<S: Store>(
     requires not_null { not_nulls_hold called.now.catalog.now.bases (S.content_now store.now) ≡ true }
     requires base { IsBase called.now.catalog.now.bases target.now.leaf.table }
     requires asked { IsTarget (column_kinds called.now.catalog.now)
-        (kinds_of_parameters called.now.procedure.now.parameters) target.now }
-    requires given { AreGiven
-        (kinds_of_parameters called.now.procedure.now.parameters) called.now.values.now }
+        (parameter_kinds called.now) target.now }
+    requires given { HasValues called.now }
     requires domains { AreInDomains called.now.catalog.now.bases (S.content_now store.now) }
     requires meter { meter.old ≡ 0 }
     ensures opened { HasOpened (over_target target.now)
@@ -200,9 +207,8 @@ fn opened_over_numbers<S: Store>(
     requires not_null { not_nulls_hold called.now.catalog.now.bases (S.content_now store.now) ≡ true }
     requires base { IsBase called.now.catalog.now.bases target.now.leaf.table }
     requires asked { IsTarget (column_kinds called.now.catalog.now)
-        (kinds_of_parameters called.now.procedure.now.parameters) target.now }
-    requires given { AreGiven
-        (kinds_of_parameters called.now.procedure.now.parameters) called.now.values.now }
+        (parameter_kinds called.now) target.now }
+    requires given { HasValues called.now }
     requires domains { AreInDomains called.now.catalog.now.bases (S.content_now store.now) }
     ensures opened { HasOpened (Over.numbers target.now.base)
         (NumbersAreMeant (schemas_of called.now.catalog.now) target.now

@@ -9,8 +9,7 @@ ghost use Rattle.sq_rules.specs.Script.{fit, fits_in};
 ghost use Rattle.sq_bound.specs.WellFormed.{kinds_of_parameters};
 ghost use Rattle.sq_session.specs.Parameter.{AreGiven, declared, started_values};
 
-use sq_bound::ParameterDesc;
-use sq_change::fits_kind;
+use sq_bound::{ParameterDesc, fits_kind};
 use sq_items::Items;
 use sq_value::{Domain, StoreFault, Value, start_value, store};
 use std::alloc::{AllocError, Global};

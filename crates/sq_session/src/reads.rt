@@ -12,7 +12,7 @@ use sq_bound::{
     BoundAssignment, BoundCond, BoundConj, BoundExpr, Operation, Predicate, Shared, Target,
 };
 
-/// Whether a condition of the target, those of the views in between included, reads a column that is assigned to.
+/// Whether a condition of the target, or of the views in between, reads a column that is assigned to.
 #[tactic(auto, using(crate::proofs::Assigned::own_reads, crate::proofs::Unread::unread))]
 pub(crate) fn target_reads(target: &Target, assignments: &[BoundAssignment]) -> bool
     ensures reads { result ≡ one_reads assignments.now (conditions_of target.now) }
@@ -34,7 +34,7 @@ fn one_reads(conditions: &[Shared<BoundCond>], assignments: &[BoundAssignment]) 
         .any(|condition| cond_reads(condition.get(), assignments))
 }
 
-/// Whether a condition reads such a column.
+/// Whether a condition reads a column that is assigned to.
 #[cycle(cond_reads)]
 fn cond_reads(condition: &BoundCond, assignments: &[BoundAssignment]) -> bool
     ensures { result ≡ cond_reads assignments.now (cond_of [] condition.now) }
@@ -59,7 +59,7 @@ fn term_reads(term: &BoundConj, assignments: &[BoundAssignment]) -> bool
     false
 }
 
-/// One with a subquery is taken to read every column.
+/// Whether a predicate reads a column that is assigned to; with a subquery it is taken to read every column.
 #[cycle(cond_reads)]
 #[tactic(auto, using(crate::proofs::Assigned::predicate_levels))]
 fn predicate_reads(predicate: &Predicate, assignments: &[BoundAssignment]) -> bool
@@ -105,7 +105,7 @@ fn escape_reads(escape: &Option<BoundExpr>, assignments: &[BoundAssignment]) -> 
     }
 }
 
-/// A condition on rows has no set function.
+/// Whether an expression reads a column that is assigned to. A condition on rows has no set function.
 #[cycle(expr_reads)]
 #[tactic(auto, using(crate::proofs::Assigned::expr_levels))]
 fn expr_reads(expr: &BoundExpr, assignments: &[BoundAssignment]) -> bool

@@ -10,8 +10,8 @@ use sq_meaning::Status;
 use sq_value::Value;
 use std::alloc::Global;
 
-/// A status, and the targets and their indicators with what they were set to, in the order in which the parameters are
-/// declared.
+/// The status of a call, and what its targets and their indicators were set to, in the order in which the
+/// parameters are declared.
 #[derive(Debug, Drop)]
 pub struct Reply {
     pub status: Status,

@@ -7,8 +7,8 @@ use sq_store::{Meter, Store};
 use sq_value::Row;
 use std::marker::Model;
 
-/// The rows of a base table as they are now, each behind its number, in the order of the numbers. A contract sees those that are still
-/// to come.
+/// The rows of a base table as they are now, each with its number, in the order of the numbers. A contract sees
+/// the rows that are still to come.
 #[derive(Drop)]
 pub struct TableRows<'a, S: Store> {
     store: &'a S,

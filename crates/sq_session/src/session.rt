@@ -66,10 +66,26 @@ impl<S: Store> Model for Session<S> {
 
     ghost Value = { Session };
 
-    ghost coded = { Prim.hlevel
-        (codes, base.the_row.coded, parameter.the_row.coded, object.the_row.coded, column.the_row.coded, condition.the_row.coded, predicate.the_row.coded, specification.the_row.coded, expression.the_row.coded, query.the_row.coded, term.the_row.coded) };
+    ghost coded = { Prim.hlevel (
+      codes,
+      base.the_row.coded,
+      parameter.the_row.coded,
+      object.the_row.coded,
+      column.the_row.coded,
+      condition.the_row.coded,
+      predicate.the_row.coded,
+      specification.the_row.coded,
+      expression.the_row.coded,
+      query.the_row.coded,
+      term.the_row.coded,
+    ) };
 
-    ghost view = { λ s. record { procedures = procedures_of s.program.cursors.items s.program.procedures.entries; tables = s.catalog.tables; schemas = schemas_of s.catalog; state = s.machine } };
+    ghost view = { λ s. record {
+      procedures = procedures_of s.program.cursors.items s.program.procedures.entries;
+      tables = s.catalog.tables;
+      schemas = schemas_of s.catalog;
+      state = s.machine;
+    } };
 
     ghost invariant = { λ s. FitsProgram s.catalog.bases s.program
         × ProgramIsWellFormed (column_kinds s.catalog) s.program
@@ -78,7 +94,7 @@ impl<S: Store> Model for Session<S> {
 
 impl<S: Store> Session<S> {
     /// A session of these modules over a store of the catalog's tables and keys, with all cursors closed; or the first refusal,
-    /// module by module, and within a module in the order of `ModuleRefusalName` (12.1 to 12.3 and 13.1).
+    /// module by module, and within a module in the order of `ModuleFault` (12.1 to 12.3 and 13.1).
     pub fn new(
         alloc: Global,
         catalog: Catalog,
@@ -135,6 +151,7 @@ impl<S: Store> Session<S> {
         ensures program { IfOk result
             (λ s. s.procedures ≡ procedures_of program.cursors.items program.procedures.entries) }
         ensures cursors { IfOk result (λ s. are_over program.cursors.items s.state.cursors ≡ true) }
+        ensures keys { IfOk result (λ s. s.state.keys ≡ S.key_columns store) }
         ensures tables { IfOk result (λ s. s.tables ≡ catalog.tables) }
         ensures schemas { IfOk result (λ s. s.schemas ≡ schemas_of catalog) }
     {
@@ -231,7 +248,8 @@ impl<S: Store> Session<S> {
         self.catalog.base(user, name)
     }
 
-    /// The rows of the base table of this owner and name as they are now, with their numbers; none where there is no such base table.
+    /// The rows of the base table of this owner and name as they are now, with their numbers; `None` where
+    /// there is no such base table.
     #[tactic(auto, using(crate::proofs::Holding::as_many_tables, crate::proofs::Holding::as_many_names))]
     pub fn rows(&self, user: Name, name: Name) -> Option<TableRows<'_, S>>
         ensures { result ≡ rows_named self.now user name }

@@ -129,7 +129,7 @@ fn outputs_taken(
     Ok(outputs)
 }
 
-/// What a parameter is set to, if it is. Other parameters keep their values.
+/// The value that a parameter is set to, if any; it is taken from the assignments.
 fn value_taken(assignments: &mut [Assignment], place: usize) -> Option<Value>
     ensures value { result ≡ option_map (λ a. a.value) (set_to assignments.old place) }
     ensures others { AreSetAlike (place + 1) assignments.old assignments.new }
@@ -138,7 +138,7 @@ fn value_taken(assignments: &mut [Assignment], place: usize) -> Option<Value>
     Some(mem::replace(&mut assignments[number].value, Value::Null))
 }
 
-/// Where the first assignment to a parameter stands.
+/// The position of the first assignment to a parameter.
 fn first_to(assignments: &[Assignment], place: usize) -> Option<usize>
     ensures number { result ≡ position (λ a. nat_eq a.parameter place) assignments.now }
     ensures within { IfSome result (λ number. number < length assignments.now) }
@@ -148,7 +148,7 @@ fn first_to(assignments: &[Assignment], place: usize) -> Option<usize>
         .position(|assignment| assignment.parameter == place)
 }
 
-/// The targets take the row from left to right.
+/// The assignments to the targets and their indicators, from left to right.
 #[tactic(auto, using(crate::proofs::Targets::target_there))]
 fn assignments_of(
     called: &Called<'_>,
@@ -201,7 +201,7 @@ impl Assignments {
         }
     }
 
-    /// Null is retrieved beside an indicator alone, which is set to -1.
+    /// Sets a target to null, and its indicator to -1; without an indicator, null cannot be retrieved.
     fn set_null(&mut self, target: sq_bound::Output) -> Result<(), Fault>
         ensures { IsSet result (set_behind self.old (null_set target)) self.new }
     {
@@ -212,7 +212,7 @@ impl Assignments {
         Ok(self.add(indicator, whole(-1))?)
     }
 
-    /// The indicator is set to the text's length before it was cut, and otherwise to 0.
+    /// Sets a target to a value, and its indicator to the length of the text before it was cut, else to 0.
     fn set_retrieved(
         &mut self,
         target: sq_bound::Output,
@@ -243,7 +243,7 @@ impl Assignments {
     }
 }
 
-/// A whole number.
+/// The value of a whole number.
 fn whole(number: i64) -> Value
     requires { unsigned_abs number < 10 ^ 18 }
     ensures { result ≡ whole number }

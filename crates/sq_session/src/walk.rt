@@ -1,11 +1,10 @@
 //! Updatable cursors whose conditions answer no status: they read their rows as late as they fetch them.
 //!
-//! Such a cursor means the same rows as a list of their numbers made at OPEN, as long as no UPDATE changes what its
-//! conditions read. So the rows that are left are listed before an UPDATE of a column that they read.
+//! Such a cursor yields the same rows as a list of row numbers made at OPEN would, as long as no UPDATE changes what its
+//! conditions read; `walk_list.rt` lists the rows that are left before such an UPDATE.
 
-ghost use Rattle.std.specs.Prelude.{◌≡◌, ◌&&◌, ◌≤◌, ◌<◌, ◌+◌, ◌-◌, ℕ, length, nat_eq, true, Some, IfOk, IfSome, IsSome, option_map};
-ghost use Rattle.std.specs.Bool.{then_some};
-ghost use Rattle.sq_bound.specs.Fits.{AreInDomains, FitsBody, IsBase, holds, keys_of_bases, not_nulls_hold};
+ghost use Rattle.std.specs.Prelude.{◌≡◌, ◌≤◌, ◌<◌, ◌+◌, ◌-◌, ℕ, length, true, Some, IfOk, IfSome, IsSome, option_map};
+ghost use Rattle.sq_bound.specs.Fits.{IsBase, keys_of_bases, not_nulls_hold};
 ghost use Rattle.sq_bound.specs.WellFormed.{base_kinds};
 ghost use Rattle.sq_catalog.specs.Catalog.{column_kinds};
 ghost use Rattle.sq_meaning.specs.WellFormed.{IsRowOf};
@@ -13,27 +12,19 @@ ghost use Rattle.sq_query.specs.Keyed.{IsKeyedUnder};
 ghost use Rattle.sq_query.specs.Meant.{IsKeyUnder};
 ghost use Rattle.sq_query.specs.Table.{numbered_row};
 ghost use Rattle.sq_query.specs.Target.{conditions_of};
-ghost use Rattle.sq_module.specs.Program.{CursorsFit};
-ghost use Rattle.sq_change.specs.Statement.{base_of};
-ghost use Rattle.sq_session.specs.Kind.{over_of};
 ghost use Rattle.sq_store.specs.Content.{table_at};
 ghost use Rattle.sq_store.specs.Keys.{keys_at};
-ghost use Rattle.sq_session.specs.Cursors.{AreThere, HaveKept, MayKeep, are_over, go_on, is_over, listed, put_all, reads};
 ghost use Rattle.sq_session.specs.Fetch.{row_on};
 ghost use Rattle.sq_session.specs.Metered.{last_number};
-ghost use Rattle.sq_session.specs.Reads.{one_reads};
 ghost use Rattle.sq_session.specs.Open.{walk_before};
-ghost use Rattle.sq_session.specs.Walk.{AreRowsUnder, IsQuietWith, first_meant, is_meant, numbers_meant};
+ghost use Rattle.sq_session.specs.Walk.{AreRowsUnder, IsQuietWith, first_meant, is_meant};
 
 use crate::called::Called;
-use crate::cursor::{CursorState, NumbersCursor};
-use crate::reads::target_reads;
-use sq_bound::{BoundUpdate, ChangeTarget, CursorBody, Target};
+use sq_bound::Target;
 use sq_catalog::Catalog;
 use sq_expression::Fault;
 use sq_items::Items;
 use sq_lex::Name;
-use sq_module::DeclaredCursor;
 use sq_query::{Inputs, KnownKey, is_chosen, key_of};
 use sq_store::{Meter, Store};
 use sq_value::{Row, Value, copy_row};
@@ -75,13 +66,13 @@ pub(crate) fn started_walk<S: Store>(
 /// What a walk reads: the base table, the target with its conditions, and the user and values for which they are
 /// evaluated.
 #[derive(Clone, Copy)]
-struct Walk<'a> {
-    alloc: Global,
-    catalog: &'a Catalog,
-    user: Name,
-    table: usize,
-    target: &'a Target,
-    values: &'a [Value],
+pub(crate) struct Walk<'a> {
+    pub(crate) alloc: Global,
+    pub(crate) catalog: &'a Catalog,
+    pub(crate) user: Name,
+    pub(crate) table: usize,
+    pub(crate) target: &'a Target,
+    pub(crate) values: &'a [Value],
 }
 
 impl<'a> Walk<'a> {
@@ -106,7 +97,7 @@ impl<'a> Walk<'a> {
         }
     }
 
-    /// The key by which the target names its only row, through views too, if it names one so.
+    /// The key by which the target names its only row, through views too; `None` if it names no key.
     fn key<S: Store>(&self, store: &S) -> Result<Option<KnownKey>, AllocError>
         requires there { self.now.target.now.base < length (S.content_now store.now) }
         requires keys { keys_at (S.key_columns store.now) self.now.target.now.base
@@ -132,7 +123,8 @@ impl<'a> Walk<'a> {
     }
 }
 
-/// The row with the key that the target names, if it stands from a number on and before a mark, and is meant: no other row is.
+/// The row with the key that the target names, if its number is in `from..mark` and the target means it. The
+/// target means no other row.
 #[tactic(auto, using(sq_query::proofs::KnownKeys::counted_at_most))]
 fn chosen_by_key<'s, S: Store>(
     walk: &Walk<'_>,
@@ -180,10 +172,10 @@ fn chosen_by_key<'s, S: Store>(
     }
 }
 
-/// The first row from a number on, and before a mark, that the target means. The meter counts the rows up to it, which have
-/// different numbers from 1 on.
+/// The first row with a number in `from..mark` that the target means. The meter counts the rows that are looked
+/// at.
 #[tactic(auto, using(sq_store::proofs::Walk::found_behind))]
-fn next_chosen<'s, S: Store>(
+pub(crate) fn next_chosen<'s, S: Store>(
     walk: &Walk<'_>,
     store: &'s S,
     from: u64,
@@ -219,7 +211,8 @@ fn next_chosen<'s, S: Store>(
     Ok(None)
 }
 
-/// The next row of a walk, with the user of the procedure that fetches. Where the target names a row by a key, no other is read.
+/// The next row of a walk, for the user of the procedure that fetches. Where the target names a row by a key,
+/// no other row is read.
 pub(crate) fn next_of_walk<'s, S: Store>(
     called: &Called<'_>,
     target: &Target,
@@ -265,149 +258,4 @@ pub(crate) fn next_of_walk<'s, S: Store>(
         }
         None => next_chosen(&walk, store, cursor.next, cursor.mark, meter),
     }
-}
-
-/// The number of a cursor that walks, and the cursor over a list that takes its place.
-#[derive(Drop)]
-pub(crate) struct ListedCursor {
-    pub(crate) number: usize,
-    pub(crate) cursor: NumbersCursor,
-}
-
-/// For each cursor that walks, and whose conditions read what an UPDATE changes, a cursor over the numbers of the rows
-/// that are left to it.
-#[tactic(auto, using(crate::proofs::Over::as_many))]
-pub(crate) fn listed_walks<S: Store>(
-    called: &Called<'_>,
-    statement: &BoundUpdate,
-    cursors: &[CursorState],
-    store: &S,
-) -> Result<Vec<ListedCursor>, AllocError>
-    requires fit { CursorsFit called.now.catalog.now.bases called.now.cursors.now }
-    requires cursors { are_over called.now.cursors.now cursors.now ≡ true }
-    requires rows { holds called.now.catalog.now.bases (S.content_now store.now) ≡ true }
-    requires kept { HaveKept (column_kinds called.now.catalog.now) called.now.cursors.now cursors.now }
-    requires domains { AreInDomains called.now.catalog.now.bases (S.content_now store.now) }
-    ensures there { IfOk result (λ lists. AreThere (length cursors.now) lists.items) }
-    ensures lists { IfOk result (λ lists. put_all cursors.now lists.items
-        ≡ go_on statement.now (S.content_now store.now) called.now.cursors.now cursors.now) }
-{
-    let mut lists = Vec::new(called.alloc);
-    for (number, cursor) in cursors.iter().enumerate() {
-        if let CursorState::Walking(walk) = cursor {
-            let declared = &called.cursors[number];
-            match listed_walk(called, declared, statement, store, walk)? {
-                Some(list) => lists.push(ListedCursor {
-                    number,
-                    cursor: list,
-                })?,
-                None => {}
-            }
-        }
-    }
-    Ok(lists)
-}
-
-/// A cursor over the numbers of the rows that are left to the walk of a declared cursor, if it is over the base table that
-/// an UPDATE changes and its conditions read a column that is assigned to.
-fn listed_walk<S: Store>(
-    called: &Called<'_>,
-    declared: &DeclaredCursor,
-    statement: &BoundUpdate,
-    store: &S,
-    walk: &WalkingCursor,
-) -> Result<Option<NumbersCursor>, AllocError>
-    requires over { is_over (over_of declared.now.cursor.body) (CursorState.Walking walk.now) ≡ true }
-    requires there { walk.now.table < length (S.content_now store.now) }
-    requires fit { FitsBody called.now.catalog.now.bases declared.now.cursor.body }
-    requires kept { MayKeep (column_kinds called.now.catalog.now) declared.now.cursor walk.now.values }
-    requires domains { AreInDomains called.now.catalog.now.bases (S.content_now store.now) }
-    ensures { IfOk result (λ list. list ≡ then_some (reads statement.now declared.now walk.now)
-        (listed declared.now (S.content_now store.now) walk.now)) }
-{
-    let query = match &declared.cursor.body {
-        CursorBody::Updatable(query) => query,
-        CursorBody::Rows(..) => unreachable!(),
-    };
-    if !is_read(statement, walk.table, &query.target) {
-        return Ok(None);
-    }
-    let numbers = rest_of_walk(called, declared.user, &query.target, store, walk)?;
-    Ok(Some(NumbersCursor {
-        table: walk.table,
-        numbers,
-        passed: 0,
-        on: walk.on,
-    }))
-}
-
-/// Whether an UPDATE changes the base table that is walked, and a column of it that the conditions of the target read.
-fn is_read(statement: &BoundUpdate, table: usize, target: &Target) -> bool
-    ensures { result
-        ≡ (nat_eq table (base_of statement.now.target)
-        && one_reads statement.now.assignments (conditions_of target.now)) }
-{
-    table == base_of(&statement.target) && target_reads(target, statement.assignments.as_slice())
-}
-
-/// The place of the base table that a statement changes.
-fn base_of(target: &ChangeTarget) -> usize
-    ensures { result ≡ base_of target.now }
-{
-    match target {
-        ChangeTarget::Searched(target) => target.base,
-        ChangeTarget::Positioned(positioned) => positioned.base,
-    }
-}
-
-/// The numbers of the rows that are left to a walk of a user's cursor.
-fn rest_of_walk<S: Store>(
-    called: &Called<'_>,
-    user: Name,
-    target: &Target,
-    store: &S,
-    cursor: &WalkingCursor,
-) -> Result<Items<u64>, AllocError>
-    requires there { cursor.now.table < length (S.content_now store.now) }
-    requires quiet { IsQuietWith (column_kinds called.now.catalog.now) target.now cursor.now.values }
-    requires rows { AreRowsUnder target.now (table_at (S.content_now store.now) cursor.now.table).rows }
-    ensures { IfOk result
-        (λ numbers. numbers ≡ numbers_meant (conditions_of target.now) cursor.now.values user cursor.now.next
-        cursor.now.mark (table_at (S.content_now store.now) cursor.now.table).rows) }
-{
-    let walk = Walk {
-        alloc: called.alloc,
-        catalog: called.catalog,
-        user,
-        table: cursor.table,
-        target,
-        values: cursor.values.as_slice(),
-    };
-    numbers_from(&walk, store, cursor.next, cursor.mark)
-}
-
-/// The numbers, from one on and before a mark, of the rows that the target means.
-fn numbers_from<S: Store>(
-    walk: &Walk<'_>,
-    store: &S,
-    from: u64,
-    mark: u64,
-) -> Result<Items<u64>, AllocError>
-    requires there { walk.now.table < length (S.content_now store.now) }
-    requires quiet { IsQuietWith (column_kinds walk.now.catalog.now) walk.now.target.now walk.now.values.now }
-    requires rows { AreRowsUnder walk.now.target.now
-        (table_at (S.content_now store.now) walk.now.table).rows }
-    ensures { IfOk result
-        (λ numbers. numbers
-        ≡ numbers_meant (conditions_of walk.now.target.now) walk.now.values.now walk.now.user from
-        mark (table_at (S.content_now store.now) walk.now.table).rows) }
-{
-    let mut numbers = Items::new(walk.alloc);
-    let mut meter = Meter::new();
-    let mut number = from;
-    while let Some((found, _)) = next_chosen(walk, store, number, mark, &mut meter)? {
-        numbers.push(found)?;
-        number = found + 1;
-    }
-    Ok(numbers)
 }

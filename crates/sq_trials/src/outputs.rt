@@ -4,7 +4,7 @@ use sq_run::{Out, OutFault};
 use std::alloc::Global;
 use std::test::Fail;
 
-/// An output that takes one byte a call, for so many calls.
+/// An output that takes one byte a call, for a number of calls.
 #[derive(Drop)]
 struct ByteOut {
     bytes: Vec<u8>,
@@ -36,7 +36,7 @@ impl Out for ByteOut {
     }
 }
 
-/// Whether a run whose output stops after so many bytes ends with them, and with a fault that says so.
+/// Whether a run whose output stops after this many bytes has written them, and ends with a fault that says so.
 fn ends_there(alloc: Global, calls: usize, stop: Stop) -> bool {
     let mut out = ByteOut {
         bytes: Vec::new(alloc),

@@ -5,7 +5,7 @@ use std::alloc::Global;
 use std::io::{self, ErrorKind, Write};
 use std::test::Fail;
 
-/// A writer that takes one byte a call, for so many calls.
+/// A writer that takes one byte a call, for a number of calls.
 #[derive(Drop)]
 struct ByteWriter {
     bytes: Vec<u8>,
@@ -36,7 +36,7 @@ impl Write for ByteWriter {
     }
 }
 
-/// Whether a run whose writer stops after so many bytes ends with them, and with a fault that says so.
+/// Whether a run whose writer stops after this many bytes has written them, and ends with a fault that says so.
 fn ends_there(alloc: Global, calls: usize, stop: Stop) -> bool {
     let mut writer = ByteWriter {
         bytes: Vec::new(alloc),

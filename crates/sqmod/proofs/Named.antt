@@ -23,7 +23,7 @@ names_one schemas modules script (ScriptRefused refusal) h = tt
 names_one schemas modules script (Write bytes) h = tt
 names_one schemas modules script (NoMemory items) h = tt
 
--- and so is one of which nothing else can be said
+-- A text that a check refuses is one of those that it was given.
 pub checked_one : (schemas modules : List (Vec ℕ Global)) (fault : RunFault) → IsOpeningFault (texts schemas) (texts modules) fault
     → NamesOneOf (length schemas) (length modules) (fault_of fault)
 checked_one schemas modules (SchemaRefused refusal) h = within schemas refusal.text h.0.text h.0.there

@@ -19,13 +19,13 @@ use Rattle.sqmod.specs.declared.command_line.Task.TheVariants.{Run, Check, Expla
 use Rattle.sqmod.specs.declared.fault.Source.{Source}
 use Rattle.sqmod.specs.declared.fault.Source.TheVariants.{Schema, Module, Script}
 
--- a text among so many schemas, so many modules and a script
+-- A text is one of this many schemas and modules, or the script.
 abbrev pub IsAmong : ℕ → ℕ → Source → Type 0
 IsAmong schemas modules (Schema index) = index < schemas
 IsAmong schemas modules (Module index) = index < modules
 IsAmong schemas modules Script = ⊤
 
--- the text is one of the request's
+-- A text is one of the request's.
 abbrev pub HasFile : Request → Source → Type 0
 HasFile request source = IsAmong (length request.schemas.items) (length request.modules.items) source
 
@@ -39,7 +39,7 @@ file_of request (Schema index) = name_at request.schemas.items index
 file_of request (Module index) = name_at request.modules.items index
 file_of request Script = Some request.script.now
 
--- the same where there is no script
+-- A text is one of a check's request, which has no script.
 abbrev pub HasCheckedFile : CheckRequest → Source → Type 0
 HasCheckedFile request source = IsAmong (length request.schemas.items) (length request.modules.items) source
 
@@ -54,7 +54,7 @@ checked_file_of request Script = []
 abbrev pub value_rule : Text → Rule
 value_rule name = record (new_rule name) { long = Some name; value_names = 1; action = Some Set }
 
--- one that may be given again and again
+-- An option `--NAME VALUE` that may be given again and again.
 abbrev pub files_rule : Text → Rule
 files_rule name = record (value_rule name) { action = Some Append }
 
@@ -75,7 +75,7 @@ run =
 abbrev pub check : App
 check = with_rule (with_rule (new_app (codes "check")) (files_rule (codes "schema"))) (files_rule (codes "module"))
 
--- a word without a name of its own
+-- A word that stands without an option.
 abbrev pub name_rule : Rule
 name_rule = record (new_rule (codes "name")) { value_names = 1; action = Some Set }
 
@@ -89,7 +89,7 @@ of_files =
     let without = on_top (λ shape. record shape { subcommand_required = true }) (new_app (codes "sqmod")) in
     with_subcommand (with_subcommand without run.top) check.top
 
--- and with `explain`
+-- `sqmod` with all its subcommands.
 abbrev pub sqmod : App
 sqmod = with_subcommand of_files explain.top
 
@@ -111,7 +111,7 @@ abbrev pub IsRun : List Row → Type 0
 IsRun rows = IsSome (first_of (codes "script") rows)
     × IfSome (one_of (codes "rows") rows) (IsUnsignedIn 1 MOST_ROW_NUMBERS)
 
--- the request that `run` makes of it
+-- The request that `run` makes of what it was given.
 pub record Makes (rows : List Row) (request : Request) : Type 0 where
   pub schemas : map (λ file. file.now) request.schemas.items ≡ files_of (codes "schema") rows
   pub modules : map (λ file. file.now) request.modules.items ≡ files_of (codes "module") rows
@@ -120,14 +120,14 @@ pub record Makes (rows : List Row) (request : Request) : Type 0 where
 
 -- ---- what `check` was given
 
--- the request that `check` makes of it
+-- The request that `check` makes of what it was given.
 pub record MakesCheck (rows : List Row) (request : CheckRequest) : Type 0 where
   pub schemas : map (λ file. file.now) request.schemas.items ≡ files_of (codes "schema") rows
   pub modules : map (λ file. file.now) request.modules.items ≡ files_of (codes "module") rows
 
 -- ---- what `explain` was given
 
--- the request that `explain` makes of it
+-- The request that `explain` makes of what it was given.
 abbrev pub MakesExplain : List Row → ExplainRequest → Type 0
 MakesExplain rows request = option_map (λ name. name.now) request.name ≡ first_of (codes "name") rows
 
@@ -147,12 +147,13 @@ MakesTask name rows (Run request) = (name ≡ codes "run") × Makes rows request
 MakesTask name rows (Check request) = (name ≡ codes "check") × MakesCheck rows request
 MakesTask name rows (Explain request) = (name ≡ codes "explain") × MakesExplain rows request
 
--- the words name a subcommand, and ask for this
+-- The words name a subcommand, and ask for this task.
 abbrev pub AskFor : List Text → Task → Type 0
 AskFor words task =
-    (name : Text) × (rows : List Row) × (subcommand_of sqmod words ≡ Some (name, rows)) × MakesTask name rows task
+    (name : Text) × (rows : List Row) × (subcommand_of sqmod words ≡ Some (name, rows))
+    × MakesTask name rows task
 
--- the row numbers that a run is to have are not too many
+-- A run is not asked to have more row numbers than a store can have.
 abbrev pub IsLimited : Task → Type 0
 IsLimited (Run request) = request.row_numbers ≤ MOST_ROW_NUMBERS
 IsLimited (Check request) = ⊤

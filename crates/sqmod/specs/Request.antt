@@ -10,7 +10,7 @@ use Rattle.sqmod.specs.declared.fault.Fault.TheVariants.{Unread, Refused, Output
 use Rattle.sqmod.specs.declared.fault.Source.TheVariants.{Schema, Module, Script}
 use Rattle.sqmod.specs.declared.texts.Texts.{Texts}
 
--- as many texts as files
+-- There are as many texts as files.
 pub record AreTexts (request : Request) (texts : Texts) : Type 0 where
   pub schemas : length texts.schemas.items ≡ length request.schemas.items
   pub modules : length texts.modules.items ≡ length request.modules.items
@@ -23,22 +23,24 @@ fault_of (run.ScriptRefused refusal) = Refused Script refusal
 fault_of (run.Write bytes) = Output
 fault_of (run.NoMemory items) = NoMemory items
 
--- a run, and then the flush of what it wrote: a refusal, which wrote nothing, stays; else the flush's fault takes precedence
+-- How a run ends with the flush after it: a refusal, which wrote nothing, stays; otherwise the fault of the
+-- flush takes precedence.
 abbrev pub ended_with : Result ⊤ Fault → Result ⊤ Fault → Result ⊤ Fault
 ended_with (Err (Refused source refusal)) flushed = Err (Refused source refusal)
 ended_with ran (Err fault) = Err fault
 ended_with ran (Ok done) = ran
 
--- the text that a fault names, if it names one, is among so many schemas, so many modules and a script
+-- If a fault names a text, it is one of this many schemas and modules, or the script.
 abbrev pub NamesOneOf : ℕ → ℕ → Fault → Type 0
 NamesOneOf schemas modules (Unread source) = IsAmong schemas modules source
 NamesOneOf schemas modules (Refused source refusal) = IsAmong schemas modules source
 NamesOneOf schemas modules Output = ⊤
 NamesOneOf schemas modules (NoMemory items) = ⊤
 
--- the file that a fault names, if it names one, is the request's
+-- If a fault names a text, its file is one of the request's.
 abbrev pub NamesFile : Request → Fault → Type 0
 NamesFile request fault = NamesOneOf (length request.schemas.items) (length request.modules.items) fault
 
 abbrev pub NamesCheckedFile : CheckRequest → Fault → Type 0
-NamesCheckedFile request fault = NamesOneOf (length request.schemas.items) (length request.modules.items) fault
+NamesCheckedFile request fault =
+    NamesOneOf (length request.schemas.items) (length request.modules.items) fault

@@ -14,7 +14,7 @@ use std::alloc::Global;
 use std::rt::Files;
 use std::{io, str};
 
-/// Reads the files, checks their texts and prints what is to be said of them: the status to end with.
+/// Reads the files, checks their texts, prints what is to be said of them, and gives the status to end with.
 pub(crate) fn status_of_check<R: Files + Print + Eprint + AllocGlobal>(
     rt: &R,
     request: &CheckRequest<'_>,

@@ -24,7 +24,7 @@ pub(crate) struct Request<'a> {
 }
 
 impl<'a> Request<'a> {
-    /// The name of the file of one of its texts.
+    /// The name of the file of one of the request's texts.
     pub(crate) fn file(&self, source: Source) -> &'a str
         requires { spec.HasFile self.now source }
         ensures { spec.file_of self.now source ≡ Some result.now }
@@ -45,7 +45,7 @@ pub(crate) struct CheckRequest<'a> {
 }
 
 impl<'a> CheckRequest<'a> {
-    /// The name of the file of one of its texts. There is no script.
+    /// The name of the file of one of the request's texts, of which none is a script.
     pub(crate) fn file(&self, source: Source) -> &'a str
         requires { spec.HasCheckedFile self.now source }
         ensures { spec.checked_file_of self.now source ≡ result.now }
@@ -58,7 +58,7 @@ impl<'a> CheckRequest<'a> {
     }
 }
 
-/// What is to be explained: a status, a refusal or a fault. Without a name, the names are asked for.
+/// What is to be explained: a status, a refusal or a fault; without a name, all names are listed.
 #[derive(Clone, Copy)]
 pub(crate) struct ExplainRequest<'a> {
     pub(crate) name: Option<&'a str>,

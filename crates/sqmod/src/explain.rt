@@ -6,7 +6,7 @@ use sq_explain::{Entry, all_entries, named, names_of, nearest, text_of};
 use std::alloc::{AllocError, Global};
 use std::io;
 
-/// Prints what the name that is asked for means, or all names: the status to end with.
+/// Prints what the requested name means, or all names, and gives the status to end with.
 pub(crate) fn status_of_explain<R: Print + Eprint + AllocGlobal>(
     rt: &R,
     request: ExplainRequest<'_>,
@@ -61,7 +61,7 @@ fn refuse_name<R: Eprint + AllocGlobal>(rt: &R, entries: &[Entry], name: &str) -
     }
 }
 
-/// The names nearest to one that there isn't.
+/// The names nearest to a name that does not exist.
 fn near_names(
     alloc: Global,
     entries: &[Entry],

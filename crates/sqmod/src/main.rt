@@ -94,7 +94,7 @@ fn report<R: Eprint>(rt: &R, request: &Request<'_>, fault: Fault) -> u8
     report_of_file(rt, file, fault)
 }
 
-/// The same of a check.
+/// Says what went wrong with a check and gives the status for it.
 fn report_checked<R: Eprint>(rt: &R, request: &CheckRequest<'_>, fault: Fault) -> u8
     requires { NamesCheckedFile request.now fault }
     ensures { result ≡ status_of fault }
@@ -106,7 +106,7 @@ fn report_checked<R: Eprint>(rt: &R, request: &CheckRequest<'_>, fault: Fault) -
     report_of_file(rt, file, fault)
 }
 
-/// Says what went wrong, where it is with this file if it is with one.
+/// Says what went wrong, and with which file, if it is with one.
 fn report_of_file<R: Eprint>(rt: &R, file: &str, fault: Fault) -> u8
     ensures { result ≡ status_of fault }
 {

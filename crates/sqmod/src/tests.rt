@@ -275,7 +275,7 @@ const FILES: [(&str, Option<Fault>); 6] = [
     ),
 ];
 
-/// Whether reading the files that a line names comes to this fault, or to none.
+/// Whether reading the files that a line names ends with this fault, or with none.
 fn is_read_up_to<R: Files + AllocGlobal>(
     rt: &R,
     line: &str,

@@ -1,6 +1,6 @@
 use Rattle.std.proofs.Common.{◌≡◌, length, take}
 use Rattle.sq_session.specs.Cursors.{AreThere, go_on, put_all}
-use Rattle.sq_session.proofs.walk.listed_walks.Given as goal
+use Rattle.sq_session.proofs.walk_list.listed_walks.Given as goal
 
 -- with the lists so far put in place, the first cursors go on
 abbrev pub invariant-loop-number : goal.invariant-loop-number

@@ -5,12 +5,12 @@ use Rattle.sq_session.specs.Cursors.{HasKept, goes_on, is_over, listed, reads}
 use Rattle.sq_session.specs.Kind.{over_of}
 use Rattle.sq_session.specs.declared.cursor.CursorState.{CursorState}
 use Rattle.sq_session.specs.declared.cursor.CursorState.TheVariants as cursor
-use Rattle.sq_session.specs.declared.walk.ListedCursor.{ListedCursor}
+use Rattle.sq_session.specs.declared.walk_list.ListedCursor.{ListedCursor}
 use Rattle.sq_session.proofs.GoOn.{goes_on_listed, goes_on_same, goes_on_walking, idle_next, listed_all, listed_next, none_listed, same_next, some_listed, there_more}
 use Rattle.sq_session.proofs.Over.{as_many, over_here, over_there, walk_there}
 use Rattle.sq_session.proofs.QuietWalks.{fits_here, kept_here}
-use Rattle.sq_session.proofs.walk.listed_walks.Goals.{in-Walking+in_ok-list+in-Some+in_ok-push-in-Some, in-Walking+in_ok-list+in-None, in_default}
-use Rattle.sq_session.proofs.walk.listed_walks.Goals as goal
+use Rattle.sq_session.proofs.walk_list.listed_walks.Goals.{in-Walking+in_ok-list+in-Some+in_ok-push-in-Some, in-Walking+in_ok-list+in-None, in_default}
+use Rattle.sq_session.proofs.walk_list.listed_walks.Goals as goal
 
 pub listed_walk-requires-clause-over : goal.listed_walk-requires-clause-over
 listed_walk-requires-clause-over g c =

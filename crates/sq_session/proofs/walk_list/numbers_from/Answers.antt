@@ -7,7 +7,7 @@ use Rattle.sq_query.specs.Table.{numbered_row}
 use Rattle.sq_query.specs.Target.{conditions_of}
 use Rattle.sq_session.specs.Walk.{first_meant, numbers_meant}
 use Rattle.sq_session.proofs.Listing.{numbers_end, numbers_next}
-use Rattle.sq_session.proofs.walk.numbers_from.Goals as goal
+use Rattle.sq_session.proofs.walk_list.numbers_from.Goals as goal
 
 pub loop-numbers-preserved : goal.loop-numbers-preserved
 loop-numbers-preserved g c =

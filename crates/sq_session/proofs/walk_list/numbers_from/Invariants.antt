@@ -2,7 +2,7 @@ use Rattle.std.proofs.Common.{◌≡◌, ◌++◌, ◌-◌}
 use Rattle.sq_store.specs.Content.{table_at}
 use Rattle.sq_query.specs.Target.{conditions_of}
 use Rattle.sq_session.specs.Walk.{numbers_meant}
-use Rattle.sq_session.proofs.walk.numbers_from.Given as goal
+use Rattle.sq_session.proofs.walk_list.numbers_from.Given as goal
 
 -- the numbers so far, and those from the number on
 abbrev pub invariant-loop-numbers : goal.invariant-loop-numbers
