@@ -305,6 +305,13 @@ def joined_by_key(n):
                calls("ONE ({}, *)", keys(n)), asked("R.A", rest, keys(n)))
 
 
+def selected_where_there(n):
+    rest = "FROM P WHERE K = {} AND EXISTS (SELECT K FROM R WHERE R.K = P.A)"
+    return Row({"P": pairs(n), "R": pairs(n)},
+               f"PROCEDURE ONE (SQLCODE, :K INTEGER, :A INTEGER); SELECT A INTO :A {rest.format(':K')};\n",
+               calls("ONE ({}, *)", keys(n)), asked("A", rest, keys(n)))
+
+
 def joined(n):
     return counted("FROM P, R WHERE R.K = P.A", {"P": to_themselves(n), "R": pairs(n)})
 
@@ -344,6 +351,7 @@ ROWS = {
     f"scan with one test, {SCANS} calls": lambda n: scanned("S", n),
     f"the same of a view, {SCANS} calls": lambda n: scanned("W", n),
     "join of two tables by key": joined_by_key,
+    "SELECT INTO by key where a subquery has a row by key": selected_where_there,
     f"join of all rows by a key, {JOINS} calls": joined,
     f"EXISTS by a key, {JOINS} calls": found_by_exists,
     f"product with a test of its second table, {JOINS} calls": thinned,
