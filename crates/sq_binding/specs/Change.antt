@@ -156,7 +156,11 @@ rows_bound names a cursors t (Some (rows_where.CurrentOf name)) = positioned_bou
 
 -- who reads a column of the table that is changed needs SELECT on it (own rule)
 abbrev pub with_reading : UserNames → ChangedTable → {A : Type 0} → Found A → Found A
-with_reading names t x = record x { findings = both x.findings (needed (not x.findings.values.reads_outermost || names.holds t.reference.table Privilege.select)) }
+with_reading names t x =
+    record x {
+      findings = both x.findings
+          (needed (not x.findings.values.reads_outermost || names.holds t.reference.table Privilege.select));
+    }
 
 abbrev pub reading : UserNames → ChangedTable → {A : Type 0} → Binding A → Binding A
 reading names t b = λ counts. and_then (b counts) (λ x. Ok (with_reading names t x))

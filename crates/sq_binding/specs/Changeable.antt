@@ -168,7 +168,9 @@ made f x = record {
 abbrev pub updatable_over : Surroundings → Select Named → NumberedSelect → Option ChangedTable
     → Binding (Option NumberedUpdatable)
 updatable_over a q s None = pure None
-updatable_over a q s (Some t) = λ counts. and_then (condition_bound a t (filter_of q) counts) (λ x. Ok (made (updatable_where t (columns_shown t.under (list_of q) (shown_of s))) x))
+updatable_over a q s (Some t) =
+    λ counts. and_then (condition_bound a t (filter_of q) counts)
+    (λ x. Ok (made (updatable_where t (columns_shown t.under (list_of q) (shown_of s))) x))
 
 -- the updatable query that a bound query specification is, if it is one: its condition is bound once more, on rows of the base table
 abbrev pub updatable_bound : UserNames → Surroundings → Select Named → NumberedSelect

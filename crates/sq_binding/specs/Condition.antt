@@ -50,7 +50,11 @@ escape_bound a (Some e) = do
 abbrev pub as_subquery : Found NumberedSelect → Found NumberedSelect
 as_subquery x =
     if nat_eq x.findings.values.reach 0
-    then record x { part = with_number (Some x.subqueries) x.part; findings = of_subquery x.findings; subqueries = x.subqueries + 1 }
+    then record x {
+      part = with_number (Some x.subqueries) x.part;
+      findings = of_subquery x.findings;
+      subqueries = x.subqueries + 1;
+    }
     else record x { findings = of_subquery x.findings }
 
 abbrev pub subquery : Binding NumberedSelect → Binding NumberedSelect
@@ -156,4 +160,11 @@ abbrev mutual
     columns ← each (grouping_column (of_lines (items_of items) a)) by
     shown ← list_bound (of_groups (items_of items) columns a) (items_of items) list
     groups ← clause_bound (of_groups (items_of items) columns a) having
-    pure (record { distinct = distinct; from = tables_of items; filter = kept; by = columns; shown = shown; having = groups })
+    pure (record {
+      distinct = distinct;
+      from = tables_of items;
+      filter = kept;
+      by = columns;
+      shown = shown;
+      having = groups;
+    })

@@ -64,7 +64,9 @@ user_findings = record none { has_user = true }
 -- the position and the domain of the parameter of a name
 abbrev pub parameter_named : List Declared → Name → Outcome (ℕ × Domain)
 parameter_named parameters name =
-    or_fault fault.UnknownParameter (option_and_then (λ at. option_map (λ p. (at, p.domain)) (slice_get parameters at)) (position (λ p. same_name p.name name) parameters))
+    or_fault fault.UnknownParameter
+    (option_and_then (λ at. option_map (λ p. (at, p.domain)) (slice_get parameters at))
+    (position (λ p. same_name p.name name) parameters))
 
 abbrev pub as_indicator : ℕ × Domain → Outcome (Option ℕ)
 as_indicator p = if is_indicator_domain p.1 then Ok (Some p.0) else Err fault.BadIndicator
@@ -208,7 +210,9 @@ module _ (scopes : List Scope) (parameters : List Declared) where
       bound false true e 0 >>= function_over allowed n function distinct
   bound allowed inside (signed sign e) n = bound allowed inside e n >>= signed_as sign
   bound allowed inside (added sign a b) n =
-      bound allowed inside a n >>= λ x. bound allowed inside b (n + length x.calls) >>= operated_as (sum_operator sign) x
+      bound allowed inside a n >>= λ x. bound allowed inside b (n + length x.calls)
+      >>= operated_as (sum_operator sign) x
   bound allowed inside (scaled sign a b) n =
-      bound allowed inside a n >>= λ x. bound allowed inside b (n + length x.calls) >>= operated_as (product_operator sign) x
+      bound allowed inside a n >>= λ x. bound allowed inside b (n + length x.calls)
+      >>= operated_as (product_operator sign) x
   bound allowed inside (bracketed e) n = bound allowed inside e n

@@ -51,7 +51,13 @@ b >> c = b >>= (λ _. c)
 
 -- nothing is added
 abbrev pub pure : {A : Type 0} → A → Binding A
-pure x = λ counts. Ok (record { part = x; calls = []; calls_can_fail = false; findings = nothing; subqueries = counts.subqueries })
+pure x = λ counts. Ok (record {
+  part = x;
+  calls = [];
+  calls_can_fail = false;
+  findings = nothing;
+  subqueries = counts.subqueries;
+})
 
 abbrev pub refused : {A : Type 0} → BindingFault → Binding A
 refused f = λ counts. Err f
@@ -64,7 +70,13 @@ abbrev pub at_most : {A : Type 0} → (most many : ℕ) → Binding A → Bindin
 at_most most many b = if nat_lt most many then refused fault.LimitExceeded else b
 
 abbrev pub has_found : QueryFindings → Binding (Unit {0})
-has_found found = λ counts. Ok (record { part = tt; calls = []; calls_can_fail = false; findings = found; subqueries = counts.subqueries })
+has_found found = λ counts. Ok (record {
+  part = tt;
+  calls = [];
+  calls_can_fail = false;
+  findings = found;
+  subqueries = counts.subqueries;
+})
 
 -- a part that adds nothing, and has its outcome by itself
 abbrev pub outcome : {A : Type 0} → Outcome A → Binding A

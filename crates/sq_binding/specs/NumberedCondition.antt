@@ -52,7 +52,8 @@ mutual
         → NumberedGroups
 
   pub data NumberedSelect : Type 0 where
-    select : (distinct : Bool) → (list : List Numbered) → (from : List TablePlace) → (where_clause : NumberedClause) → NumberedGroups
+    select : (distinct : Bool) → (list : List Numbered) → (from : List TablePlace)
+        → (where_clause : NumberedClause) → NumberedGroups
         → (columns : List ResultColumn) → (can_fail : Bool) → (number : Option ℕ) → NumberedSelect
 
 -- ---- parts
@@ -111,4 +112,5 @@ abbrev mutual
   -- WHERE has no set functions
   pub select_of : NumberedSelect → PlacedSelect
   select_of (select distinct list from filter groups columns can_fail number) =
-      tree.select distinct (tree.expressions (trees_of (set_functions groups) list)) from (clause_of [] filter) (grouping_columns groups) (having_of groups)
+      tree.select distinct (tree.expressions (trees_of (set_functions groups) list)) from
+      (clause_of [] filter) (grouping_columns groups) (having_of groups)

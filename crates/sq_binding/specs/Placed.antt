@@ -40,7 +40,9 @@ column_kind scopes r =
     place_of r (heads_of scopes) >>= λ at. well_formed (option_map (λ c. c.kind) (column_at scopes at))
 
 abbrev pub position_named : List Declared → Name → Outcome (ℕ × Domain)
-position_named parameters name = well_formed (option_and_then (λ at. option_map (λ p. (at, p.domain)) (slice_get parameters at)) (position (λ p. same_name p.name name) parameters))
+position_named parameters name =
+    well_formed (option_and_then (λ at. option_map (λ p. (at, p.domain)) (slice_get parameters at))
+    (position (λ p. same_name p.name name) parameters))
 
 abbrev pub indicator_named : List Declared → Option Indicator → Outcome (Option ℕ)
 indicator_named parameters None = Ok None

@@ -107,7 +107,8 @@ grouping_layer g =
 
 abbrev specification_layer : BoundSpecification-F C C C S C G → S
 specification_layer s =
-    NumberedSelect.select s.distinct (map numbered_of s.list) s.from.tables (clause_if s.condition) (groups_if s.grouping) (map column_of s.columns) s.can_fail s.number
+    NumberedSelect.select s.distinct (map numbered_of s.list) s.from.tables (clause_if s.condition)
+    (groups_if s.grouping) (map column_of s.columns) s.can_fail s.number
 
 unfoldable pub cond_seen : BoundCond → NumberedCond
 cond_seen =

@@ -59,7 +59,8 @@ value_found counts b = record {
 }
 
 abbrev pub value : Surroundings → Expr Named → Binding Typed
-value a e = λ counts. and_then (bound a.scopes a.parameters a.functions_allowed false e counts.functions) (λ b. Ok (value_found counts b))
+value a e = λ counts. and_then (bound a.scopes a.parameters a.functions_allowed false e counts.functions)
+    (λ b. Ok (value_found counts b))
 
 -- ---- GROUP BY (7.7)
 
@@ -136,7 +137,8 @@ select_can_fail x = x.findings.values.can_fail || x.calls_can_fail
 -- the set functions of a query are its own
 abbrev pub select_found : Found Parts → Found NumberedSelect
 select_found x = record {
-  part = NumberedSelect.select x.part.distinct (map (λ c. c.tree) x.part.shown) x.part.from x.part.filter (groups_of x) (map (λ c. c.column) x.part.shown) (select_can_fail x) None;
+  part = NumberedSelect.select x.part.distinct (map (λ c. c.tree) x.part.shown) x.part.from x.part.filter
+      (groups_of x) (map (λ c. c.column) x.part.shown) (select_can_fail x) None;
   calls = [];
   calls_can_fail = false;
   findings = record x.findings { values = record x.findings.values { can_fail = select_can_fail x } };
@@ -147,7 +149,8 @@ select_found x = record {
 abbrev pub rightly_grouped : (star : Bool) → NumberedGroups → Found Parts → Outcome (Found NumberedSelect)
 rightly_grouped star NumberedGroups.not_grouped x = Ok (select_found x)
 rightly_grouped star (NumberedGroups.grouped by functions having) x =
-    if star then Err fault.CountMismatch else if x.findings.values.has_ungrouped then Err fault.UngroupedColumn else Ok (select_found x)
+    if star then Err fault.CountMismatch else if x.findings.values.has_ungrouped
+    then Err fault.UngroupedColumn else Ok (select_found x)
 
 -- a query specification of these parts
 abbrev pub specification : (star : Bool) → Binding Parts → Binding NumberedSelect

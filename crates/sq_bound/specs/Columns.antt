@@ -56,7 +56,8 @@ module _ {T : Type 0} (P : ℕ → Place → Type 0) where
 
     pub SelectReads : ℕ → Select (Placed T) → Type 0
     SelectReads n (select distinct list from filter by having) =
-        ListReads (suc n) list × ClauseReads (suc n) filter × AllByRecursion (P (suc n)) by × ClauseReads (suc n) having
+        ListReads (suc n) list × ClauseReads (suc n) filter × AllByRecursion (P (suc n)) by
+        × ClauseReads (suc n) having
 
 -- a column of a query at most so many further out than the outermost one in which the tree stands
 abbrev pub IsWithin : (reach : ℕ) → ℕ → Place → Type 0

@@ -27,7 +27,8 @@ whole low high n x y =
     let from : IsProp (low ≤ℤ n.unscaled) = Prim.hlevel codes in
     let to : IsProp (n.unscaled ≤ℤ high) = Prim.hlevel codes in
     let within : IsProp ((low ≤ℤ n.unscaled) × (n.unscaled ≤ℤ high)) = ×_prop from to in
-    ap₂ (λ (a : n.scale ≡ 0) (b : (low ≤ℤ n.unscaled) × (n.unscaled ≤ℤ high)). (a, b.0, b.1)) (scale x.0 y.0) (within (x.1, x.2) (y.1, y.2))
+    ap₂ (λ (a : n.scale ≡ 0) (b : (low ≤ℤ n.unscaled) × (n.unscaled ≤ℤ high)). (a, b.0, b.1))
+    (scale x.0 y.0) (within (x.1, x.2) (y.1, y.2))
 
 NumberIsIn-prop : (d : Domain) (n : Number) → IsProp (NumberIsIn d n)
 NumberIsIn-prop Small n = whole _ _ n

@@ -12,9 +12,15 @@ use Rattle.sq_bound.specs.declared.expression.BoundExpr.{BoundExpr}
 -- The set functions of a group's select list and HAVING in the order of the text are those that are noted, and the query is
 -- grouped by GROUP BY, by HAVING or by a set function.
 pub record AreGroupsOf (list : List BoundExpr) (grouping : Grouping) : Type 0 where
-  pub functions : list_functions (expressions (map (expr_of (map call_of (out-Grouping grouping).set_functions)) list)) ++ clause_functions (clause_of (map call_of (out-Grouping grouping).set_functions) (out-Grouping grouping).having)
+  pub functions : list_functions
+      (expressions (map (expr_of (map call_of (out-Grouping grouping).set_functions)) list))
+      ++ clause_functions (clause_of (map call_of (out-Grouping grouping).set_functions)
+      (out-Grouping grouping).having)
       ≡ map call_of (out-Grouping grouping).set_functions
-  pub grouped : is_grouped (expressions (map (expr_of (map call_of (out-Grouping grouping).set_functions)) list)) (map place_meant (out-Grouping grouping).columns) (clause_of (map call_of (out-Grouping grouping).set_functions) (out-Grouping grouping).having) ≡ true
+  pub grouped : is_grouped
+      (expressions (map (expr_of (map call_of (out-Grouping grouping).set_functions)) list))
+      (map place_meant (out-Grouping grouping).columns)
+      (clause_of (map call_of (out-Grouping grouping).set_functions) (out-Grouping grouping).having) ≡ true
 
 -- a query specification without groups has no set function at all
 abbrev pub AreGroupsIfAny : List BoundExpr → Option Grouping → Type 0

@@ -91,7 +91,8 @@ IsShortestKey keys own = IsShortest (λ key. names_key key (out-BoundCond own).t
 abbrev pub is_shortest_of : Leaf → Option BoundCond → ℕ → Bool
 is_shortest_of leaf None k = false
 is_shortest_of leaf (Some own) k =
-    list_all (has_no_fewer (λ key. names_key key (out-BoundCond own).terms) (get_or leaf.table.keys k [])) leaf.table.keys
+    list_all (has_no_fewer (λ key. names_key key (out-BoundCond own).terms) (get_or leaf.table.keys k []))
+    leaf.table.keys
 
 -- nothing is between a base table and itself
 abbrev pub is_plain_base : TableBody → Option Leaf → Bool

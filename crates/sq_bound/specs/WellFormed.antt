@@ -124,7 +124,9 @@ pub record IsCond (columns : TableKinds) (parameters : List Kind) (levels : Leve
     (calls : List SetFunctionCall) (c : BoundCond) : Type 0 where
   pub tree : PlacedCond
   pub is_tree : (later : List SetFunctionCall) → cond_of (map call_of (calls ++ later)) c ≡ tree
-  pub stands : (rows_of : TablePlace → Outcome (List Row)) → WellFormedCond (by_place rows_of) (kinds_by_place columns parameters) (IsDeclaredAt parameters) levels tree
+  pub stands : (rows_of : TablePlace → Outcome (List Row))
+      → WellFormedCond (by_place rows_of) (kinds_by_place columns parameters)
+      (IsDeclaredAt parameters) levels tree
   pub notes : CondIsNoted c
   pub numbers : HaveNumbers CondWith c
 
@@ -132,7 +134,9 @@ pub record IsCond (columns : TableKinds) (parameters : List Kind) (levels : Leve
 -- closed subquery
 pub record IsSelect (columns : TableKinds) (parameters : List Kind) (levels : Levels)
     (q : BoundSpecification) : Type 0 where
-  pub stands : (rows_of : TablePlace → Outcome (List Row)) → WellFormedSelect (by_place rows_of) (kinds_by_place columns parameters) (IsDeclaredAt parameters) levels (select_of q)
+  pub stands : (rows_of : TablePlace → Outcome (List Row))
+      → WellFormedSelect (by_place rows_of) (kinds_by_place columns parameters)
+      (IsDeclaredAt parameters) levels (select_of q)
   pub kinds_are : select_kinds (kinds_by_place columns parameters) (froms levels) (select_of q)
       ≡ Ok (kinds_of_select q)
   pub notes : SelectIsNoted q

@@ -62,4 +62,10 @@ default_of d (Some written) = default_written d written
 
 abbrev pub declared_column : TypedColumn → Outcome DeclaredColumn
 declared_column c =
-    default_of c.domain c.definition.default >>= λ default. Ok (record { name = c.definition.name; domain = c.domain; not_null = refuses_null c.definition; default = default })
+    default_of c.domain c.definition.default
+    >>= λ default. Ok (record {
+      name = c.definition.name;
+      domain = c.domain;
+      not_null = refuses_null c.definition;
+      default = default;
+    })

@@ -26,7 +26,9 @@ privileges_granted held columns privileges.All =
     refused_if fault.PrivilegeMissing (is_empty (filter held (all_privileges columns)))
     >> Ok (filter held (all_privileges columns))
 privileges_granted held columns (privileges.Actions actions) =
-    refused_if fault.PrivilegeMissing (not (list_all held (flat_map (action_privileges columns) (listed actions)))) >> Ok (flat_map (action_privileges columns) (listed actions))
+    refused_if fault.PrivilegeMissing
+    (not (list_all held (flat_map (action_privileges columns) (listed actions))))
+    >> Ok (flat_map (action_privileges columns) (listed actions))
 
 -- the user that a grantee is, none for PUBLIC
 abbrev pub grantee_user : Grantee → Option Name

@@ -138,7 +138,9 @@ reference_to target key columns = record {
 -- the columns pair, numbers with numbers and texts with texts (own rule)
 abbrev pub paired_reference : List Kind → List ℕ → ReferencedTable → ReferencedKey → Outcome Reference
 paired_reference own columns target key =
-    if length columns == length key.columns_listed && list_all (are_paired own target.kinds) (zip columns key.columns_listed) then Ok (reference_to target key columns) else Err fault.BadReference
+    if length columns == length key.columns_listed
+    && list_all (are_paired own target.kinds) (zip columns key.columns_listed)
+    then Ok (reference_to target key columns) else Err fault.BadReference
 
 -- whether a user holds REFERENCES on columns of another table
 abbrev pub may_reference : Catalog → Name → Option Entry → List Name → Bool
@@ -161,4 +163,7 @@ bound_reference c user own r = do
   target ← referenced_table own r.earlier
   key ← or_fault fault.BadReference (referenced_key target r.columns_listed)
   reference ← paired_reference own.kinds r.columns target key
-  Ok (record { reference = reference; is_permitted = may_reference c user r.earlier (names_at target.names key.columns_listed) })
+  Ok (record {
+    reference = reference;
+    is_permitted = may_reference c user r.earlier (names_at target.names key.columns_listed);
+  })

@@ -52,7 +52,8 @@ abbrev pub above : (check_option : Bool) → NumberedUpdatable → DeclaredUnder
 above check_option over below = record {
   base = below.base;
   conditions = conditions_with below.conditions over.target.condition;
-  demanded = if check_option then length (conditions_with below.conditions over.target.condition) else below.demanded;
+  demanded = if check_option then length (conditions_with below.conditions over.target.condition)
+      else below.demanded;
   columns = over.columns;
 }
 
@@ -82,7 +83,9 @@ column_shown _ = None
 
 -- UPDATE of a column of the view, and of the column underneath that it shows
 abbrev pub updates : List Name → Name × Numbered → List (Privilege × Privilege)
-updates underneath c = option_to_list (option_map (λ name. (Privilege.update c.0, Privilege.update name)) (option_and_then (slice_get underneath) (column_shown c.1)))
+updates underneath c =
+    option_to_list (option_map (λ name. (Privilege.update c.0, Privilege.update name))
+    (option_and_then (slice_get underneath) (column_shown c.1)))
 
 -- INSERT and DELETE, and UPDATE of each column, beside those on the table underneath that they follow
 abbrev pub privileges_followed : List Name → List Name → NumberedSelect → List (Privilege × Privilege)

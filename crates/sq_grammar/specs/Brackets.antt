@@ -12,4 +12,5 @@ open_brackets = fold open_after 0
 
 -- the token of this index is an opening bracket, before which as many are open as may be
 abbrev pub is_too_deep : Tokens → ℕ → Bool
-is_too_deep ts index = sees (lexeme.Symbol symbol.Open) (drop index ts) && nat_eq (open_brackets (take index ts)) MAX_DEPTH
+is_too_deep ts index =
+    sees (lexeme.Symbol symbol.Open) (drop index ts) && nat_eq (open_brackets (take index ts)) MAX_DEPTH

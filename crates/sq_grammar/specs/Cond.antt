@@ -38,7 +38,9 @@ comparison_of _ = None
 
 -- [ ALL | ANY | SOME ]
 abbrev pub compared_if_any : Parser (Option Quantifier)
-compared_if_any = token_if_any ((lexeme.Word word.All, quantifier.All) ∷ (lexeme.Word word.Any, quantifier.Any) ∷ (lexeme.Word word.Some, quantifier.Some) ∷ [])
+compared_if_any = token_if_any
+    ((lexeme.Word word.All, quantifier.All) ∷ (lexeme.Word word.Any, quantifier.Any)
+    ∷ (lexeme.Word word.Some, quantifier.Some) ∷ [])
 
 -- `( SELECT` comes next
 abbrev pub sees_query : Tokens → Bool
@@ -205,7 +207,9 @@ module _ (left : ℕ) (inner : Parser (CondOrExpr Cond)) where
   must_be_test = must_be_cond test_at
 
   abbrev pub conjoined : CondOrExpr Test → Parser (CondOrExpr Conj)
-  conjoined (came.Cond t) = all (behind (lexeme.Word word.And) must_be_test) >>= λ ts. pure (came.Cond (roll-Conj (record { first = t; rest = ts })))
+  conjoined (came.Cond t) =
+      all (behind (lexeme.Word word.And) must_be_test)
+      >>= λ ts. pure (came.Cond (roll-Conj (record { first = t; rest = ts })))
   conjoined (came.Expr e) = pure (came.Expr e)
 
   -- conjunction = test { AND test }, or an expression
@@ -216,7 +220,9 @@ module _ (left : ℕ) (inner : Parser (CondOrExpr Cond)) where
   must_be_conj = must_be_cond conj
 
   abbrev pub disjoined : CondOrExpr Conj → Parser (CondOrExpr Cond)
-  disjoined (came.Cond c) = all (behind (lexeme.Word word.Or) must_be_conj) >>= λ cs. pure (came.Cond (roll-Cond (record { first = c; rest = cs })))
+  disjoined (came.Cond c) =
+      all (behind (lexeme.Word word.Or) must_be_conj)
+      >>= λ cs. pure (came.Cond (roll-Cond (record { first = c; rest = cs })))
   disjoined (came.Expr e) = pure (came.Expr e)
 
   -- condition = conjunction { OR conjunction }, or an expression

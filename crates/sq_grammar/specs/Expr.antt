@@ -154,7 +154,13 @@ module _ (left : ℕ) (inner : Parser Expr) where
   level_from p = do
     scaled ← all scaled
     added ← all added
-    pure (roll-Expr (record { first = roll-Term (record { first = record { sign = None; primary = p }; rest = scaled }); rest = added }))
+    pure (roll-Expr (record {
+      first = roll-Term (record {
+        first = record { sign = None; primary = p };
+        rest = scaled;
+      });
+      rest = added;
+    }))
 
 -- behind a bracket that is one of the `left` that may be opened
 unfoldable pub inside : ℕ → Parser Expr

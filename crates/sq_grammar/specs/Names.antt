@@ -35,7 +35,10 @@ table_name = do
 
 abbrev pub column_of : Name → Name → Option Name → ColumnReference
 column_of first second None = record { qualifier = Some (table_of first None); column = second }
-column_of first second (Some third) = record { qualifier = Some (table_of first (Some second)); column = third }
+column_of first second (Some third) = record {
+  qualifier = Some (table_of first (Some second));
+  column = third;
+}
 
 abbrev pub column_by : Name → Option Name → Parser ColumnReference
 column_by first None = pure (record { qualifier = None; column = first })

@@ -153,7 +153,8 @@ with_front front outcome = and_then outcome (λ xs. pure (front ++ xs))
 -- An item is taken only if it leaves fewer tokens, as each item of the grammar does: so the number of turns does not matter.
 abbrev pub turn : {A : Type 0} → Tokens → Parser (List A) → Outcome (Option A) → Outcome (List A)
 turn ts go (Ok (None, after)) = Ok ([], after)
-turn ts go (Ok (Some x, after)) = if nat_lt (length after) (length ts) then with_front (x ∷ []) (go after) else Ok ([], ts)
+turn ts go (Ok (Some x, after)) = if nat_lt (length after) (length ts) then with_front (x ∷ []) (go after)
+    else Ok ([], ts)
 turn ts go (Err n) = Err n
 
 unfoldable pub many : {A : Type 0} → ℕ → Parser (Option A) → Parser (List A)

@@ -236,7 +236,8 @@ grant = do
 
 -- CREATE comes next, and behind it TABLE or VIEW
 abbrev pub sees_created : Tokens → Bool
-sees_created ts = sees (lexeme.Word word.Create) ts && (sees (lexeme.Word word.Table) (rest ts) || sees (lexeme.Word word.View) (rest ts))
+sees_created ts = sees (lexeme.Word word.Create) ts
+    && (sees (lexeme.Word word.Table) (rest ts) || sees (lexeme.Word word.View) (rest ts))
 
 abbrev pub by_table : ℕ → ℕ → Bool → Parser (Option SchemaElement)
 by_table left inner true = table_definition inner >>= λ t. pure (Some (Table t))

@@ -17,7 +17,8 @@ same_key columns row other = pointwise is_same (in_columns row columns) (in_colu
 abbrev pub is_alone : List ℕ → List Value → ℕ → ℕ → List Slot → Bool
 is_alone columns row at place [] = true
 is_alone columns row at place (None ∷ slots) = is_alone columns row at (place + 1) slots
-is_alone columns row at place (Some other ∷ slots) = (nat_eq place at || not (same_key columns row other)) && is_alone columns row at (place + 1) slots
+is_alone columns row at place (Some other ∷ slots) =
+    (nat_eq place at || not (same_key columns row other)) && is_alone columns row at (place + 1) slots
 
 abbrev pub slot_alone : List ℕ → List Slot → ℕ → Slot → Bool
 slot_alone columns slots at None = true

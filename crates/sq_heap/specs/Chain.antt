@@ -9,7 +9,10 @@ entry_at entries place = slice_index_or entries place (record { hash = 0; at = 0
 -- the chain that a link leads to, among the first `count` entries
 abbrev pub chain : List Entry → ℕ → ℕ → List Entry
 chain entries zero link = []
-chain entries (suc count) link = if nat_eq link (suc count) then entry_at entries count ∷ chain entries count (entry_at entries count).next else chain entries count link
+chain entries (suc count) link =
+    if nat_eq link (suc count)
+    then entry_at entries count ∷ chain entries count (entry_at entries count).next
+    else chain entries count link
 
 abbrev pub chain_of : List Entry → ℕ → List Entry
 chain_of entries link = chain entries (length entries) link

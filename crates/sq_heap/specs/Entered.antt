@@ -18,4 +18,5 @@ next_slot next (Remove number) = next
 
 abbrev pub changes_hold : Test → ℕ → List Change → Bool
 changes_hold test next [] = true
-changes_hold test next (change ∷ changes) = change_holds test next change && changes_hold test (next_slot next change) changes
+changes_hold test next (change ∷ changes) =
+    change_holds test next change && changes_hold test (next_slot next change) changes

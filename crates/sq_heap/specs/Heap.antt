@@ -42,7 +42,8 @@ first_keys (ks ∷ keys) (columns ∷ all) = take (length ks) columns ∷ first_
 -- the content before the last apply, which changed one table
 abbrev pub all_before : Option Mark → List HeapTable → Option Content
 all_before None tables = None
-all_before (Some mark) tables = Some (slice_set (all_now tables) mark.table (table_at (map (before_of mark.from) tables) mark.table))
+all_before (Some mark) tables =
+    Some (slice_set (all_now tables) mark.table (table_at (map (before_of mark.from) tables) mark.table))
 
 abbrev pub is_mark_of : Option Mark → ℕ → Bool
 is_mark_of None tables = true
@@ -55,7 +56,8 @@ has_none (u ∷ undo) = false
 -- each table that was changed is listed
 abbrev pub are_listed : List ℕ → ℕ → List HeapTable → Bool
 are_listed listed table [] = true
-are_listed listed table (t ∷ tables) = (has_none t.undo.items || list_any (nat_eq table) listed) && are_listed listed (table + 1) tables
+are_listed listed table (t ∷ tables) =
+    (has_none t.undo.items || list_any (nat_eq table) listed) && are_listed listed (table + 1) tables
 
 -- each of them is there
 abbrev pub are_within : ℕ → List ℕ → Bool

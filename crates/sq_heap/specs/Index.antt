@@ -22,7 +22,8 @@ hash_of values = folding.finish (fold folding.write folding.initial (fed.slice v
 
 -- the chain in which the entries under a hash are
 abbrev pub bucket_of : Index → ℕ → List Entry
-bucket_of index hash = chain_of index.entries.items (slice_index_or index.heads.items (hash % length index.heads.items) 0)
+bucket_of index hash =
+    chain_of index.entries.items (slice_index_or index.heads.items (hash % length index.heads.items) 0)
 
 abbrev pub has_entry : Index → ℕ → ℕ → Bool
 has_entry index hash at = list_any (is_entry hash at) (bucket_of index hash)

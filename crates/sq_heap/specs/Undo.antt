@@ -33,7 +33,8 @@ fits count [] = true
 fits count (u ∷ undo) = is_last_or_in (length_back count undo) u.at u.old && fits count undo
 
 -- some slots and undo lists come of others by changes that can be undone
-pub record GoesBack (slots : List Slot) (undo : List Undo) (later : List Slot) (later_undo : List Undo) : Type 0 where
+pub record GoesBack (slots : List Slot) (undo : List Undo) (later : List Slot)
+    (later_undo : List Undo) : Type 0 where
   pub made : List Undo
   pub grown : later_undo ≡ undo ++ made
   pub undone : back later made ≡ slots

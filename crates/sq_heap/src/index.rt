@@ -81,7 +81,8 @@ impl Index {
         requires { link ≤ length self.now.entries.items }
         ensures { MatchOption result
             (chain_of self.now.entries.items link ≡ [])
-            (λ e. (chain_of self.now.entries.items link ≡ e ∷ chain_of self.now.entries.items e.next) × (e.next < link)) }
+            (λ e. (chain_of self.now.entries.items link ≡ e ∷ chain_of self.now.entries.items e.next)
+            × (e.next < link)) }
     {
         if link == 0 {
             None
@@ -93,7 +94,8 @@ impl Index {
     /// Adds an entry for a row.
     pub(crate) fn enter(&mut self, row: &[Value], at: usize) -> Result<(), AllocError>
         ensures columns { self.new.columns ≡ self.old.columns }
-        ensures keeps { (hash place : ℕ) → has_entry self.old hash place ≡ true → has_entry self.new hash place ≡ true }
+        ensures keeps { (hash place : ℕ) → has_entry self.old hash place ≡ true
+            → has_entry self.new hash place ≡ true }
         ensures entered { OnOk result (is_in self.new row.now at ≡ true) }
     {
         let hash = hash_of_row(row, self.columns.as_slice());
@@ -103,7 +105,8 @@ impl Index {
     /// Adds an entry under a hash, in front of its chain.
     fn add(&mut self, hash: u64, at: usize) -> Result<(), AllocError>
         ensures columns { self.new.columns ≡ self.old.columns }
-        ensures keeps { (other place : ℕ) → has_entry self.old other place ≡ true → has_entry self.new other place ≡ true }
+        ensures keeps { (other place : ℕ) → has_entry self.old other place ≡ true
+            → has_entry self.new other place ≡ true }
         ensures entered { OnOk result (has_entry self.new hash at ≡ true) }
     {
         let chain = hash as usize % self.heads.len();

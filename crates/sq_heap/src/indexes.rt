@@ -43,7 +43,9 @@ fn push_indexes(
 
 /// Which of the indexes has these columns.
 pub(crate) fn index_on(indexes: &[Index], columns: &[usize]) -> Option<usize>
-    ensures { IfSome result (λ place. (place < length indexes.now) × (slice_index_or (keys_of indexes.now) place [] ≡ columns.now)) }
+    ensures { IfSome result
+        (λ place. (place < length indexes.now)
+        × (slice_index_or (keys_of indexes.now) place [] ≡ columns.now)) }
 {
     for (place, index) in indexes.iter().enumerate() {
         if index.columns() == columns {
@@ -77,7 +79,8 @@ pub(crate) fn index_of(
 #[tactic(auto, using(crate::proofs::Entries::in_keeps))]
 fn enter_slot(index: &mut Index, slot: &Option<Row>, at: usize) -> Result<(), AllocError>
     ensures columns { index.new.columns ≡ index.old.columns }
-    ensures keeps { (row : List SqlValue) (place : ℕ) → is_in index.old row place ≡ true → is_in index.new row place ≡ true }
+    ensures keeps { (row : List SqlValue) (place : ℕ) → is_in index.old row place ≡ true
+        → is_in index.new row place ≡ true }
     ensures entered { OnOk result (slot_holds (is_in index.new) at slot.now ≡ true) }
 {
     match slot {
@@ -100,7 +103,8 @@ fn enter_slots(index: &mut Index, slots: &[Option<Row>]) -> Result<(), AllocErro
 /// Adds entries for the rows that undoing brings back.
 fn enter_undo(index: &mut Index, undo: &[Undo]) -> Result<(), AllocError>
     ensures columns { index.new.columns ≡ index.old.columns }
-    ensures keeps { (row : List SqlValue) (place : ℕ) → is_in index.old row place ≡ true → is_in index.new row place ≡ true }
+    ensures keeps { (row : List SqlValue) (place : ℕ) → is_in index.old row place ≡ true
+        → is_in index.new row place ≡ true }
     ensures entered { OnOk result (undo_holds (is_in index.new) undo.now ≡ true) }
 {
     for change in undo {
@@ -112,7 +116,8 @@ fn enter_undo(index: &mut Index, undo: &[Undo]) -> Result<(), AllocError>
 /// Adds entries for a row to each index.
 fn enter_all(indexes: &mut Vec<Index>, row: &[Value], at: usize) -> Result<(), AllocError>
     ensures keys { keys_of indexes.new.items ≡ keys_of indexes.old.items }
-    ensures keeps { (r : List SqlValue) (place : ℕ) → in_all indexes.old.items r place ≡ true → in_all indexes.new.items r place ≡ true }
+    ensures keeps { (r : List SqlValue) (place : ℕ) → in_all indexes.old.items r place ≡ true
+        → in_all indexes.new.items r place ≡ true }
     ensures entered { OnOk result (in_all indexes.new.items row.now at ≡ true) }
 {
     for place in 0..indexes.len() {
@@ -125,7 +130,8 @@ fn enter_all(indexes: &mut Vec<Index>, row: &[Value], at: usize) -> Result<(), A
 fn enter_change(indexes: &mut Vec<Index>, change: &Change, next: usize) -> Result<usize, AllocError>
     requires { next + 1 < 2 ^ 64 }
     ensures keys { keys_of indexes.new.items ≡ keys_of indexes.old.items }
-    ensures keeps { (r : List SqlValue) (place : ℕ) → in_all indexes.old.items r place ≡ true → in_all indexes.new.items r place ≡ true }
+    ensures keeps { (r : List SqlValue) (place : ℕ) → in_all indexes.old.items r place ≡ true
+        → in_all indexes.new.items r place ≡ true }
     ensures entered { OnOk result (change_holds (in_all indexes.new.items) next change.now ≡ true) }
     ensures next { IfOk result (λ n. n ≡ next_slot next change.now) }
 {
@@ -151,7 +157,8 @@ pub(crate) fn enter_changes(
 ) -> Result<(), AllocError>
     requires { first + length changes.now < 2 ^ 64 }
     ensures keys { keys_of indexes.new.items ≡ keys_of indexes.old.items }
-    ensures keeps { (r : List SqlValue) (place : ℕ) → in_all indexes.old.items r place ≡ true → in_all indexes.new.items r place ≡ true }
+    ensures keeps { (r : List SqlValue) (place : ℕ) → in_all indexes.old.items r place ≡ true
+        → in_all indexes.new.items r place ≡ true }
     ensures entered { OnOk result (changes_hold (in_all indexes.new.items) first changes.now ≡ true) }
 {
     let mut next = first;

@@ -30,7 +30,8 @@ pub(crate) fn first_with<'a>(
     requires distinct { are_distinct index.now.columns (rows_from 1 slots.now) ≡ true }
     ensures { MatchOption result
         (find (has_key index.now.columns values.now) (rows_from 1 slots.now) ≡ None)
-        (λ r. find (has_key index.now.columns values.now) (rows_from 1 slots.now) ≡ Some (record { number = r.0; row = r.1.now })) }
+        (λ r. find (has_key index.now.columns values.now) (rows_from 1 slots.now)
+        ≡ Some (record { number = r.0; row = r.1.now })) }
 {
     let (at, row) = among(slots, index, values, hash_of_key(values))?;
     Some((at as u64 + 1, row))
@@ -72,7 +73,8 @@ fn among<'a>(
     requires { slots_have index.now.columns slots.now ≡ true }
     ensures { MatchOption result
         (list_any (names_key index.now.columns values.now slots.now hash) (bucket_of index.now hash) ≡ false)
-        (λ r. (slot_at slots.now r.0 ≡ Some r.1.now) × (pointwise is_same values.now (in_columns r.1.now index.now.columns) ≡ true)) }
+        (λ r. (slot_at slots.now r.0 ≡ Some r.1.now)
+        × (pointwise is_same values.now (in_columns r.1.now index.now.columns) ≡ true)) }
 {
     let columns = index.columns();
     let mut link = index.last(hash);
@@ -116,7 +118,9 @@ fn is_alone(slots: &[Option<Row>], index: &Index, row: &[Value], at: usize) -> b
 fn has_other(slots: &[Option<Row>], index: &Index, row: &[Value], at: usize, hash: u64) -> bool
     requires row { has_columns index.now.columns row.now ≡ true }
     requires slots { slots_have index.now.columns slots.now ≡ true }
-    ensures { result ≡ list_any (names_other index.now.columns (in_columns row.now index.now.columns) at slots.now hash) (bucket_of index.now hash) }
+    ensures { result ≡ list_any
+        (names_other index.now.columns (in_columns row.now index.now.columns) at slots.now hash)
+        (bucket_of index.now hash) }
 {
     let columns = index.columns();
     let mut link = index.last(hash);

@@ -72,7 +72,8 @@ impl Slots {
     pub(crate) fn row_at(&self, number: u64) -> Option<&Row>
         ensures { MatchOption result
             (row_at (table_of self.now.list.items) number ≡ None)
-            (λ r. row_at (table_of self.now.list.items) number ≡ Some (record { number = number; row = r.now })) }
+            (λ r. row_at (table_of self.now.list.items) number
+            ≡ Some (record { number = number; row = r.now })) }
     {
         let at = number.checked_sub(1)? as usize;
         let row = self.get(at)?;
@@ -96,7 +97,8 @@ impl Slots {
     pub(crate) fn first_from(&self, number: u64) -> Option<(u64, &Row)>
         ensures { MatchOption result
             (first_from (table_of self.now.list.items) number ≡ None)
-            (λ r. first_from (table_of self.now.list.items) number ≡ Some (record { number = r.0; row = r.1.now })) }
+            (λ r. first_from (table_of self.now.list.items) number
+            ≡ Some (record { number = r.0; row = r.1.now })) }
     {
         // Rows are numbered from 1 on; from 0 on the first one is the first, too.
         let mut at = number.saturating_sub(1) as usize;
@@ -115,7 +117,8 @@ impl Slots {
     /// Whether a block without rows begins at a place.
     fn is_gap(&self, at: usize) -> bool
         requires { at < length self.now.list.items }
-        ensures { IsTrue result → (place : ℕ) → at ≤ place → place < at + BLOCK → slot_at self.now.list.items place ≡ None }
+        ensures { IsTrue result → (place : ℕ) → at ≤ place → place < at + BLOCK
+            → slot_at self.now.list.items place ≡ None }
     {
         at % BLOCK == 0 && self.counts[at / BLOCK] == 0
     }

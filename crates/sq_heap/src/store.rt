@@ -205,20 +205,32 @@ fn apply_to(
 ) -> Result<usize, ApplyFault>
     requires known { table < length tables.old.items }
     requires keys { keys ≤ length (keys_at (all_keys tables.old.items) table) }
-    requires columns { have_keys (take keys (keys_at (all_keys tables.old.items) table)) (table_at (all_now tables.old.items) table).rows ≡ true }
-    requires new_columns { list_all (has_keys (take keys (keys_at (all_keys tables.old.items) table))) (rows_put changes.items) ≡ true }
-    requires distinct { has_distinct_keys (take keys (keys_at (all_keys tables.old.items) table)) (table_at (all_now tables.old.items) table) ≡ true }
+    requires columns { have_keys (take keys (keys_at (all_keys tables.old.items) table))
+        (table_at (all_now tables.old.items) table).rows ≡ true }
+    requires new_columns { list_all (has_keys (take keys (keys_at (all_keys tables.old.items) table)))
+        (rows_put changes.items) ≡ true }
+    requires distinct { has_distinct_keys (take keys (keys_at (all_keys tables.old.items) table))
+        (table_at (all_now tables.old.items) table) ≡ true }
     ensures ok { OnOk result (all_now tables.new.items
-        ≡ slice_set (all_now tables.old.items) table (changed_by (table_at (all_now tables.old.items) table) changes.items)) }
-    ensures distinct { OnOk result (has_distinct_keys (take keys (keys_at (all_keys tables.old.items) table)) (changed_by (table_at (all_now tables.old.items) table) changes.items) ≡ true) }
+        ≡ slice_set (all_now tables.old.items) table
+        (changed_by (table_at (all_now tables.old.items) table) changes.items)) }
+    ensures distinct { OnOk result
+        (has_distinct_keys (take keys (keys_at (all_keys tables.old.items) table))
+        (changed_by (table_at (all_now tables.old.items) table) changes.items) ≡ true) }
     ensures duplicate { result ≡ Err ApplyFault.Duplicate
-        → has_distinct_keys (take keys (keys_at (all_keys tables.old.items) table)) (changed_by (table_at (all_now tables.old.items) table) changes.items) ≡ false }
-    ensures before { IfOk result (λ from. all_before (Some (record { table = table; from = from })) tables.new.items ≡ Some (all_now tables.old.items)) }
+        → has_distinct_keys (take keys (keys_at (all_keys tables.old.items) table))
+        (changed_by (table_at (all_now tables.old.items) table) changes.items) ≡ false }
+    ensures before { IfOk result
+        (λ from. all_before (Some (record { table = table; from = from })) tables.new.items
+        ≡ Some (all_now tables.old.items)) }
     ensures committed { all_committed tables.new.items ≡ all_committed tables.old.items }
     ensures err { OnErr result (all_now tables.new.items ≡ all_now tables.old.items) }
-    ensures err_before { OnErr result ((mark : Option Mark) → all_before mark tables.new.items ≡ all_before mark tables.old.items) }
-    ensures err_listed { OnErr result ((listed : List ℕ) → are_listed listed 0 tables.old.items ≡ true → are_listed listed 0 tables.new.items ≡ true) }
-    ensures listed { OnOk result ((listed : List ℕ) → are_listed listed 0 tables.old.items ≡ true → are_listed (listed ++ table ∷ []) 0 tables.new.items ≡ true) }
+    ensures err_before { OnErr result ((mark : Option Mark)
+        → all_before mark tables.new.items ≡ all_before mark tables.old.items) }
+    ensures err_listed { OnErr result ((listed : List ℕ) → are_listed listed 0 tables.old.items ≡ true
+        → are_listed listed 0 tables.new.items ≡ true) }
+    ensures listed { OnOk result ((listed : List ℕ) → are_listed listed 0 tables.old.items ≡ true
+        → are_listed (listed ++ table ∷ []) 0 tables.new.items ≡ true) }
     ensures tables { length tables.new.items ≡ length tables.old.items }
     ensures keys { all_keys tables.new.items ≡ all_keys tables.old.items }
 {
@@ -230,7 +242,8 @@ fn take_back_to(tables: &mut Vec<HeapTable>, mark: Mark)
     requires { mark.table < length tables.old.items }
     ensures now { all_before (Some mark) tables.old.items ≡ Some (all_now tables.new.items) }
     ensures committed { all_committed tables.new.items ≡ all_committed tables.old.items }
-    ensures listed { (listed : List ℕ) → are_listed listed 0 tables.old.items ≡ true → are_listed listed 0 tables.new.items ≡ true }
+    ensures listed { (listed : List ℕ) → are_listed listed 0 tables.old.items ≡ true
+        → are_listed listed 0 tables.new.items ≡ true }
     ensures tables { length tables.new.items ≡ length tables.old.items }
     ensures keys { all_keys tables.new.items ≡ all_keys tables.old.items }
 {

@@ -67,9 +67,11 @@ impl HeapTable {
         requires slots { HasSlots self.old.slots 1 }
         requires undo { vec_len self.old.undo < vec_capacity self.old.undo }
         requires entered { in_all self.old.indexes.items row (length self.old.slots.list.items) ≡ true }
-        ensures table { table_of self.new.slots.list.items ≡ inserted (table_of self.old.slots.list.items) row }
+        ensures table { table_of self.new.slots.list.items
+            ≡ inserted (table_of self.old.slots.list.items) row }
         ensures indexes { self.new.indexes ≡ self.old.indexes }
-        ensures back { GoesBack self.old.slots.list.items self.old.undo.items self.new.slots.list.items self.new.undo.items }
+        ensures back { GoesBack self.old.slots.list.items self.old.undo.items self.new.slots.list.items
+            self.new.undo.items }
         ensures slot_room { KeepsSlots self.old.slots self.new.slots }
         ensures undo_room { KeepsRoom self.old.undo self.new.undo }
     {
@@ -86,7 +88,8 @@ impl HeapTable {
         requires entered { slot_holds (in_all self.old.indexes.items) at slot ≡ true }
         ensures slots { self.new.slots.list.items ≡ slice_set self.old.slots.list.items at slot }
         ensures indexes { self.new.indexes ≡ self.old.indexes }
-        ensures back { GoesBack self.old.slots.list.items self.old.undo.items self.new.slots.list.items self.new.undo.items }
+        ensures back { GoesBack self.old.slots.list.items self.old.undo.items self.new.slots.list.items
+            self.new.undo.items }
         ensures slot_room { KeepsSlots self.old.slots self.new.slots }
         ensures undo_room { KeepsRoom self.old.undo self.new.undo }
     {
@@ -99,9 +102,11 @@ impl HeapTable {
     fn replace(&mut self, number: u64, row: Row)
         requires undo { vec_len self.old.undo < vec_capacity self.old.undo }
         requires entered { in_all self.old.indexes.items row (number - 1) ≡ true }
-        ensures table { table_of self.new.slots.list.items ≡ replaced (table_of self.old.slots.list.items) number row }
+        ensures table { table_of self.new.slots.list.items
+            ≡ replaced (table_of self.old.slots.list.items) number row }
         ensures indexes { self.new.indexes ≡ self.old.indexes }
-        ensures back { GoesBack self.old.slots.list.items self.old.undo.items self.new.slots.list.items self.new.undo.items }
+        ensures back { GoesBack self.old.slots.list.items self.old.undo.items self.new.slots.list.items
+            self.new.undo.items }
         ensures slot_room { KeepsSlots self.old.slots self.new.slots }
         ensures undo_room { KeepsRoom self.old.undo self.new.undo }
     {
@@ -115,9 +120,11 @@ impl HeapTable {
     #[tactic(auto, using(crate::proofs::Rows::table_remove, crate::proofs::Rows::table_remove_missing, crate::proofs::Back::goes_back_none))]
     fn remove(&mut self, number: u64)
         requires { vec_len self.old.undo < vec_capacity self.old.undo }
-        ensures table { table_of self.new.slots.list.items ≡ removed (table_of self.old.slots.list.items) number }
+        ensures table { table_of self.new.slots.list.items
+            ≡ removed (table_of self.old.slots.list.items) number }
         ensures indexes { self.new.indexes ≡ self.old.indexes }
-        ensures back { GoesBack self.old.slots.list.items self.old.undo.items self.new.slots.list.items self.new.undo.items }
+        ensures back { GoesBack self.old.slots.list.items self.old.undo.items self.new.slots.list.items
+            self.new.undo.items }
         ensures slot_room { KeepsSlots self.old.slots self.new.slots }
         ensures undo_room { KeepsRoom self.old.undo self.new.undo }
     {
@@ -131,10 +138,13 @@ impl HeapTable {
     fn make(&mut self, change: Change)
         requires slots { HasSlots self.old.slots 1 }
         requires undo { vec_len self.old.undo < vec_capacity self.old.undo }
-        requires entered { change_holds (in_all self.old.indexes.items) (length self.old.slots.list.items) change ≡ true }
-        ensures table { table_of self.new.slots.list.items ≡ changed (table_of self.old.slots.list.items) change }
+        requires entered { change_holds (in_all self.old.indexes.items)
+            (length self.old.slots.list.items) change ≡ true }
+        ensures table { table_of self.new.slots.list.items
+            ≡ changed (table_of self.old.slots.list.items) change }
         ensures indexes { self.new.indexes ≡ self.old.indexes }
-        ensures back { GoesBack self.old.slots.list.items self.old.undo.items self.new.slots.list.items self.new.undo.items }
+        ensures back { GoesBack self.old.slots.list.items self.old.undo.items self.new.slots.list.items
+            self.new.undo.items }
         ensures slot_room { KeepsSlots self.old.slots self.new.slots }
         ensures undo_room { KeepsRoom self.old.undo self.new.undo }
     {
@@ -150,10 +160,13 @@ impl HeapTable {
     fn make_all(&mut self, changes: Vec<Change>)
         requires slots { HasSlots self.old.slots (vec_len changes) }
         requires undo { vec_len self.old.undo + vec_len changes ≤ vec_capacity self.old.undo }
-        requires entered { changes_hold (in_all self.old.indexes.items) (length self.old.slots.list.items) changes.items ≡ true }
-        ensures table { table_of self.new.slots.list.items ≡ changed_by (table_of self.old.slots.list.items) changes.items }
+        requires entered { changes_hold (in_all self.old.indexes.items)
+            (length self.old.slots.list.items) changes.items ≡ true }
+        ensures table { table_of self.new.slots.list.items
+            ≡ changed_by (table_of self.old.slots.list.items) changes.items }
         ensures indexes { self.new.indexes ≡ self.old.indexes }
-        ensures back { GoesBack self.old.slots.list.items self.old.undo.items self.new.slots.list.items self.new.undo.items }
+        ensures back { GoesBack self.old.slots.list.items self.old.undo.items self.new.slots.list.items
+            self.new.undo.items }
     {
         for change in changes {
             self.make(change);
@@ -172,16 +185,27 @@ impl HeapTable {
         changes: Vec<Change>,
     ) -> Result<usize, ApplyFault>
         requires keys { keys ≤ length self.old.indexes.items }
-        requires columns { have_keys (take keys (keys_of self.old.indexes.items)) (table_of self.old.slots.list.items).rows ≡ true }
-        requires new_columns { list_all (has_keys (take keys (keys_of self.old.indexes.items))) (rows_put changes.items) ≡ true }
-        requires distinct { has_distinct_keys (take keys (keys_of self.old.indexes.items)) (table_of self.old.slots.list.items) ≡ true }
-        ensures ok { OnOk result (table_of self.new.slots.list.items ≡ changed_by (table_of self.old.slots.list.items) changes.items) }
-        ensures distinct { OnOk result (has_distinct_keys (take keys (keys_of self.old.indexes.items)) (changed_by (table_of self.old.slots.list.items) changes.items) ≡ true) }
+        requires columns { have_keys (take keys (keys_of self.old.indexes.items))
+            (table_of self.old.slots.list.items).rows ≡ true }
+        requires new_columns { list_all (has_keys (take keys (keys_of self.old.indexes.items)))
+            (rows_put changes.items) ≡ true }
+        requires distinct { has_distinct_keys (take keys (keys_of self.old.indexes.items))
+            (table_of self.old.slots.list.items) ≡ true }
+        ensures ok { OnOk result
+            (table_of self.new.slots.list.items
+            ≡ changed_by (table_of self.old.slots.list.items) changes.items) }
+        ensures distinct { OnOk result
+            (has_distinct_keys (take keys (keys_of self.old.indexes.items))
+            (changed_by (table_of self.old.slots.list.items) changes.items) ≡ true) }
         ensures duplicate { result ≡ Err ApplyFault.Duplicate
-            → has_distinct_keys (take keys (keys_of self.old.indexes.items)) (changed_by (table_of self.old.slots.list.items) changes.items) ≡ false }
+            → has_distinct_keys (take keys (keys_of self.old.indexes.items))
+            (changed_by (table_of self.old.slots.list.items) changes.items) ≡ false }
         ensures from { IfOk result (λ from. from ≡ length self.old.undo.items) }
-        ensures before { OnOk result (back self.new.slots.list.items (drop (length self.old.undo.items) self.new.undo.items) ≡ self.old.slots.list.items) }
-        ensures committed { back self.new.slots.list.items self.new.undo.items ≡ back self.old.slots.list.items self.old.undo.items }
+        ensures before { OnOk result
+            (back self.new.slots.list.items (drop (length self.old.undo.items) self.new.undo.items)
+            ≡ self.old.slots.list.items) }
+        ensures committed { back self.new.slots.list.items self.new.undo.items
+            ≡ back self.old.slots.list.items self.old.undo.items }
         ensures err { OnErr result (self.new.slots.list.items ≡ self.old.slots.list.items) }
         ensures err_undo { OnErr result (self.new.undo.items ≡ self.old.undo.items) }
         ensures keys { keys_of self.new.indexes.items ≡ keys_of self.old.indexes.items }
@@ -206,8 +230,11 @@ impl HeapTable {
         ensures undo { self.new.undo.items ≡ self.old.undo.items }
         ensures keys { keys_of self.new.indexes.items ≡ keys_of self.old.indexes.items }
         ensures slot_room { OnOk result (HasSlots self.new.slots (length changes.now)) }
-        ensures undo_room { OnOk result (vec_len self.new.undo + length changes.now ≤ vec_capacity self.new.undo) }
-        ensures entered { OnOk result (changes_hold (in_all self.new.indexes.items) (length self.new.slots.list.items) changes.now ≡ true) }
+        ensures undo_room { OnOk result
+            (vec_len self.new.undo + length changes.now ≤ vec_capacity self.new.undo) }
+        ensures entered { OnOk result
+            (changes_hold (in_all self.new.indexes.items) (length self.new.slots.list.items) changes.now
+            ≡ true) }
     {
         self.slots.reserve(changes.len())?;
         self.undo.reserve(changes.len())?;
@@ -221,7 +248,9 @@ impl HeapTable {
         ensures slots { self.new.slots ≡ self.old.slots }
         ensures undo { self.new.undo ≡ self.old.undo }
         ensures keys { keys_of self.new.indexes.items ≡ keys_of self.old.indexes.items }
-        ensures entered { OnOk result (changes_hold (in_all self.new.indexes.items) (length self.old.slots.list.items) changes.now ≡ true) }
+        ensures entered { OnOk result
+            (changes_hold (in_all self.new.indexes.items) (length self.old.slots.list.items) changes.now
+            ≡ true) }
     {
         enter_changes(&mut self.indexes, changes, self.slots.len())
     }
@@ -262,9 +291,12 @@ impl HeapTable {
     fn has_distinct_keys(&self, keys: usize, from: usize) -> bool
         requires keys { keys ≤ length self.now.indexes.items }
         requires place { from ≤ length self.now.undo.items }
-        requires columns { have_keys (take keys (keys_of self.now.indexes.items)) (table_of self.now.slots.list.items).rows ≡ true }
-        requires before { has_distinct_keys (take keys (keys_of self.now.indexes.items)) (table_of (back self.now.slots.list.items (drop from self.now.undo.items))) ≡ true }
-        ensures { result ≡ has_distinct_keys (take keys (keys_of self.now.indexes.items)) (table_of self.now.slots.list.items) }
+        requires columns { have_keys (take keys (keys_of self.now.indexes.items))
+            (table_of self.now.slots.list.items).rows ≡ true }
+        requires before { has_distinct_keys (take keys (keys_of self.now.indexes.items))
+            (table_of (back self.now.slots.list.items (drop from self.now.undo.items))) ≡ true }
+        ensures { result ≡ has_distinct_keys (take keys (keys_of self.now.indexes.items))
+            (table_of self.now.slots.list.items) }
     {
         self.are_alone(keys, from)
     }
@@ -274,8 +306,11 @@ impl HeapTable {
     fn are_alone(&self, keys: usize, from: usize) -> bool
         requires keys { keys ≤ length self.now.indexes.items }
         requires place { from ≤ length self.now.undo.items }
-        requires columns { have_keys (take keys (keys_of self.now.indexes.items)) (table_of self.now.slots.list.items).rows ≡ true }
-        ensures { result ≡ list_all (λ columns. all_alone columns self.now.slots.list.items (drop from self.now.undo.items)) (take keys (keys_of self.now.indexes.items)) }
+        requires columns { have_keys (take keys (keys_of self.now.indexes.items))
+            (table_of self.now.slots.list.items).rows ≡ true }
+        ensures { result ≡ list_all
+            (λ columns. all_alone columns self.now.slots.list.items (drop from self.now.undo.items))
+            (take keys (keys_of self.now.indexes.items)) }
     {
         are_alone(
             self.slots.as_slice(),
@@ -288,9 +323,12 @@ impl HeapTable {
     #[tactic(auto, using(crate::proofs::Keyed::columns_at_index, crate::proofs::Entries::length_keys))]
     pub(crate) fn first_with(&self, key: usize, values: &Key) -> Option<(u64, &Row)>
         requires key { key < length (keys_of self.now.indexes.items) }
-        requires columns { slots_have (slice_index_or (keys_of self.now.indexes.items) key []) self.now.slots.list.items ≡ true }
-        requires distinct { are_distinct (slice_index_or (keys_of self.now.indexes.items) key []) (table_of self.now.slots.list.items).rows ≡ true }
-        ensures { let found = with_key (table_of self.now.slots.list.items) (slice_index_or (keys_of self.now.indexes.items) key []) values.now in
+        requires columns { slots_have
+            (slice_index_or (keys_of self.now.indexes.items) key []) self.now.slots.list.items ≡ true }
+        requires distinct { are_distinct (slice_index_or (keys_of self.now.indexes.items) key [])
+            (table_of self.now.slots.list.items).rows ≡ true }
+        ensures { let found = with_key (table_of self.now.slots.list.items)
+            (slice_index_or (keys_of self.now.indexes.items) key []) values.now in
             MatchOption result (found ≡ None) (λ r. found ≡ Some (record { number = r.0; row = r.1.now })) }
     {
         first_with(self.slots.as_slice(), &self.indexes[key], values)
@@ -314,8 +352,10 @@ impl HeapTable {
         requires { 0 < length self.old.undo.items }
         ensures len { length self.new.undo.items + 1 ≡ length self.old.undo.items }
         ensures back { (from : ℕ) → from < length self.old.undo.items
-            → back self.new.slots.list.items (drop from self.new.undo.items) ≡ back self.old.slots.list.items (drop from self.old.undo.items) }
-        ensures undo { (from : ℕ) → from < length self.old.undo.items → take from self.new.undo.items ≡ take from self.old.undo.items }
+            → back self.new.slots.list.items (drop from self.new.undo.items)
+            ≡ back self.old.slots.list.items (drop from self.old.undo.items) }
+        ensures undo { (from : ℕ) → from < length self.old.undo.items
+            → take from self.new.undo.items ≡ take from self.old.undo.items }
         ensures indexes { self.new.indexes ≡ self.old.indexes }
     {
         let Undo { at, old } = self.undo.pop().unwrap();
@@ -327,7 +367,8 @@ impl HeapTable {
 
     /// Undoes all changes but the first ones.
     pub(crate) fn undo_to(&mut self, from: usize)
-        ensures slots { self.new.slots.list.items ≡ back self.old.slots.list.items (drop from self.old.undo.items) }
+        ensures slots { self.new.slots.list.items
+            ≡ back self.old.slots.list.items (drop from self.old.undo.items) }
         ensures undo { self.new.undo.items ≡ take from self.old.undo.items }
         ensures indexes { self.new.indexes ≡ self.old.indexes }
     {

@@ -43,7 +43,9 @@ word bytes =
 
 -- a digit, or a point before a digit
 abbrev pub begins_number : List ℕ → Bool
-begins_number bytes = is_ascii_digit (slice_index bytes 0) || (slice_index bytes 0 == point && is_ascii_digit (slice_index bytes 1))
+begins_number bytes =
+    is_ascii_digit (slice_index bytes 0)
+    || (slice_index bytes 0 == point && is_ascii_digit (slice_index bytes 1))
 
 -- how many digits stand at the front
 abbrev pub digits : List ℕ → ℕ
@@ -66,7 +68,8 @@ number bytes =
 -- at most 240 characters (own rule)
 abbrev pub piece_of_literal : Literal → Piece
 piece_of_literal (Closed characters size) =
-    if nat_lt 240 (length characters) then piece.Fault 0 fault.LongText else piece.Token (1 + size) (lexeme.Text characters)
+    if nat_lt 240 (length characters) then piece.Fault 0 fault.LongText
+    else piece.Token (1 + size) (lexeme.Text characters)
 piece_of_literal Open = piece.Fault 0 fault.OpenText
 piece_of_literal (BadByte at) = piece.Fault (1 + at) fault.BadByte
 
@@ -81,7 +84,8 @@ longest_symbol None (Some one) = piece.Token 1 (lexeme.Symbol one)
 longest_symbol None None = piece.Fault 0 fault.BadByte
 
 unfoldable pub symbol : List ℕ → Piece
-symbol bytes = longest_symbol (symbol_of_two (slice_index bytes 0) (slice_index bytes 1)) (symbol_of_one (slice_index bytes 0))
+symbol bytes = longest_symbol (symbol_of_two (slice_index bytes 0) (slice_index bytes 1))
+    (symbol_of_one (slice_index bytes 0))
 
 -- the piece at the front of bytes that are not at their end, by its first byte
 unfoldable pub first_piece : List ℕ → Piece

@@ -25,9 +25,11 @@ followed tokens (Ok more) = Ok (tokens ++ more)
 followed tokens (Err fault) = Err fault
 
 -- the piece at the front of the bytes at a position, and then the tokens of what is left behind it
-abbrev pub with_piece : Position → List ℕ → Piece → (ℕ → Result (List Token) LexFault) → Result (List Token) LexFault
+abbrev pub with_piece : Position → List ℕ → Piece → (ℕ → Result (List Token) LexFault)
+    → Result (List Token) LexFault
 with_piece position bytes (piece.Separator size) rest = rest size
-with_piece position bytes (piece.Token size lexeme) rest = followed (token_at position lexeme ∷ []) (rest size)
+with_piece position bytes (piece.Token size lexeme) rest =
+    followed (token_at position lexeme ∷ []) (rest size)
 with_piece position bytes (piece.Fault at kind) rest = Err (fault_at (past position (take at bytes)) kind)
 
 -- the tokens of the bytes at a position, where the first `left` bytes still belong to the piece before
@@ -35,7 +37,8 @@ abbrev pub tokens_from : Position → ℕ → List ℕ → Result (List Token) L
 tokens_from position left [] = Ok []
 tokens_from position (suc left) (b ∷ bytes) = tokens_from (next position b) left bytes
 tokens_from position zero (b ∷ bytes) =
-    with_piece position (b ∷ bytes) (first_piece (b ∷ bytes)) (λ size. tokens_from (next position b) (size - 1) bytes)
+    with_piece position (b ∷ bytes) (first_piece (b ∷ bytes))
+    (λ size. tokens_from (next position b) (size - 1) bytes)
 
 -- the tokens of a text with their first bytes, or its first fault
 unfoldable pub reading : List ℕ → Result (List Token) LexFault

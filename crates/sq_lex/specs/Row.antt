@@ -6,5 +6,7 @@ use Rattle.sq_lex.specs.Spelling.{IsLongest, IsSeparator}
 -- the first bytes of a text, up to the given one, are separators and these tokens, each the longest spelling where it starts
 pub data IsRow (text : List ℕ) : ℕ → List Token → Type 0 where
   nothing : IsRow text 0 []
-  separator : (at size : ℕ) (tokens : List Token) → IsRow text at tokens → IsSeparator (drop at text) size → IsRow text (at + size) tokens
-  token : (at size : ℕ) (tokens : List Token) (t : Token) → IsRow text at tokens → IsLongest (drop at text) size t.lexeme → t.start ≡ at → IsRow text (at + size) (tokens ++ t ∷ [])
+  separator : (at size : ℕ) (tokens : List Token) → IsRow text at tokens → IsSeparator (drop at text) size
+      → IsRow text (at + size) tokens
+  token : (at size : ℕ) (tokens : List Token) (t : Token) → IsRow text at tokens
+      → IsLongest (drop at text) size t.lexeme → t.start ≡ at → IsRow text (at + size) (tokens ++ t ∷ [])

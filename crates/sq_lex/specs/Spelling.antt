@@ -46,8 +46,11 @@ symbol_codes symbol.GreaterOrEqual = codes ">="
 
 -- the rows of the table of tokens: a word is folded to upper case, and is a name where it is not reserved
 abbrev pub IsSpelling : List ℕ → Lexeme → Type 0
-IsSpelling bytes (lexeme.Word word) = IsWordSpelling bytes × (reserved (map to_ascii_uppercase bytes) ≡ Some word)
-IsSpelling bytes (lexeme.Name name) = IsWordSpelling bytes × (name ≡ map to_ascii_uppercase bytes) × (reserved (map to_ascii_uppercase bytes) ≡ None)
+IsSpelling bytes (lexeme.Word word) =
+    IsWordSpelling bytes × (reserved (map to_ascii_uppercase bytes) ≡ Some word)
+IsSpelling bytes (lexeme.Name name) =
+    IsWordSpelling bytes × (name ≡ map to_ascii_uppercase bytes)
+    × (reserved (map to_ascii_uppercase bytes) ≡ None)
 IsSpelling bytes (lexeme.Number number) = (number ≡ bytes) × IsNumberSpelling bytes
 IsSpelling bytes (lexeme.Text characters) = IsTextSpelling bytes characters
 IsSpelling bytes (lexeme.Symbol s) = bytes ≡ symbol_codes s

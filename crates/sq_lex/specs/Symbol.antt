@@ -6,7 +6,8 @@ use Rattle.sq_lex.specs.declared.symbol.Symbol.TheVariants as symbol
 -- `<>` `<=` `>=`
 abbrev pub symbol_of_two : ℕ → ℕ → Option Symbol
 symbol_of_two a b =
-    if a == 60 then (if b == 62 then Some symbol.NotEqual else (if b == 61 then Some symbol.LessOrEqual else None))
+    if a == 60 then (if b == 62 then Some symbol.NotEqual
+    else (if b == 61 then Some symbol.LessOrEqual else None))
     else (if a == 62 then (if b == 61 then Some symbol.GreaterOrEqual else None)
     else None)
 

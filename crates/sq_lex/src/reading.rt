@@ -18,7 +18,8 @@ use std::alloc::Global;
 /// Between tokens stands only white space and comments, and each token is the longest spelling at its position.
 pub fn lex(alloc: Global, text: &[u8]) -> Result<Vec<Token>, LexError>
     ensures row { IfOk result (λ tokens. IsRow text.now (length text.now) tokens.items) }
-    ensures value { MatchResult result (λ tokens. reading text.now ≡ Ok tokens.items) (IsCause (reading text.now)) }
+    ensures value { MatchResult result
+        (λ tokens. reading text.now ≡ Ok tokens.items) (IsCause (reading text.now)) }
 {
     let mut tokens = Vec::new(alloc);
     let mut at = 0;
@@ -38,9 +39,14 @@ fn read_piece(
 ) -> Result<usize, LexError>
     requires { at < length text.now }
     ensures within { IfOk result (λ size. (0 < size) × (at + size ≤ length text.now)) }
-    ensures read { IfOk result (λ size. followed tokens.new.items (tokens_from (positions.position text.now (at + size)) 0 (drop (at + size) text.now)) ≡ followed tokens.old.items (tokens_from (positions.position text.now at) 0 (drop at text.now))) }
-    ensures row { IfOk result (λ size. IsRow text.now at tokens.old.items → IsRow text.now (at + size) tokens.new.items) }
-    ensures fault { IfErr result (IsCause (tokens_from (positions.position text.now at) 0 (drop at text.now))) }
+    ensures read { IfOk result
+        (λ size. followed tokens.new.items
+        (tokens_from (positions.position text.now (at + size)) 0 (drop (at + size) text.now))
+        ≡ followed tokens.old.items (tokens_from (positions.position text.now at) 0 (drop at text.now))) }
+    ensures row { IfOk result
+        (λ size. IsRow text.now at tokens.old.items → IsRow text.now (at + size) tokens.new.items) }
+    ensures fault { IfErr result
+        (IsCause (tokens_from (positions.position text.now at) 0 (drop at text.now))) }
 {
     match Piece::first(alloc, &text[at..])? {
         Piece::Separator(size) => Ok(size),

@@ -135,7 +135,8 @@ pub fn reserved(spelling: &[u8]) -> Option<Word>
 fn lookup_between(words: &[(&[u8], Word)], from: usize, to: usize, spelling: &[u8]) -> Option<Word>
     requires ordered { from ≤ to }
     requires within { to ≤ length words.now }
-    ensures { result ≡ spec.lookup (take (to - from) (drop from (map (λ entry. (entry.0.now, entry.1)) words.now))) spelling.now }
+    ensures { result ≡ spec.lookup
+        (take (to - from) (drop from (map (λ entry. (entry.0.now, entry.1)) words.now))) spelling.now }
 {
     lookup(&words[from..to], spelling)
 }

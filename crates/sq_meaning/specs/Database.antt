@@ -20,7 +20,8 @@ use Rattle.sq_meaning.specs.WellFormed.{HasValue, AreRowsOf, WellFormedSelect}
 abbrev pub IsBodyOf : Tables → Content → Name → List Kind → TableBody → Type 0
 IsBodyOf earlier content caller kinds (base_table place) = AreRowsOf kinds (rows_in (table_at content place))
 IsBodyOf earlier content caller kinds (viewed_table q check_option) =
-    WellFormedSelect (by_name earlier content caller) (kinds_by_name earlier []) (λ p. ⊥) [] q × (select_kinds (kinds_by_name earlier []) [] q ≡ Ok kinds)
+    WellFormedSelect (by_name earlier content caller) (kinds_by_name earlier []) (λ p. ⊥) [] q
+    × (select_kinds (kinds_by_name earlier []) [] q ≡ Ok kinds)
 
 abbrev pub IsDatabaseOf : Tables → Content → Name → Type 0
 IsDatabaseOf [] content caller = ⊤

@@ -145,4 +145,6 @@ items_in env = map (λ scope. scope.items) env.scopes
 
 -- the value at a place
 abbrev pub value_at : {H : Type 0} → Env H → Place → Outcome Value
-value_at env p = well_formed (option_and_then (λ scope. option_and_then (λ row. slice_get row p.column) (slice_get scope.line p.item)) (slice_get env.scopes p.depth))
+value_at env p = well_formed
+    (option_and_then (λ scope. option_and_then
+    (λ row. slice_get row p.column) (slice_get scope.line p.item)) (slice_get env.scopes p.depth))

@@ -167,7 +167,8 @@ abbrev pub groups_by : {N : Naming} → Reading N → List N.Column → List N.I
     → Outcome (List (List Line))
 groups_by m [] heads lines env = Ok (lines ∷ [])
 groups_by m (c ∷ by) heads lines env = do
-  keyed ← each (λ line. grouping_values m (c ∷ by) (within (alone heads line) env) >>= λ key. Ok (key, line)) lines
+  keyed ← each (λ line. grouping_values m (c ∷ by) (within (alone heads line) env)
+      >>= λ key. Ok (key, line)) lines
   Ok (grouped keyed)
 
 -- the groups, with all set functions computed once, group by group, for their statuses
@@ -182,7 +183,8 @@ group_scopes m functions by heads lines env = do
 abbrev pub scopes_of : {N : Naming} → Reading N → SelectList N → List N.Column → Clause N → List N.Item
     → List Line → Env N.Item → Outcome (List (Scope N.Item))
 scopes_of m list by having heads lines env =
-    if is_grouped list by having then group_scopes m (list_functions list ++ clause_functions having) by heads lines env
+    if is_grouped list by having
+    then group_scopes m (list_functions list ++ clause_functions having) by heads lines env
     else Ok (map (alone heads) lines)
 
 -- ---- the select list (7.9)

@@ -65,4 +65,5 @@ module _ {N : Naming} (may_fail : N.Table → Bool) where
 
     pub is_sure_select : Select N → Bool
     is_sure_select (select distinct list from filter by having) =
-        list_all (λ t. not (may_fail t)) from && is_sure_list list && is_sure_clause filter && is_sure_clause having
+        list_all (λ t. not (may_fail t)) from && is_sure_list list && is_sure_clause filter
+        && is_sure_clause having

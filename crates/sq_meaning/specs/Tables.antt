@@ -68,8 +68,10 @@ kind_at tables scopes p = do
 
 abbrev pub kinds_by_name : Tables → List Declared → Kinds Named
 kinds_by_name tables parameters = record {
-  column = λ c scopes. each (each (item_of tables)) scopes >>= λ items. place_of c items >>= kind_at tables scopes;
-  parameter = λ p. well_formed (option_map (λ d. kind_of d.domain) (find (λ d. same_name d.name p.name) parameters));
+  column = λ c scopes. each (each (item_of tables)) scopes >>= λ items. place_of c items
+      >>= kind_at tables scopes;
+  parameter = λ p. well_formed
+      (option_map (λ d. kind_of d.domain) (find (λ d. same_name d.name p.name) parameters));
   columns = λ r. descriptor_of tables r.table >>= λ d. Ok (column_kinds d);
 }
 
@@ -95,7 +97,8 @@ table_rows (d ∷ earlier) content caller name =
       | false ↦ table_rows earlier content caller name
       | true ↦ elim d.body as (λ _. Outcome (List Row)) [
         | base_table n ↦ Ok (rows_in (table_at content n))
-        | viewed_table q check_option ↦ rows (reading_by_name earlier (table_rows earlier content caller)) q (outermost [] caller)
+        | viewed_table q check_option ↦ rows (reading_by_name earlier (table_rows earlier content caller)) q
+            (outermost [] caller)
       ]
     ]
 

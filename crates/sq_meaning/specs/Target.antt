@@ -102,7 +102,11 @@ abbrev pub seen_through : Source → Target → Target
 seen_through source under = record {
   place = under.place;
   columns = map (λ k. slice_index under.columns k) source.columns;
-  levels = under.levels ++ record { item = source.item; columns = under.columns; condition = source.condition } ∷ [];
+  levels = under.levels ++ record {
+    item = source.item;
+    columns = under.columns;
+    condition = source.condition;
+  } ∷ [];
   demanded = under.demanded;
 }
 
@@ -124,7 +128,8 @@ target_of (d ∷ earlier) name =
       | false ↦ target_of earlier name
       | true ↦ elim d.body as (λ _. Outcome Target) [
         | base_table place ↦ Ok (base_target place (places_of d.columns))
-        | viewed_table q check_option ↦ updatable_source earlier q >>= view_target (target_of earlier) check_option
+        | viewed_table q check_option ↦ updatable_source earlier q
+            >>= view_target (target_of earlier) check_option
       ]
     ]
 

@@ -100,17 +100,20 @@ is_referenced values referenced = has_null values || list_any (same_row values) 
 -- the values of the referenced columns in all rows of the other table
 abbrev pub referenced_values : Elements → Content → TableName → References → List Row
 referenced_values elements content target references =
-    flat_map (λ t. flat_map (λ columns. map (values_in t columns) (rows_of_base elements content target)) (option_to_list (referenced_columns t references)))
+    flat_map (λ t. flat_map (λ columns. map (values_in t columns) (rows_of_base elements content target))
+    (option_to_list (referenced_columns t references)))
     (option_to_list (table_named elements target))
 
 abbrev pub reference_satisfied : Elements → Content → BaseTable → Reference → Bool
 reference_satisfied elements content t r =
-    list_all (λ row. is_referenced (values_in t.definition r.columns row) (referenced_values elements content (table_of t.name.user r.references.table) r.references))
+    list_all (λ row. is_referenced (values_in t.definition r.columns row)
+    (referenced_values elements content (table_of t.name.user r.references.table) r.references))
     (rows_of_base elements content t.name)
 
 abbrev pub references_satisfied : Elements → Content → BaseTable → Outcome (Unit {0})
 references_satisfied elements content t =
-    demanded (list_all (reference_satisfied elements content t) (table_references t.definition)) status.IntegrityConstraintViolation
+    demanded (list_all (reference_satisfied elements content t) (table_references t.definition))
+    status.IntegrityConstraintViolation
 
 -- ---- the first that fails
 

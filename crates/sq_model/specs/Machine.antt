@@ -81,7 +81,8 @@ abbrev pub set_cursor : Name → Name → CursorState → CursorEntry → Cursor
 set_cursor module_name name state c = if is_entry module_name name c then record c { state = state } else c
 
 abbrev pub with_cursor : State → Name → Name → CursorState → State
-with_cursor s module_name name state = record s { cursors = map (set_cursor module_name name state) s.cursors }
+with_cursor s module_name name state =
+    record s { cursors = map (set_cursor module_name name state) s.cursors }
 
 abbrev pub closed_entry : CursorEntry → CursorEntry
 closed_entry c = record c { state = CursorState.closed }
@@ -136,7 +137,8 @@ moved r name state = with_cursor r.state r.in_module.name name state
 
 abbrev pub sorted_query : Running → Cursor → List SortColumn → Outcome (List Row)
 sorted_query r c order =
-    ordered_rows (reading (setting r)) (kinds_by_name (tables_of r.program.elements) (surroundings r).parameters)
+    ordered_rows (reading (setting r))
+    (kinds_by_name (tables_of r.program.elements) (surroundings r).parameters)
     (cursor_query (surroundings r) c) order (outer_env (setting r))
 
 -- the columns that ORDER BY sorts by
@@ -157,7 +159,8 @@ numbers_or_rows r c None = do
   found ← cursor_rows r c
   Ok (before_rows found)
 numbers_or_rows r c (Some target) = do
-  numbers ← chosen_numbers (reading (setting r)) (outer_env (setting r)) target (rows_at (setting r) target.place)
+  numbers ← chosen_numbers (reading (setting r)) (outer_env (setting r)) target
+      (rows_at (setting r) target.place)
   Ok (before_numbers numbers)
 
 abbrev pub opened : Running → Cursor → Outcome CursorState
@@ -216,14 +219,17 @@ fetch_to r f reached = (moved r f.cursor reached.cursor, fetch_reply r f reached
 abbrev pub fetch_cursor : Running → Fetch → Cursor → Outcomes
 fetch_cursor r f c =
     if is_open (cursor_now r f.cursor)
-    then fetch_to r f (fetched (shown_now r (updatable_cursor (surroundings r) c)) (move_of r.parameters (orientation_of f)) (cursor_now r f.cursor))
+    then fetch_to r f (fetched (shown_now r (updatable_cursor (surroundings r) c))
+    (move_of r.parameters (orientation_of f)) (cursor_now r f.cursor))
     else ends_with r status.InvalidCursorState
 
 -- ---- CLOSE (13.4)
 
 abbrev pub close_cursor : Running → Name → Outcomes
 close_cursor r name =
-    if is_open (cursor_now r name) then (moved r name CursorState.closed, replied_with status.SuccessfulCompletion) else ends_with r status.InvalidCursorState
+    if is_open (cursor_now r name)
+    then (moved r name CursorState.closed, replied_with status.SuccessfulCompletion)
+    else ends_with r status.InvalidCursorState
 
 -- ---- SELECT INTO (13.5)
 
@@ -259,7 +265,9 @@ row_is_there r target number = option_map (λ row. number) (numbered_row (settin
 
 abbrev pub current_number : Running → Name → Option ℕ
 current_number r cursor =
-    option_and_then (λ c. option_and_then (λ target. option_and_then (row_is_there r target) (number_on (cursor_now r cursor))) (updatable_cursor (surroundings r) c))
+    option_and_then (λ c. option_and_then
+    (λ target. option_and_then (row_is_there r target) (number_on (cursor_now r cursor)))
+    (updatable_cursor (surroundings r) c))
     (cursor_named r.in_module cursor)
 
 -- the rows that UPDATE and DELETE change; a positioned statement needs a cursor that is on a row that is there

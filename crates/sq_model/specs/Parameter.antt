@@ -66,14 +66,23 @@ indicated (Some indicator) n = record { name = indicator.name; value = whole n }
 -- null is retrieved beside an indicator alone
 abbrev pub null_retrieved : Parameter → Outcome Retrieval
 null_retrieved target = and_then (or_status status.NullWithoutIndicator target.indicator) (λ indicator.
-    Ok (record { assignments = record { name = target.name; value = value.Null } ∷ indicated (Some indicator) (negsuc 0); cut = false }))
+    Ok (record {
+      assignments = record {
+        name = target.name;
+        value = value.Null;
+      } ∷ indicated (Some indicator) (negsuc 0);
+      cut = false;
+    }))
 
 abbrev pub length_before_cut : Retrieved → ℤ
 length_before_cut r = pos (unwrap_or r.uncut 0)
 
 abbrev pub value_retrieved : Parameter → Retrieved → Retrieval
 value_retrieved target r = record {
-  assignments = record { name = target.name; value = r.value } ∷ indicated target.indicator (length_before_cut r);
+  assignments = record {
+    name = target.name;
+    value = r.value;
+  } ∷ indicated target.indicator (length_before_cut r);
   cut = is_some r.uncut;
 }
 
@@ -94,7 +103,8 @@ abbrev pub row_retrieved : Parameters → List Parameter → List Value → Outc
 row_retrieved parameters [] row = Ok []
 row_retrieved parameters (target ∷ targets) [] = Ok []
 row_retrieved parameters (target ∷ targets) (v ∷ vs) =
-    and_then (target_set (domain_of_parameter parameters target.name) target v) (λ r. and_then (row_retrieved parameters targets vs) (λ rs. Ok (r ∷ rs)))
+    and_then (target_set (domain_of_parameter parameters target.name) target v)
+    (λ r. and_then (row_retrieved parameters targets vs) (λ rs. Ok (r ∷ rs)))
 
 -- ---- what a call answers
 

@@ -40,7 +40,8 @@ output_codes o = codes " " ++ o.name ++ codes "=" ++ value_codes o.value
 
 abbrev pub call_line : Call → Reply → Bytes
 call_line c reply =
-    c.in_module ++ codes "." ++ c.procedure ++ codes " " ++ status_codes reply.status ++ flat_map output_codes reply.outputs ++ codes "\n"
+    c.in_module ++ codes "." ++ c.procedure ++ codes " " ++ status_codes reply.status
+    ++ flat_map output_codes reply.outputs ++ codes "\n"
 
 -- ---- a table
 

@@ -56,7 +56,8 @@ AreOfOthers «module» cursors = list_any (is_in «module») cursors ≡ false
 -- the cursors of the module are among those that these procedures open
 abbrev pub OpenedBy : Name → List AdmittedProcedure → List DeclaredCursor → Type 0
 OpenedBy «module» procedures cursors =
-    AllByRecursion (λ c. is_in «module» c ≡ true → list_any (is_some_name c.name) (openings procedures) ≡ true)
+    AllByRecursion (λ c. is_in «module» c ≡ true → list_any (is_some_name c.name) (openings procedures)
+    ≡ true)
     cursors
 
 -- the cursor of this name in the module is not there

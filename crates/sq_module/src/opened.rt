@@ -160,7 +160,8 @@ impl Program {
         ensures others { (name : AnyName) → same_name name «module».now.name ≡ false
             → AreOfOthers name self.old.cursors.items
             → OnOk result (AreOfOthers name self.new.cursors.items) }
-        ensures opened_by { (procedures : List AnyProcedure) → list_any (is_some_name name) (openings procedures)
+        ensures opened_by { (procedures : List AnyProcedure)
+            → list_any (is_some_name name) (openings procedures)
             ≡ true
             → OpenedBy «module».now.name procedures self.old.cursors.items
             → OnOk result (OpenedBy «module».now.name procedures self.new.cursors.items) }

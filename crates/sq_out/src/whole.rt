@@ -17,7 +17,8 @@ pub fn write_whole<W: Out>(out: &mut W, bytes: &[u8]) -> Result<(), usize>
 
     // A fault comes with fewer bytes taken than there are, and the first of them.
     ensures within { IfErr result (λ count. count < length bytes.now) }
-    ensures fault { IfErr result (λ count. Appends (W.taken out.old) (W.taken out.new) (take count bytes.now)) }
+    ensures fault { IfErr result
+        (λ count. Appends (W.taken out.old) (W.taken out.new) (take count bytes.now)) }
     ensures failed { OnErr result (W.failed out.new ≡ true) }
 {
     let mut taken = 0;

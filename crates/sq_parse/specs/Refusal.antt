@@ -11,7 +11,8 @@ use Rattle.sq_reader.specs.declared.stop.Stop.TheVariants as stop
 -- The refusal at the token of this index. A bracket too many takes precedence over any other fault of its token.
 abbrev pub refusal_at : Tokens → ℕ → ParseError
 refusal_at ts index =
-    if nat_lt index (length ts) then (if is_too_deep ts index then TooDeep index else Unexpected index) else EndOfText
+    if nat_lt index (length ts) then (if is_too_deep ts index then TooDeep index else Unexpected index)
+    else EndOfText
 
 -- What a reading of a text's tokens comes to: the tree, or the refusal at the token where the reading is stuck.
 abbrev pub answer : {T : Type 0} → Tokens → Outcome T → Result T ParseError
@@ -44,7 +45,8 @@ IsRefusal ts EndOfText = Unit {0}
 abbrev pub HasNoTree : {T : Type 0} → (T → Tokens) → (T → ℕ) → Tokens → ParseError → Type 0
 HasNoTree tokens_of depth_of ts NoMemory = Unit {0}
 HasNoTree {T = T} tokens_of depth_of ts (Unexpected index) = (tree : T) → tokens_of tree ≡ ts → ⊥
-HasNoTree {T = T} tokens_of depth_of ts (TooDeep index) = (tree : T) → tokens_of tree ≡ ts → MAX_DEPTH < depth_of tree
+HasNoTree {T = T} tokens_of depth_of ts (TooDeep index) =
+    (tree : T) → tokens_of tree ≡ ts → MAX_DEPTH < depth_of tree
 HasNoTree {T = T} tokens_of depth_of ts EndOfText = (tree : T) → tokens_of tree ≡ ts → ⊥
 
 -- The refusal of a text where reading stops.

@@ -120,7 +120,9 @@ fn rows_shown<'s, S: Store>(session: &'s Session<S>, shown: &ShowAction) -> Tabl
 
 /// The line before a table's rows.
 fn table_line(alloc: Global, user: Name, table: Name, rows: usize) -> Result<Vec<u8>, AllocError>
-    ensures { IfOk result (λ line. line.items ≡ codes "TABLE " ++ user ++ codes "." ++ table ++ codes " " ++ decimal rows ++ codes "\n") }
+    ensures { IfOk result
+        (λ line. line.items ≡ codes "TABLE " ++ user ++ codes "." ++ table ++ codes " " ++ decimal rows
+        ++ codes "\n") }
 {
     let mut line = Vec::from_slice(alloc, b"TABLE ")?;
     write_names(user, table, &mut line)?;

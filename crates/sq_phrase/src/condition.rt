@@ -47,7 +47,9 @@ impl<F: Fn(Global, &mut Reader<'_>, usize) -> Result<CondOrExpr<Cond>, Stop>> Gr
     #[tactic(auto, unfolding(sq_grammar::specs::Cond::predicate_from))]
     fn predicate_from(&self, tokens: &mut Reader<'_>, left: Expr) -> Result<CondOrExpr<Body>, Stop>
         requires { Nests spec.inside self.now.left (F.pre self.now.inner) (F.post self.now.inner) }
-        ensures value { Reads (spec.predicate_from self.now.left (spec.inside self.now.left) left tokens.old) result tokens.new }
+        ensures value { Reads
+            (spec.predicate_from self.now.left (spec.inside self.now.left) left tokens.old) result
+            tokens.new }
         ensures no_longer { OnOk result (length tokens.new ≤ length tokens.old) }
     {
         match self.tail(tokens) {
@@ -63,7 +65,8 @@ impl<F: Fn(Global, &mut Reader<'_>, usize) -> Result<CondOrExpr<Cond>, Stop>> Gr
     #[tactic(auto, unfolding(sq_grammar::specs::Cond::bracket))]
     fn bracket(&self, tokens: &mut Reader<'_>) -> Result<CondOrExpr<Body>, Stop>
         requires { Nests spec.inside self.now.left (F.pre self.now.inner) (F.post self.now.inner) }
-        ensures value { Reads (spec.bracket self.now.left (spec.inside self.now.left) tokens.old) result tokens.new }
+        ensures value { Reads
+            (spec.bracket self.now.left (spec.inside self.now.left) tokens.old) result tokens.new }
         ensures shorter { OnOk result (length tokens.new < length tokens.old) }
     {
         tokens.open(self.left)?;
@@ -88,7 +91,8 @@ impl<F: Fn(Global, &mut Reader<'_>, usize) -> Result<CondOrExpr<Cond>, Stop>> Gr
     #[tactic(auto, unfolding(sq_grammar::specs::Cond::body))]
     fn body(&self, tokens: &mut Reader<'_>) -> Result<CondOrExpr<Body>, Stop>
         requires { Nests spec.inside self.now.left (F.pre self.now.inner) (F.post self.now.inner) }
-        ensures value { Reads (spec.body self.now.left (spec.inside self.now.left) tokens.old) result tokens.new }
+        ensures value { Reads
+            (spec.body self.now.left (spec.inside self.now.left) tokens.old) result tokens.new }
         ensures shorter { OnOk result (length tokens.new < length tokens.old) }
     {
         if tokens.eat_word(Word::Exists) {
@@ -106,7 +110,8 @@ impl<F: Fn(Global, &mut Reader<'_>, usize) -> Result<CondOrExpr<Cond>, Stop>> Gr
     #[tactic(auto, unfolding(sq_grammar::specs::Cond::test_at))]
     fn test(&self, tokens: &mut Reader<'_>) -> Result<CondOrExpr<Test>, Stop>
         requires { Nests spec.inside self.now.left (F.pre self.now.inner) (F.post self.now.inner) }
-        ensures value { Reads (spec.test_at self.now.left (spec.inside self.now.left) tokens.old) result tokens.new }
+        ensures value { Reads
+            (spec.test_at self.now.left (spec.inside self.now.left) tokens.old) result tokens.new }
         ensures shorter { OnOk result (length tokens.new < length tokens.old) }
     {
         let negated = tokens.eat_word(Word::Not);
@@ -125,7 +130,8 @@ impl<F: Fn(Global, &mut Reader<'_>, usize) -> Result<CondOrExpr<Cond>, Stop>> Gr
     #[tactic(auto, unfolding(sq_grammar::specs::Cond::must_be_test))]
     fn must_be_test(&self, tokens: &mut Reader<'_>) -> Result<Test, Stop>
         requires { Nests spec.inside self.now.left (F.pre self.now.inner) (F.post self.now.inner) }
-        ensures value { Reads (spec.must_be_test self.now.left (spec.inside self.now.left) tokens.old) result tokens.new }
+        ensures value { Reads
+            (spec.must_be_test self.now.left (spec.inside self.now.left) tokens.old) result tokens.new }
         ensures shorter { OnOk result (length tokens.new < length tokens.old) }
     {
         match self.test(tokens)? {
@@ -141,7 +147,9 @@ impl<F: Fn(Global, &mut Reader<'_>, usize) -> Result<CondOrExpr<Cond>, Stop>> Gr
     #[tactic(auto, using(sq_grammar::proofs::Many::loops))]
     fn more_tests(&self, tokens: &mut Reader<'_>) -> Result<Items<Test>, Stop>
         requires { Nests spec.inside self.now.left (F.pre self.now.inner) (F.post self.now.inner) }
-        ensures value { Reads (all (behind (lexeme.Word word.And) (spec.must_be_test self.now.left (spec.inside self.now.left))) tokens.old) result tokens.new }
+        ensures value { Reads
+            (all (behind (lexeme.Word word.And)
+            (spec.must_be_test self.now.left (spec.inside self.now.left))) tokens.old) result tokens.new }
         ensures no_longer { OnOk result (length tokens.new ≤ length tokens.old) }
     {
         let mut items = Items::new(self.alloc);
@@ -155,7 +163,8 @@ impl<F: Fn(Global, &mut Reader<'_>, usize) -> Result<CondOrExpr<Cond>, Stop>> Gr
     #[tactic(auto, unfolding(sq_grammar::specs::Cond::conj))]
     fn conj(&self, tokens: &mut Reader<'_>) -> Result<CondOrExpr<Conj>, Stop>
         requires { Nests spec.inside self.now.left (F.pre self.now.inner) (F.post self.now.inner) }
-        ensures value { Reads (spec.conj self.now.left (spec.inside self.now.left) tokens.old) result tokens.new }
+        ensures value { Reads
+            (spec.conj self.now.left (spec.inside self.now.left) tokens.old) result tokens.new }
         ensures shorter { OnOk result (length tokens.new < length tokens.old) }
     {
         match self.test(tokens)? {
@@ -175,7 +184,8 @@ impl<F: Fn(Global, &mut Reader<'_>, usize) -> Result<CondOrExpr<Cond>, Stop>> Gr
     #[tactic(auto, unfolding(sq_grammar::specs::Cond::must_be_conj))]
     fn must_be_conj(&self, tokens: &mut Reader<'_>) -> Result<Conj, Stop>
         requires { Nests spec.inside self.now.left (F.pre self.now.inner) (F.post self.now.inner) }
-        ensures value { Reads (spec.must_be_conj self.now.left (spec.inside self.now.left) tokens.old) result tokens.new }
+        ensures value { Reads
+            (spec.must_be_conj self.now.left (spec.inside self.now.left) tokens.old) result tokens.new }
         ensures shorter { OnOk result (length tokens.new < length tokens.old) }
     {
         match self.conj(tokens)? {
@@ -191,7 +201,9 @@ impl<F: Fn(Global, &mut Reader<'_>, usize) -> Result<CondOrExpr<Cond>, Stop>> Gr
     #[tactic(auto, using(sq_grammar::proofs::Many::loops))]
     fn more_conjs(&self, tokens: &mut Reader<'_>) -> Result<Items<Conj>, Stop>
         requires { Nests spec.inside self.now.left (F.pre self.now.inner) (F.post self.now.inner) }
-        ensures value { Reads (all (behind (lexeme.Word word.Or) (spec.must_be_conj self.now.left (spec.inside self.now.left))) tokens.old) result tokens.new }
+        ensures value { Reads
+            (all (behind (lexeme.Word word.Or)
+            (spec.must_be_conj self.now.left (spec.inside self.now.left))) tokens.old) result tokens.new }
         ensures no_longer { OnOk result (length tokens.new ≤ length tokens.old) }
     {
         let mut items = Items::new(self.alloc);
@@ -206,7 +218,8 @@ impl<F: Fn(Global, &mut Reader<'_>, usize) -> Result<CondOrExpr<Cond>, Stop>> Gr
     #[tactic(auto, unfolding(sq_grammar::specs::Cond::level))]
     fn cond_or_expr(&self, tokens: &mut Reader<'_>) -> Result<CondOrExpr<Cond>, Stop>
         requires { Nests spec.inside self.now.left (F.pre self.now.inner) (F.post self.now.inner) }
-        ensures value { Reads (spec.level self.now.left (spec.inside self.now.left) tokens.old) result tokens.new }
+        ensures value { Reads
+            (spec.level self.now.left (spec.inside self.now.left) tokens.old) result tokens.new }
         ensures shorter { OnOk result (length tokens.new < length tokens.old) }
     {
         match self.conj(tokens)? {

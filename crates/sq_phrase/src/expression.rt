@@ -96,7 +96,9 @@ impl<F: Fn(Global, &mut Reader<'_>, usize) -> Result<Expr, Stop>> Grammar<F> {
     #[tactic(auto, unfolding(sq_grammar::specs::Expr::set_function))]
     fn set_function(&self, tokens: &mut Reader<'_>, function: SetFunction) -> Result<Primary, Stop>
         requires { Nests spec.inside self.now.left (F.pre self.now.inner) (F.post self.now.inner) }
-        ensures value { Reads (spec.set_function self.now.left (spec.inside self.now.left) function tokens.old) result tokens.new }
+        ensures value { Reads
+            (spec.set_function self.now.left (spec.inside self.now.left) function tokens.old) result
+            tokens.new }
         ensures shorter { OnOk result (length tokens.new < length tokens.old) }
     {
         tokens.open(self.left)?;
@@ -117,7 +119,8 @@ impl<F: Fn(Global, &mut Reader<'_>, usize) -> Result<Expr, Stop>> Grammar<F> {
     #[tactic(auto, unfolding(sq_grammar::specs::Expr::bracketed))]
     fn bracketed(&self, tokens: &mut Reader<'_>) -> Result<Primary, Stop>
         requires { Nests spec.inside self.now.left (F.pre self.now.inner) (F.post self.now.inner) }
-        ensures value { Reads (spec.bracketed self.now.left (spec.inside self.now.left) tokens.old) result tokens.new }
+        ensures value { Reads
+            (spec.bracketed self.now.left (spec.inside self.now.left) tokens.old) result tokens.new }
         ensures shorter { OnOk result (length tokens.new < length tokens.old) }
     {
         tokens.open(self.left)?;
@@ -133,7 +136,8 @@ impl<F: Fn(Global, &mut Reader<'_>, usize) -> Result<Expr, Stop>> Grammar<F> {
     #[tactic(auto, unfolding(sq_grammar::specs::Expr::primary_at))]
     fn primary(&self, tokens: &mut Reader<'_>) -> Result<Primary, Stop>
         requires { Nests spec.inside self.now.left (F.pre self.now.inner) (F.post self.now.inner) }
-        ensures value { Reads (spec.primary_at self.now.left (spec.inside self.now.left) tokens.old) result tokens.new }
+        ensures value { Reads
+            (spec.primary_at self.now.left (spec.inside self.now.left) tokens.old) result tokens.new }
         ensures shorter { OnOk result (length tokens.new < length tokens.old) }
     {
         match tokens.first() {
@@ -159,7 +163,8 @@ impl<F: Fn(Global, &mut Reader<'_>, usize) -> Result<Expr, Stop>> Grammar<F> {
     /// A primary that begins with a symbol.
     fn symbol_primary(&self, tokens: &mut Reader<'_>) -> Result<Primary, Stop>
         requires { Nests spec.inside self.now.left (F.pre self.now.inner) (F.post self.now.inner) }
-        ensures value { Reads (spec.symbol_primary self.now.left (spec.inside self.now.left) tokens.old) result tokens.new }
+        ensures value { Reads
+            (spec.symbol_primary self.now.left (spec.inside self.now.left) tokens.old) result tokens.new }
         ensures shorter { OnOk result (length tokens.new < length tokens.old) }
     {
         if tokens.eat(Symbol::Colon) {
@@ -172,7 +177,8 @@ impl<F: Fn(Global, &mut Reader<'_>, usize) -> Result<Expr, Stop>> Grammar<F> {
     /// A primary that begins with a reserved word or a bracket.
     fn word_primary(&self, tokens: &mut Reader<'_>) -> Result<Primary, Stop>
         requires { Nests spec.inside self.now.left (F.pre self.now.inner) (F.post self.now.inner) }
-        ensures value { Reads (spec.word_primary self.now.left (spec.inside self.now.left) tokens.old) result tokens.new }
+        ensures value { Reads
+            (spec.word_primary self.now.left (spec.inside self.now.left) tokens.old) result tokens.new }
         ensures shorter { OnOk result (length tokens.new < length tokens.old) }
     {
         if tokens.eat_word(Word::User) {
@@ -187,7 +193,8 @@ impl<F: Fn(Global, &mut Reader<'_>, usize) -> Result<Expr, Stop>> Grammar<F> {
     #[tactic(auto, unfolding(sq_grammar::specs::Expr::factor))]
     fn factor(&self, tokens: &mut Reader<'_>) -> Result<Factor, Stop>
         requires { Nests spec.inside self.now.left (F.pre self.now.inner) (F.post self.now.inner) }
-        ensures value { Reads (spec.factor self.now.left (spec.inside self.now.left) tokens.old) result tokens.new }
+        ensures value { Reads
+            (spec.factor self.now.left (spec.inside self.now.left) tokens.old) result tokens.new }
         ensures shorter { OnOk result (length tokens.new < length tokens.old) }
     {
         let sign = sign_if_any(tokens);
@@ -198,7 +205,8 @@ impl<F: Fn(Global, &mut Reader<'_>, usize) -> Result<Expr, Stop>> Grammar<F> {
     #[tactic(auto, unfolding(sq_grammar::specs::Expr::scaled))]
     fn scaled(&self, tokens: &mut Reader<'_>) -> Result<Option<Scaled>, Stop>
         requires { Nests spec.inside self.now.left (F.pre self.now.inner) (F.post self.now.inner) }
-        ensures value { Reads (spec.scaled self.now.left (spec.inside self.now.left) tokens.old) result tokens.new }
+        ensures value { Reads
+            (spec.scaled self.now.left (spec.inside self.now.left) tokens.old) result tokens.new }
         ensures shorter { IfOk result (λ item. OnSome item (length tokens.new < length tokens.old)) }
         ensures no_longer { OnOk result (length tokens.new ≤ length tokens.old) }
     {
@@ -212,7 +220,8 @@ impl<F: Fn(Global, &mut Reader<'_>, usize) -> Result<Expr, Stop>> Grammar<F> {
     #[tactic(auto, using(sq_grammar::proofs::Many::loops))]
     fn all_scaled(&self, tokens: &mut Reader<'_>) -> Result<Items<Scaled>, Stop>
         requires { Nests spec.inside self.now.left (F.pre self.now.inner) (F.post self.now.inner) }
-        ensures value { Reads (all (spec.scaled self.now.left (spec.inside self.now.left)) tokens.old) result tokens.new }
+        ensures value { Reads
+            (all (spec.scaled self.now.left (spec.inside self.now.left)) tokens.old) result tokens.new }
         ensures no_longer { OnOk result (length tokens.new ≤ length tokens.old) }
     {
         let mut items = Items::new(self.alloc);
@@ -225,7 +234,8 @@ impl<F: Fn(Global, &mut Reader<'_>, usize) -> Result<Expr, Stop>> Grammar<F> {
     #[tactic(auto, unfolding(sq_grammar::specs::Expr::term))]
     fn term(&self, tokens: &mut Reader<'_>) -> Result<Term, Stop>
         requires { Nests spec.inside self.now.left (F.pre self.now.inner) (F.post self.now.inner) }
-        ensures value { Reads (spec.term self.now.left (spec.inside self.now.left) tokens.old) result tokens.new }
+        ensures value { Reads
+            (spec.term self.now.left (spec.inside self.now.left) tokens.old) result tokens.new }
         ensures shorter { OnOk result (length tokens.new < length tokens.old) }
     {
         let first = self.factor(tokens)?;
@@ -241,7 +251,8 @@ impl<F: Fn(Global, &mut Reader<'_>, usize) -> Result<Expr, Stop>> Grammar<F> {
     #[tactic(auto, unfolding(sq_grammar::specs::Expr::added))]
     fn added(&self, tokens: &mut Reader<'_>) -> Result<Option<Added>, Stop>
         requires { Nests spec.inside self.now.left (F.pre self.now.inner) (F.post self.now.inner) }
-        ensures value { Reads (spec.added self.now.left (spec.inside self.now.left) tokens.old) result tokens.new }
+        ensures value { Reads
+            (spec.added self.now.left (spec.inside self.now.left) tokens.old) result tokens.new }
         ensures shorter { IfOk result (λ item. OnSome item (length tokens.new < length tokens.old)) }
         ensures no_longer { OnOk result (length tokens.new ≤ length tokens.old) }
     {
@@ -255,7 +266,8 @@ impl<F: Fn(Global, &mut Reader<'_>, usize) -> Result<Expr, Stop>> Grammar<F> {
     #[tactic(auto, using(sq_grammar::proofs::Many::loops))]
     fn all_added(&self, tokens: &mut Reader<'_>) -> Result<Items<Added>, Stop>
         requires { Nests spec.inside self.now.left (F.pre self.now.inner) (F.post self.now.inner) }
-        ensures value { Reads (all (spec.added self.now.left (spec.inside self.now.left)) tokens.old) result tokens.new }
+        ensures value { Reads
+            (all (spec.added self.now.left (spec.inside self.now.left)) tokens.old) result tokens.new }
         ensures no_longer { OnOk result (length tokens.new ≤ length tokens.old) }
     {
         let mut items = Items::new(self.alloc);
@@ -268,7 +280,8 @@ impl<F: Fn(Global, &mut Reader<'_>, usize) -> Result<Expr, Stop>> Grammar<F> {
     #[tactic(auto, unfolding(sq_grammar::specs::Expr::level))]
     fn expr(&self, tokens: &mut Reader<'_>) -> Result<Expr, Stop>
         requires { Nests spec.inside self.now.left (F.pre self.now.inner) (F.post self.now.inner) }
-        ensures value { Reads (spec.level self.now.left (spec.inside self.now.left) tokens.old) result tokens.new }
+        ensures value { Reads
+            (spec.level self.now.left (spec.inside self.now.left) tokens.old) result tokens.new }
         ensures shorter { OnOk result (length tokens.new < length tokens.old) }
     {
         let first = self.term(tokens)?;
@@ -284,7 +297,8 @@ impl<F: Fn(Global, &mut Reader<'_>, usize) -> Result<Expr, Stop>> Grammar<F> {
     #[tactic(auto, unfolding(sq_grammar::specs::Expr::level_from))]
     fn expr_from(&self, tokens: &mut Reader<'_>, primary: Primary) -> Result<Expr, Stop>
         requires { Nests spec.inside self.now.left (F.pre self.now.inner) (F.post self.now.inner) }
-        ensures value { Reads (spec.level_from self.now.left (spec.inside self.now.left) primary tokens.old) result tokens.new }
+        ensures value { Reads
+            (spec.level_from self.now.left (spec.inside self.now.left) primary tokens.old) result tokens.new }
         ensures no_longer { OnOk result (length tokens.new ≤ length tokens.old) }
     {
         let rest = match self.all_scaled(tokens) {

@@ -88,7 +88,8 @@ fn boxed_expr(alloc: Global, tokens: &mut Reader<'_>, left: usize) -> Result<Box
 
 /// `[ ESCAPE expr ]`.
 fn escape(alloc: Global, tokens: &mut Reader<'_>, left: usize) -> Result<Option<Boxed<Expr>>, Stop>
-    ensures value { Reads (behind (lexeme.Word word.Escape) (expressions.expr left) tokens.old) result tokens.new }
+    ensures value { Reads
+        (behind (lexeme.Word word.Escape) (expressions.expr left) tokens.old) result tokens.new }
     ensures no_longer { OnOk result (length tokens.new ≤ length tokens.old) }
 {
     if !tokens.eat_word(Word::Escape) {
@@ -103,7 +104,9 @@ impl<F: Fn(Global, &mut Reader<'_>, usize) -> Result<CondOrExpr<Cond>, Stop>> Gr
     #[tactic(auto, unfolding(sq_grammar::specs::Cond::comparison_tail))]
     fn comparison_tail(&self, tokens: &mut Reader<'_>, comparison: Comparison) -> Result<Tail, Stop>
         requires { Nests spec.inside self.now.left (F.pre self.now.inner) (F.post self.now.inner) }
-        ensures value { Reads (spec.comparison_tail self.now.left (spec.inside self.now.left) comparison tokens.old) result tokens.new }
+        ensures value { Reads
+            (spec.comparison_tail self.now.left (spec.inside self.now.left) comparison tokens.old) result
+            tokens.new }
         ensures no_longer { OnOk result (length tokens.new ≤ length tokens.old) }
     {
         let compared = compared_if_any(tokens);
@@ -119,7 +122,9 @@ impl<F: Fn(Global, &mut Reader<'_>, usize) -> Result<CondOrExpr<Cond>, Stop>> Gr
     /// `BETWEEN expr AND expr`, whose first word is read already.
     #[tactic(auto, unfolding(sq_grammar::specs::Cond::between_tail))]
     fn between_tail(&self, tokens: &mut Reader<'_>, negated: bool) -> Result<Tail, Stop>
-        ensures value { Reads (spec.between_tail self.now.left (spec.inside self.now.left) negated tokens.old) result tokens.new }
+        ensures value { Reads
+            (spec.between_tail self.now.left (spec.inside self.now.left) negated tokens.old) result
+            tokens.new }
         ensures no_longer { OnOk result (length tokens.new ≤ length tokens.old) }
     {
         let low = expr(self.alloc, tokens, self.left)?;
@@ -140,7 +145,8 @@ impl<F: Fn(Global, &mut Reader<'_>, usize) -> Result<CondOrExpr<Cond>, Stop>> Gr
     #[tactic(auto, unfolding(sq_grammar::specs::Cond::in_tail))]
     fn in_tail(&self, tokens: &mut Reader<'_>, negated: bool) -> Result<Tail, Stop>
         requires { Nests spec.inside self.now.left (F.pre self.now.inner) (F.post self.now.inner) }
-        ensures value { Reads (spec.in_tail self.now.left (spec.inside self.now.left) negated tokens.old) result tokens.new }
+        ensures value { Reads
+            (spec.in_tail self.now.left (spec.inside self.now.left) negated tokens.old) result tokens.new }
         ensures no_longer { OnOk result (length tokens.new ≤ length tokens.old) }
     {
         tokens.open(self.left)?;
@@ -166,7 +172,8 @@ impl<F: Fn(Global, &mut Reader<'_>, usize) -> Result<CondOrExpr<Cond>, Stop>> Gr
     /// `LIKE expr [ ESCAPE expr ]`, whose first word is read already.
     #[tactic(auto, unfolding(sq_grammar::specs::Cond::like_tail))]
     fn like_tail(&self, tokens: &mut Reader<'_>, negated: bool) -> Result<Tail, Stop>
-        ensures value { Reads (spec.like_tail self.now.left (spec.inside self.now.left) negated tokens.old) result tokens.new }
+        ensures value { Reads
+            (spec.like_tail self.now.left (spec.inside self.now.left) negated tokens.old) result tokens.new }
         ensures no_longer { OnOk result (length tokens.new ≤ length tokens.old) }
     {
         let pattern = expr(self.alloc, tokens, self.left)?;
@@ -183,7 +190,8 @@ impl<F: Fn(Global, &mut Reader<'_>, usize) -> Result<CondOrExpr<Cond>, Stop>> Gr
     #[tactic(auto, unfolding(sq_grammar::specs::Cond::negatable_tail))]
     fn negatable_tail(&self, tokens: &mut Reader<'_>) -> Result<Option<Tail>, Stop>
         requires { Nests spec.inside self.now.left (F.pre self.now.inner) (F.post self.now.inner) }
-        ensures value { Reads (spec.negatable_tail self.now.left (spec.inside self.now.left) tokens.old) result tokens.new }
+        ensures value { Reads
+            (spec.negatable_tail self.now.left (spec.inside self.now.left) tokens.old) result tokens.new }
         ensures no_longer { OnOk result (length tokens.new ≤ length tokens.old) }
     {
         let negated = tokens.eat_word(Word::Not);
@@ -209,7 +217,8 @@ impl<F: Fn(Global, &mut Reader<'_>, usize) -> Result<CondOrExpr<Cond>, Stop>> Gr
     #[tactic(auto, unfolding(sq_grammar::specs::Cond::tail))]
     pub fn tail(&self, tokens: &mut Reader<'_>) -> Result<Option<Tail>, Stop>
         requires { Nests spec.inside self.now.left (F.pre self.now.inner) (F.post self.now.inner) }
-        ensures value { Reads (spec.tail self.now.left (spec.inside self.now.left) tokens.old) result tokens.new }
+        ensures value { Reads
+            (spec.tail self.now.left (spec.inside self.now.left) tokens.old) result tokens.new }
         ensures no_longer { OnOk result (length tokens.new ≤ length tokens.old) }
     {
         if let Some(comparison) = comparison_if_any(tokens) {

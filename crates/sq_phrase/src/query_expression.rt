@@ -40,7 +40,8 @@ impl<F: Fn(Global, &mut Reader<'_>, usize) -> Result<Query, Stop>> Grammar<F> {
     #[tactic(auto, unfolding(sq_grammar::specs::Query::bracketed))]
     fn bracketed(&self, tokens: &mut Reader<'_>) -> Result<Query, Stop>
         requires { Nests spec.inside self.now.left (F.pre self.now.inner) (F.post self.now.inner) }
-        ensures value { Reads (spec.bracketed self.now.left (spec.inside self.now.left) tokens.old) result tokens.new }
+        ensures value { Reads
+            (spec.bracketed self.now.left (spec.inside self.now.left) tokens.old) result tokens.new }
         ensures shorter { OnOk result (length tokens.new < length tokens.old) }
     {
         tokens.open(self.left)?;
@@ -57,7 +58,8 @@ impl<F: Fn(Global, &mut Reader<'_>, usize) -> Result<Query, Stop>> Grammar<F> {
     #[tactic(auto, unfolding(sq_grammar::specs::Query::bracketed_term))]
     fn bracketed_term(&self, tokens: &mut Reader<'_>) -> Result<QueryTerm, Stop>
         requires { Nests spec.inside self.now.left (F.pre self.now.inner) (F.post self.now.inner) }
-        ensures value { Reads (spec.bracketed_term self.now.left (spec.inside self.now.left) tokens.old) result tokens.new }
+        ensures value { Reads
+            (spec.bracketed_term self.now.left (spec.inside self.now.left) tokens.old) result tokens.new }
         ensures shorter { OnOk result (length tokens.new < length tokens.old) }
     {
         let query = self.bracketed(tokens)?;
@@ -69,7 +71,8 @@ impl<F: Fn(Global, &mut Reader<'_>, usize) -> Result<Query, Stop>> Grammar<F> {
     fn query_term(&self, tokens: &mut Reader<'_>) -> Result<QueryTerm, Stop>
         requires nests { Nests spec.inside self.now.left (F.pre self.now.inner) (F.post self.now.inner) }
         requires small { self.now.left ≤ MAX_DEPTH }
-        ensures value { Reads (spec.query_term self.now.left (spec.inside self.now.left) tokens.old) result tokens.new }
+        ensures value { Reads
+            (spec.query_term self.now.left (spec.inside self.now.left) tokens.old) result tokens.new }
         ensures shorter { OnOk result (length tokens.new < length tokens.old) }
     {
         if tokens.sees(Symbol::Open) {
@@ -83,7 +86,8 @@ impl<F: Fn(Global, &mut Reader<'_>, usize) -> Result<Query, Stop>> Grammar<F> {
     fn union_term(&self, tokens: &mut Reader<'_>) -> Result<UnionTerm, Stop>
         requires nests { Nests spec.inside self.now.left (F.pre self.now.inner) (F.post self.now.inner) }
         requires small { self.now.left ≤ MAX_DEPTH }
-        ensures value { Reads (spec.union_term self.now.left (spec.inside self.now.left) tokens.old) result tokens.new }
+        ensures value { Reads
+            (spec.union_term self.now.left (spec.inside self.now.left) tokens.old) result tokens.new }
         ensures shorter { OnOk result (length tokens.new < length tokens.old) }
     {
         let all = tokens.eat_word(Word::All);
@@ -96,7 +100,9 @@ impl<F: Fn(Global, &mut Reader<'_>, usize) -> Result<Query, Stop>> Grammar<F> {
     fn more_terms(&self, tokens: &mut Reader<'_>) -> Result<Items<UnionTerm>, Stop>
         requires nests { Nests spec.inside self.now.left (F.pre self.now.inner) (F.post self.now.inner) }
         requires small { self.now.left ≤ MAX_DEPTH }
-        ensures value { Reads (all (behind (lexeme.Word word.Union) (spec.union_term self.now.left (spec.inside self.now.left))) tokens.old) result tokens.new }
+        ensures value { Reads
+            (all (behind (lexeme.Word word.Union)
+            (spec.union_term self.now.left (spec.inside self.now.left))) tokens.old) result tokens.new }
         ensures no_longer { OnOk result (length tokens.new ≤ length tokens.old) }
     {
         let mut items = Items::new(self.alloc);
@@ -111,7 +117,8 @@ impl<F: Fn(Global, &mut Reader<'_>, usize) -> Result<Query, Stop>> Grammar<F> {
     fn query(&self, tokens: &mut Reader<'_>) -> Result<Query, Stop>
         requires nests { Nests spec.inside self.now.left (F.pre self.now.inner) (F.post self.now.inner) }
         requires small { self.now.left ≤ MAX_DEPTH }
-        ensures value { Reads (spec.level self.now.left (spec.inside self.now.left) tokens.old) result tokens.new }
+        ensures value { Reads
+            (spec.level self.now.left (spec.inside self.now.left) tokens.old) result tokens.new }
         ensures shorter { OnOk result (length tokens.new < length tokens.old) }
     {
         let first = self.query_term(tokens)?;

@@ -109,7 +109,8 @@ impl<F: Fn(Global, &mut Reader<'_>, usize) -> Result<CondOrExpr<Cond>, Stop>> Gr
     #[tactic(auto, unfolding(sq_grammar::specs::Select::select_list))]
     fn select_list(&self, tokens: &mut Reader<'_>) -> Result<SelectList, Stop>
         requires { 0 < self.now.left }
-        ensures value { Reads (spec.select_list (expressions.inside self.now.left) tokens.old) result tokens.new }
+        ensures value { Reads
+            (spec.select_list (expressions.inside self.now.left) tokens.old) result tokens.new }
         ensures shorter { OnOk result (length tokens.new < length tokens.old) }
     {
         if tokens.eat(Symbol::Star) {
@@ -120,9 +121,12 @@ impl<F: Fn(Global, &mut Reader<'_>, usize) -> Result<CondOrExpr<Cond>, Stop>> Gr
     }
 
     fn where_clause(&self, tokens: &mut Reader<'_>) -> Result<Option<Cond>, Stop>
-        requires nests { Nests conditions.inside self.now.left (F.pre self.now.inner) (F.post self.now.inner) }
+        requires nests { Nests conditions.inside self.now.left (F.pre self.now.inner)
+            (F.post self.now.inner) }
         requires some { 0 < self.now.left }
-        ensures value { Reads (spec.where_clause (must_be_cond (conditions.inside self.now.left)) tokens.old) result tokens.new }
+        ensures value { Reads
+            (spec.where_clause (must_be_cond (conditions.inside self.now.left)) tokens.old) result
+            tokens.new }
         ensures no_longer { OnOk result (length tokens.new ≤ length tokens.old) }
     {
         if !tokens.eat_word(Word::Where) {
@@ -133,9 +137,12 @@ impl<F: Fn(Global, &mut Reader<'_>, usize) -> Result<CondOrExpr<Cond>, Stop>> Gr
     }
 
     fn having_clause(&self, tokens: &mut Reader<'_>) -> Result<Option<Cond>, Stop>
-        requires nests { Nests conditions.inside self.now.left (F.pre self.now.inner) (F.post self.now.inner) }
+        requires nests { Nests conditions.inside self.now.left (F.pre self.now.inner)
+            (F.post self.now.inner) }
         requires some { 0 < self.now.left }
-        ensures value { Reads (spec.having_clause (must_be_cond (conditions.inside self.now.left)) tokens.old) result tokens.new }
+        ensures value { Reads
+            (spec.having_clause (must_be_cond (conditions.inside self.now.left)) tokens.old) result
+            tokens.new }
         ensures no_longer { OnOk result (length tokens.new ≤ length tokens.old) }
     {
         if !tokens.eat_word(Word::Having) {
@@ -147,9 +154,12 @@ impl<F: Fn(Global, &mut Reader<'_>, usize) -> Result<CondOrExpr<Cond>, Stop>> Gr
 
     #[tactic(auto, unfolding(sq_grammar::specs::Select::table_expression))]
     fn table_expression(&self, tokens: &mut Reader<'_>) -> Result<TableExpression, Stop>
-        requires nests { Nests conditions.inside self.now.left (F.pre self.now.inner) (F.post self.now.inner) }
+        requires nests { Nests conditions.inside self.now.left (F.pre self.now.inner)
+            (F.post self.now.inner) }
         requires some { 0 < self.now.left }
-        ensures value { Reads (spec.table_expression (must_be_cond (conditions.inside self.now.left)) tokens.old) result tokens.new }
+        ensures value { Reads
+            (spec.table_expression (must_be_cond (conditions.inside self.now.left)) tokens.old) result
+            tokens.new }
         ensures shorter { OnOk result (length tokens.new < length tokens.old) }
     {
         let from = from_clause(self.alloc, tokens)?;
@@ -187,9 +197,12 @@ impl<F: Fn(Global, &mut Reader<'_>, usize) -> Result<CondOrExpr<Cond>, Stop>> Gr
     /// A query specification behind a bracket.
     #[tactic(auto, unfolding(sq_grammar::specs::Select::specification))]
     pub fn inner_query(&self, tokens: &mut Reader<'_>) -> Result<QuerySpecification, Stop>
-        requires nests { Nests conditions.inside self.now.left (F.pre self.now.inner) (F.post self.now.inner) }
+        requires nests { Nests conditions.inside self.now.left (F.pre self.now.inner)
+            (F.post self.now.inner) }
         requires some { 0 < self.now.left }
-        ensures value { Reads (conditions.inner_query self.now.left (conditions.inside self.now.left) tokens.old) result tokens.new }
+        ensures value { Reads
+            (conditions.inner_query self.now.left (conditions.inside self.now.left) tokens.old) result
+            tokens.new }
         ensures shorter { OnOk result (length tokens.new < length tokens.old) }
     {
         tokens.expect_word(Word::Select)?;
@@ -212,7 +225,9 @@ impl<F: Fn(Global, &mut Reader<'_>, usize) -> Result<CondOrExpr<Cond>, Stop>> Gr
     #[tactic(auto, unfolding(sq_grammar::specs::Cond::subquery))]
     pub fn subquery(&self, tokens: &mut Reader<'_>) -> Result<QuerySpecification, Stop>
         requires { Nests conditions.inside self.now.left (F.pre self.now.inner) (F.post self.now.inner) }
-        ensures value { Reads (conditions.subquery self.now.left (conditions.inside self.now.left) tokens.old) result tokens.new }
+        ensures value { Reads
+            (conditions.subquery self.now.left (conditions.inside self.now.left) tokens.old) result
+            tokens.new }
         ensures shorter { OnOk result (length tokens.new < length tokens.old) }
     {
         tokens.open(self.left)?;

@@ -150,7 +150,8 @@ orientation_of (Some f) = unwrap_or f.orientation written.Next
 -- FETCH of the cursor of the written name. The numbers that the cursors of a module have are given by their names
 abbrev pub IsFetchOf : (Name → ℕ → Type 0) → List ParameterDesc → Fetch → BoundFetch → Type 0
 IsFetchOf IsNumberOf parameters f fetch =
-    IsNumberOf f.cursor fetch.cursor × IsOrientationOf parameters (orientation_of f.from) fetch.orientation × AreOutputsOf parameters fetch.outputs (listed f.targets)
+    IsNumberOf f.cursor fetch.cursor × IsOrientationOf parameters (orientation_of f.from) fetch.orientation
+    × AreOutputsOf parameters fetch.outputs (listed f.targets)
 
 -- ---- query expressions (7.10)
 
@@ -193,9 +194,12 @@ pub record IsUpdatableOf (known : KnownTables) (parameters : List ParameterDesc)
   pub is_known : meant_by known reference.table ≡ Some table
   pub place : u.target.table ≡ table.place
   pub is_over : table.under ≡ Some (under_of u.target.leaf)
-  pub condition : ClauseIs (clause_placed (of_lines (leaf_item reference table ∷ []) (outside known parameters)) filter) u.target.condition
+  pub condition : ClauseIs
+      (clause_placed (of_lines (leaf_item reference table ∷ []) (outside known parameters)) filter)
+      u.target.condition
   pub shown : List PlacedExpr
-  pub list_is : let items = (item_over reference (named_table false false table)).item ∷ [] in list_placed (of_lines items (outside known parameters)) items list ≡ Ok shown
+  pub list_is : let items = (item_over reference (named_table false false table)).item ∷ [] in
+      list_placed (of_lines items (outside known parameters)) items list ≡ Ok shown
   pub columns : AllZip (IsShownAt table.columns) shown u.columns
 
 -- ---- cursors and tables
@@ -222,7 +226,8 @@ pub record IsCursorOf (known : KnownTables) (user : Name) (parameters : List Par
     (cursor : BoundCursor) : Type 0 where
   pub words : HasWordsOf c cursor
   pub rows : HasRowsOf known parameters (query_of user c.query) cursor.body
-  pub order : IsSortedBy (query_names_placed (tables_of known) (query_of user c.query)) (listed_if_any c.order_by) cursor.body
+  pub order : IsSortedBy (query_names_placed (tables_of known) (query_of user c.query))
+      (listed_if_any c.order_by) cursor.body
 
 -- what is under the table of the written name, which is the user's where no schema is written (5.4)
 abbrev pub IsUnder : KnownTables → Name → WrittenTable → Leaf → Type 0
@@ -308,7 +313,8 @@ check_placed t columns c = cond_placed (beside_columns t (map descriptor_of colu
 pub record IsSelectOf (known : KnownTables) (parameters : List ParameterDesc) (user : Name) (s : Select)
     (row : BoundSelect) : Type 0 where
   pub targets : AreOutputsOf parameters row.outputs (listed s.targets)
-  pub query : SelectIs (select_placed (outside known parameters) (select_of_parts user s.quantifier s.list s.table)) row.query
+  pub query : SelectIs (select_placed (outside known parameters)
+      (select_of_parts user s.quantifier s.list s.table)) row.query
 
 -- INSERT: the table, its columns that get values, and the rows (13.8)
 pub record IsInsertOf (known : KnownTables) (parameters : List ParameterDesc) (user : Name) (i : Insert)
@@ -327,8 +333,10 @@ pub record IsDeleteOf (IsNumberOf : Name → ℕ → Type 0) (known : KnownTable
 pub record IsUpdateOf (IsNumberOf : Name → ℕ → Type 0) (known : KnownTables) (parameters : List ParameterDesc)
     (user : Name) (u : Update) (update : BoundUpdate) : Type 0 where
   pub is_under : IsUnder known user u.table (under update.target)
-  pub rows : IsTargetOf IsNumberOf (filter_placed known parameters user (table_of user u.table)) u.target update.target
-  pub values : SetOn (outside known parameters) (table_of user u.table) (meant_by known (table_of user u.table)) (listed u.assignments) update.assignments
+  pub rows : IsTargetOf IsNumberOf (filter_placed known parameters user (table_of user u.table)) u.target
+      update.target
+  pub values : SetOn (outside known parameters) (table_of user u.table)
+      (meant_by known (table_of user u.table)) (listed u.assignments) update.assignments
 
 -- A statement in a module of the user: its cursors have the numbers that their names have, its targets are parameters of the written
 -- names, the rows that it changes are under the table of the written name, and its queries, conditions and values are the written ones.

@@ -31,20 +31,27 @@ IsAround a = IsStanding a.standing a.line.now
 
 -- a line is seen within them, in a call by this user with these values of parameters
 abbrev pub beneath : List (Scope (Unit {0})) → Line → List Value → Name → Env (Unit {0})
-beneath scopes line parameters user = record { scopes = alone [] line ∷ scopes; inputs = inputs_of parameters; user = user }
+beneath scopes line parameters user =
+    record { scopes = alone [] line ∷ scopes; inputs = inputs_of parameters; user = user }
 
 -- whatever line it is, an expression has this value there, not null
 abbrev pub IsSameAround : Around → List Value → Name → BoundExpr → Value → Type 0
 IsSameAround a parameters user e v =
-    ((tables : TablePlace → Outcome (List Row)) (scopes : List (Scope (Unit {0}))) (line : Line) → IsAround a scopes
-    → meaning.value (by_place tables) (expr_of [] e) (beneath scopes line parameters user) ≡ Ok v) × (is_null v ≡ false)
+    ((tables : TablePlace → Outcome (List Row)) (scopes : List (Scope (Unit {0}))) (line : Line)
+    → IsAround a scopes
+    → meaning.value (by_place tables) (expr_of [] e) (beneath scopes line parameters user) ≡ Ok v)
+    × (is_null v ≡ false)
 
 -- it has it beneath this line, on none
 abbrev pub IsSameBeneath : Line → List Value → Name → BoundExpr → Value → Type 0
 IsSameBeneath outer parameters user e v =
-    ((tables : TablePlace → Outcome (List Row)) → meaning.value (by_place tables) (expr_of [] e) (beneath (alone [] outer ∷ []) [] parameters user) ≡ Ok v) × (is_null v ≡ false)
+    ((tables : TablePlace → Outcome (List Row))
+    → meaning.value (by_place tables) (expr_of [] e) (beneath (alone [] outer ∷ []) [] parameters user)
+    ≡ Ok v) × (is_null v ≡ false)
 
 -- the value that it has there, or the status that it ends with
 abbrev pub HasValueBeneath : Result Value Fault → BoundExpr → Line → List Value → Name → Type 0
 HasValueBeneath result e outer parameters user =
-    (tables : TablePlace → Outcome (List Row)) → Meets result (meaning.value (by_place tables) (expr_of [] e) (beneath (alone [] outer ∷ []) [] parameters user))
+    (tables : TablePlace → Outcome (List Row))
+    → Meets result (meaning.value (by_place tables) (expr_of [] e)
+    (beneath (alone [] outer ∷ []) [] parameters user))

@@ -43,7 +43,8 @@ IsStoredTable content (View n) = ⊤
 -- the subquery of a predicate
 abbrev pub IsSubqueryOf : Predicate → BoundSpecification → Type 0
 IsSubqueryOf p s =
-    ((op : Comparison) × (k : Compared) × (e : BoundExpr) × (p ≡ bound.CompareQuery op k e s)) ⊎ (((n : Bool) × (e : BoundExpr) × (p ≡ bound.InQuery n e s)) ⊎ (p ≡ bound.Exists s))
+    ((op : Comparison) × (k : Compared) × (e : BoundExpr) × (p ≡ bound.CompareQuery op k e s)) ⊎
+    (((n : Bool) × (e : BoundExpr) × (p ≡ bound.InQuery n e s)) ⊎ (p ≡ bound.Exists s))
 
 -- of each table of a query specification but those of the subqueries of its WHERE clause P holds
 abbrev pub ReadsAround : (TablePlace → Type 0) → PlacedSelect → Type 0
@@ -66,14 +67,17 @@ ReadsBesides None others = ⊤
 ReadsBesides (Some q) others = ReadsAround (IsNeeded others) (select_of q)
 
 -- the tables that stand elsewhere than in the FROM clause of this subquery of a test
-pub record AreOthers (tests : List BoundTest) (number : ℕ) (q : Option BoundSpecification) (s : BoundSpecification) (others : Needed) : Type 0 where
+pub record AreOthers (tests : List BoundTest) (number : ℕ) (q : Option BoundSpecification)
+    (s : BoundSpecification) (others : Needed) : Type 0 where
   pub inside : ReadsInside (IsNeeded others) (select_of s)
   pub besides : ReadsBesides q others
   pub before : AllByRecursion (λ t. ReadsCond (IsNeeded others) (test_of [] t)) (take number tests)
   pub behind : AllByRecursion (λ t. ReadsCond (IsNeeded others) (test_of [] t)) (drop (number + 1) tests)
 
 -- the base table of an item of a test's subquery, of which no more is read
-pub record IsReadInside (tests : List BoundTest) (q : Option BoundSpecification) (content : Content) (keys : List Keys) (a : Around) (parameters : List Value) (user : Name) (found : List BaseRows) (own : BaseRows) : Type 0 where
+pub record IsReadInside (tests : List BoundTest) (q : Option BoundSpecification) (content : Content)
+    (keys : List Keys) (a : Around) (parameters : List Value) (user : Name) (found : List BaseRows)
+    (own : BaseRows) : Type 0 where
   pub number : ℕ
   pub test : BoundTest
   pub at : slice_get tests number ≡ Some test
@@ -84,25 +88,31 @@ pub record IsReadInside (tests : List BoundTest) (q : Option BoundSpecification)
   pub read : IsReadOf subquery others content keys a parameters user found own
 
 -- what was found in the subqueries of the tests of a condition that is one AND
-pub record AreInTests (c : BoundCond) (q : Option BoundSpecification) (content : Content) (keys : List Keys) (a : Around) (parameters : List Value) (user : Name) (found : List BaseRows) : Type 0 where
+pub record AreInTests (c : BoundCond) (q : Option BoundSpecification) (content : Content) (keys : List Keys)
+    (a : Around) (parameters : List Value) (user : Name) (found : List BaseRows) : Type 0 where
   pub term : BoundConj
   pub only_term : (out-BoundCond c).terms ≡ term ∷ []
   pub are : AreFound (IsReadInside (out-BoundConj term).tests q content keys a parameters user) found
 
-abbrev pub AreInside : BoundCond → Option BoundSpecification → Content → List Keys → Around → List Value → Name → List BaseRows → Type 0
-AreInside c q content keys a parameters user found = (found ≡ []) ⊎ AreInTests c q content keys a parameters user found
+abbrev pub AreInside : BoundCond → Option BoundSpecification → Content → List Keys → Around → List Value
+    → Name → List BaseRows → Type 0
+AreInside c q content keys a parameters user found =
+    (found ≡ []) ⊎ AreInTests c q content keys a parameters user found
 
 -- in the subqueries of WHERE, where these rows were found of the items of FROM
-pub record AreUnder (q : BoundSpecification) (c : BoundCond) (own : List BaseRows) (content : Content) (keys : List Keys) (parameters : List Value) (user : Name) (found : List BaseRows) : Type 0 where
+pub record AreUnder (q : BoundSpecification) (c : BoundCond) (own : List BaseRows) (content : Content)
+    (keys : List Keys) (parameters : List Value) (user : Name) (found : List BaseRows) : Type 0 where
   pub a : Around
   pub lines : (line : Line) → IsLineAmong own (items_of q) line → IsAround a (alone [] line ∷ [])
   pub inside : AreInside c (Some q) content keys a parameters user found
 
 -- before the rows of its own items
-pub record AreJoined (q : BoundSpecification) (own : List BaseRows) (content : Content) (keys : List Keys) (parameters : List Value) (user : Name) (all : List BaseRows) : Type 0 where
+pub record AreJoined (q : BoundSpecification) (own : List BaseRows) (content : Content) (keys : List Keys)
+    (parameters : List Value) (user : Name) (all : List BaseRows) : Type 0 where
   pub found : List BaseRows
   pub is : all ≡ found ++ own
-  pub under : (found ≡ []) ⊎ ((c : BoundCond) × IsWhere q c × AreUnder q c own content keys parameters user found)
+  pub under : (found ≡ []) ⊎
+      ((c : BoundCond) × IsWhere q c × AreUnder q c own content keys parameters user found)
 
 -- ---- lines of which there is one
 
@@ -120,14 +130,16 @@ abbrev pub HasKeys : List BaseTable → Content → List Keys → Type 0
 HasKeys bases content keys = (keys ≡ keys_of_bases bases) × (not_nulls_hold bases content ≡ true)
 
 -- what was found in the subqueries of a condition on a row
-pub record AreBeneath (c : BoundCond) (row : Row) (content : Content) (keys : List Keys) (parameters : List Value)
+pub record AreBeneath (c : BoundCond) (row : Row) (content : Content) (keys : List Keys)
+    (parameters : List Value)
     (user : Name) (found : List BaseRows) : Type 0 where
   pub a : Around
   pub is_around : IsAround a (alone [] (row ∷ []) ∷ [])
   pub inside : AreInside c None content keys a parameters user found
 
 -- What was read are tables over which a condition has the truth on a row that it has over these.
-pub record IsReadOnRow (tables : TablePlace → Outcome (List Row)) (c : BoundCond) (row : Row) (parameters : List Value)
+pub record IsReadOnRow (tables : TablePlace → Outcome (List Row)) (c : BoundCond) (row : Row)
+    (parameters : List Value)
     (user : Name) (read : Tables) : Type 0 where
   pub rows_of : TablePlace → Outcome (List Row)
   pub reads : ReadsCond (λ t. rows_read read t ≡ rows_of t) (cond_of [] c)

@@ -58,7 +58,8 @@ pub(crate) fn view_under(query: &BoundSpecification) -> Option<usize>
 /// Whether a select list has columns alone, and the truth of the WHERE clause is never a fault.
 fn shows_rows(query: &BoundSpecification) -> bool
     ensures columns { result ≡ true → list_all is_column (out-BoundSpecification query.now).list ≡ true }
-    ensures sure { result ≡ true → option_all is_quiet_cond (out-BoundSpecification query.now).condition ≡ true }
+    ensures sure { result ≡ true → option_all is_quiet_cond (out-BoundSpecification query.now).condition
+        ≡ true }
 {
     are_columns(query.list.as_slice()) && is_quiet_where(&query.condition)
 }

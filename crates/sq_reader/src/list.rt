@@ -21,7 +21,8 @@ fn more<T: Drop, P: Fn(&mut Reader<'_>) -> Result<T, Stop>>(
     item: &P,
 ) -> Result<Items<T>, Stop>
     requires { Advances (P.pre item.now) (P.post item.now) }
-    ensures value { (parser : Parser T) → Follows parser (P.post item.now) → Reads (all (behind comma parser) tokens.old) result tokens.new }
+    ensures value { (parser : Parser T) → Follows parser (P.post item.now)
+        → Reads (all (behind comma parser) tokens.old) result tokens.new }
     ensures no_longer { OnOk result (length tokens.new ≤ length tokens.old) }
 {
     let mut items = Items::new(alloc);
@@ -41,7 +42,8 @@ pub fn comma_list<T: Drop, P: Fn(&mut Reader<'_>) -> Result<T, Stop>>(
     item: P,
 ) -> Result<CommaList<T>, Stop>
     requires { Advances (P.pre item) (P.post item) }
-    ensures value { (parser : Parser T) → Follows parser (P.post item) → Reads (listed parser tokens.old) result tokens.new }
+    ensures value { (parser : Parser T) → Follows parser (P.post item)
+        → Reads (listed parser tokens.old) result tokens.new }
     ensures shorter { OnOk result (length tokens.new < length tokens.old) }
 {
     let first = match item(tokens) {
@@ -62,7 +64,8 @@ pub fn items<T: Drop, P: Fn(&mut Reader<'_>) -> Result<Option<T>, Stop>>(
     item: P,
 ) -> Result<Items<T>, Stop>
     requires { AdvancesIfAny (P.pre item) (P.post item) }
-    ensures value { (parser : Parser (Option T)) → Follows parser (P.post item) → Reads (all parser tokens.old) result tokens.new }
+    ensures value { (parser : Parser (Option T)) → Follows parser (P.post item)
+        → Reads (all parser tokens.old) result tokens.new }
     ensures no_longer { OnOk result (length tokens.new ≤ length tokens.old) }
 {
     let mut items = Items::new(alloc);

@@ -15,7 +15,8 @@ use Rattle.sq_rules.specs.Words.{is_some_and}
 
 -- a query specification over one base table, whose WHERE clause names a row by a key
 abbrev pub is_keyed_query : Elements → List Input → Select Named → Bool
-is_keyed_query elements inputs (select distinct list (r ∷ []) filter by having) = is_some_and (λ t. is_keyed t inputs filter) (table_named elements r.table)
+is_keyed_query elements inputs (select distinct list (r ∷ []) filter by having) =
+    is_some_and (λ t. is_keyed t inputs filter) (table_named elements r.table)
 is_keyed_query elements inputs _ = false
 
 -- an updatable cursor that is opened with these inputs (13.1)

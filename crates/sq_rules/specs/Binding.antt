@@ -323,8 +323,10 @@ breaks j fault.PrivilegeMissing = privilege_missing j.holds
 -- every fault but that of a missing privilege
 abbrev pub syntax_faults : List BindingFault
 syntax_faults =
-    fault.UnknownTable ∷ fault.UnknownColumn ∷ fault.AmbiguousName ∷ fault.KindMismatch ∷ fault.LimitExceeded ∷ fault.MisplacedSetFunction
-    ∷ fault.UngroupedColumn ∷ fault.CountMismatch ∷ fault.BadSortKey ∷ fault.UnknownParameter ∷ fault.BadIndicator ∷ fault.TargetTwice
+    fault.UnknownTable ∷ fault.UnknownColumn ∷ fault.AmbiguousName ∷ fault.KindMismatch
+    ∷ fault.LimitExceeded ∷ fault.MisplacedSetFunction
+    ∷ fault.UngroupedColumn ∷ fault.CountMismatch ∷ fault.BadSortKey ∷ fault.UnknownParameter
+    ∷ fault.BadIndicator ∷ fault.TargetTwice
     ∷ fault.NotUpdatable ∷ fault.ColumnTwice ∷ fault.UnknownCursor ∷ fault.BadOrientation ∷ []
 
 abbrev pub has_fault : Judged → List Site → BindingFault → Bool

@@ -60,7 +60,8 @@ view_kinds tables owner v =
 abbrev pub view_descriptor : Tables → Name → ViewDefinition → TableDescriptor
 view_descriptor tables owner v = record {
   table = table_of owner v.name;
-  columns = map (λ c. record { name = unwrap_or c.0 []; kind = c.1 }) (zip (view_names tables owner v) (view_kinds tables owner v));
+  columns = map (λ c. record { name = unwrap_or c.0 []; kind = c.1 })
+      (zip (view_names tables owner v) (view_kinds tables owner v));
   body = viewed_table (select_of owner v.query) v.check_option;
 }
 

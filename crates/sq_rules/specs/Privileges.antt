@@ -74,7 +74,8 @@ is_grantee user (grantee.User name) = same_name name user
 
 abbrev pub grant_gives : Holding → Name → GrantStatement → Holding
 grant_gives held grantor g grantable user name p =
-    same_table (table_of grantor g.table) name && covers g.privileges p && list_any (is_grantee user) (listed g.grantees)
+    same_table (table_of grantor g.table) name && covers g.privileges p
+    && list_any (is_grantee user) (listed g.grantees)
     && implies grantable g.grant_option && held true grantor name p
 
 -- ---- CREATE VIEW: what follows from the tables underneath (11.19)
@@ -90,7 +91,8 @@ tables_named tables q = filter_map table_in (select_sites (known_tables tables) 
 -- the column of the table underneath that an updatable view shows under a name
 abbrev pub column_underneath : TableDescriptor → Source → Name → Option Name
 column_underneath view source c =
-    option_and_then (slice_get source.item.columns) (option_and_then (slice_get source.columns) (place_among (column_names view) c))
+    option_and_then (slice_get source.item.columns)
+    (option_and_then (slice_get source.columns) (place_among (column_names view) c))
 
 abbrev pub privilege_underneath : TableDescriptor → Source → Privilege → Option Privilege
 privilege_underneath view source Privilege.insert = Some Privilege.insert
@@ -108,19 +110,22 @@ holds_underneath held owner grantable view source p =
 -- a view is updatable if its query is, and the table of its FROM clause
 abbrev pub updatable_here : Tables → Select Named → Option Source
 updatable_here tables q =
-    result_ok (updatable_source tables q >>= λ source. target_of tables source.item.reference.table >>= λ _. Ok source)
+    result_ok (updatable_source tables q >>= λ source. target_of tables source.item.reference.table
+    >>= λ _. Ok source)
 
 -- SELECT is held, and with the grant option where it is so held on all tables that the query names
 abbrev pub view_gives_owner : Holding → Tables → Name → ViewDefinition → (grantable : Bool) → Privilege → Bool
 view_gives_owner held tables owner v grantable Privilege.select =
-    implies grantable (list_all (λ t. held true owner t Privilege.select) (tables_named tables (select_of owner v.query)))
+    implies grantable (list_all (λ t. held true owner t Privilege.select)
+    (tables_named tables (select_of owner v.query)))
 view_gives_owner held tables owner v grantable p =
     is_some_and (λ source. holds_underneath held owner grantable (view_descriptor tables owner v) source p)
     (updatable_here tables (select_of owner v.query))
 
 abbrev pub view_gives : Holding → Tables → Name → ViewDefinition → Holding
 view_gives held tables owner v grantable user name p =
-    same_name owner user && same_table (table_of owner v.name) name && view_gives_owner held tables owner v grantable p
+    same_name owner user && same_table (table_of owner v.name) name
+    && view_gives_owner held tables owner v grantable p
 
 -- ---- the chains
 
@@ -133,7 +138,8 @@ gives held tables user (element.Grant g) = grant_gives held user g
 abbrev pub chain : Elements → Holding
 chain [] grantable user name p = false
 chain (e ∷ before) grantable user name p =
-    gives (chain before) (tables_of before) e.user e.element grantable user name p || chain before grantable user name p
+    gives (chain before) (tables_of before) e.user e.element grantable user name p
+    || chain before grantable user name p
 
 -- a user holds a privilege
 abbrev pub holds : Elements → Name → TableName → Privilege → Bool

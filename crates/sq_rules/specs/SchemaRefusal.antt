@@ -94,7 +94,8 @@ has_unknown columns names = list_any (λ n. not (is_among columns n)) names
 
 abbrev pub reference_unknown : Elements → Name → References → Bool
 reference_unknown elements user r =
-    not (is_made elements (table_of user r.table)) || has_unknown (columns_of_made elements (table_of user r.table)) (listed_if_any r.columns)
+    not (is_made elements (table_of user r.table))
+    || has_unknown (columns_of_made elements (table_of user r.table)) (listed_if_any r.columns)
 
 abbrev pub constraint_unknown : Elements → Name → List Name → Constraint → Bool
 constraint_unknown elements user columns (Constraint.not_null name) = false
@@ -115,7 +116,9 @@ actions_of (privileges.Actions actions) = listed actions
 
 abbrev pub grant_unknown : Elements → Name → GrantStatement → Bool
 grant_unknown before user g =
-    not (is_made before (table_of user g.table)) || has_unknown (columns_of_made before (table_of user g.table)) (flat_map action_columns (actions_of g.privileges))
+    not (is_made before (table_of user g.table))
+    || has_unknown (columns_of_made before (table_of user g.table))
+    (flat_map action_columns (actions_of g.privileges))
 
 abbrev pub unknown_name : Elements → Name → SchemaElement → Bool
 unknown_name before user (element.Table t) =
@@ -191,7 +194,8 @@ are_paired t target names = are_of_one_sort (domain_of_column t names.0) (domain
 -- texts (own rule)
 abbrev pub pairs_well : TableDefinition → List Name → TableDefinition → List Name → Bool
 pairs_well t names target referenced =
-    list_any (is_key referenced) (keys target) && length names == length referenced && list_all (are_paired t target) (zip names referenced)
+    list_any (is_key referenced) (keys target) && length names == length referenced
+    && list_all (are_paired t target) (zip names referenced)
 
 abbrev pub referenced_table : Elements → Name → References → Option TableDefinition
 referenced_table elements user r = table_named elements (table_of user r.table)
@@ -199,7 +203,8 @@ referenced_table elements user r = table_named elements (table_of user r.table)
 -- the target is a base table, and there are columns that are referenced
 abbrev pub is_good_reference : Elements → Name → TableDefinition → Reference → Bool
 is_good_reference elements user t r =
-    is_some_and (λ target. is_some_and (pairs_well t r.columns target) (referenced_columns target r.references))
+    is_some_and (λ target. is_some_and (pairs_well t r.columns target)
+    (referenced_columns target r.references))
     (referenced_table elements user r.references)
 
 abbrev pub bad_reference : Elements → Name → SchemaElement → Bool
@@ -221,7 +226,8 @@ check_sites elements user t c =
 
 abbrev pub is_bad_check : Elements → Name → TableDefinition → Cond → Bool
 is_bad_check elements user t c =
-    has_syntax_fault (view_judged elements user) (check_sites elements user t c) || list_any is_refused_in_check (check_sites elements user t c)
+    has_syntax_fault (view_judged elements user) (check_sites elements user t c)
+    || list_any is_refused_in_check (check_sites elements user t c)
 
 abbrev pub bad_check : Elements → Name → SchemaElement → Bool
 bad_check before user (element.Table t) =
@@ -258,7 +264,8 @@ may_reference_column elements user r column =
 -- REFERENCES on each referenced column
 abbrev pub may_reference : Elements → Name → Reference → Bool
 may_reference elements user r =
-    is_none_or (list_all (may_reference_column elements user r.references)) (columns_referenced elements user r.references)
+    is_none_or (list_all (may_reference_column elements user r.references))
+    (columns_referenced elements user r.references)
 
 -- what an action grants: without a column list, on each column
 abbrev pub columns_granted : List Name → Option (CommaList Name) → List Name
@@ -289,7 +296,8 @@ privilege_lacking before user (element.Table t) =
 privilege_lacking before user (element.View v) =
     lacks_privilege (view_judged before user) (view_sites before user v)
 privilege_lacking before user (element.Grant g) =
-    not (may_grant (may_grant_on before user (table_of user g.table)) (columns_of_made before (table_of user g.table)) g.privileges)
+    not (may_grant (may_grant_on before user (table_of user g.table))
+    (columns_of_made before (table_of user g.table)) g.privileges)
 
 -- ---- the user's own schema; a column twice in a grant
 
@@ -326,9 +334,12 @@ refused_for before user e schema_fault.TooManyTables = too_many_tables before us
 -- the order in which they are looked for in one element
 abbrev pub schema_faults : List SchemaFault
 schema_faults =
-    schema_fault.NameTwice ∷ schema_fault.UnknownName ∷ schema_fault.BadType ∷ schema_fault.NullableKey ∷ schema_fault.BadKey
-    ∷ schema_fault.BadReference ∷ schema_fault.BadCheck ∷ schema_fault.BadDefault ∷ schema_fault.BadView ∷ schema_fault.BadCheckOption
-    ∷ schema_fault.PrivilegeMissing ∷ schema_fault.TooManyColumns ∷ schema_fault.OtherSchema ∷ schema_fault.TooManyTables ∷ []
+    schema_fault.NameTwice ∷ schema_fault.UnknownName ∷ schema_fault.BadType ∷ schema_fault.NullableKey
+    ∷ schema_fault.BadKey
+    ∷ schema_fault.BadReference ∷ schema_fault.BadCheck ∷ schema_fault.BadDefault ∷ schema_fault.BadView
+    ∷ schema_fault.BadCheckOption
+    ∷ schema_fault.PrivilegeMissing ∷ schema_fault.TooManyColumns ∷ schema_fault.OtherSchema
+    ∷ schema_fault.TooManyTables ∷ []
 
 -- A schema definition's own CREATE (no element), or an element: its text, its schema definition in the text and its
 -- number there, each from 0.
@@ -342,7 +353,13 @@ pub record Part : Type 0 where
 abbrev pub parts_of_schema : ℕ → ℕ × SchemaDefinition → List Part
 parts_of_schema text s =
     record { text = text; schema = s.0; number = None; user = (s.1).authorization; element = None }
-    ∷ map (λ e. record { text = text; schema = s.0; number = Some e.0; user = (s.1).authorization; element = Some e.1 }) (enumerate_from 0 (s.1).elements)
+    ∷ map (λ e. record {
+      text = text;
+      schema = s.0;
+      number = Some e.0;
+      user = (s.1).authorization;
+      element = Some e.1;
+    }) (enumerate_from 0 (s.1).elements)
 
 abbrev pub parts_of_text : ℕ × SchemaText → List Part
 parts_of_text t = flat_map (parts_of_schema t.0) (enumerate_from 0 ((t.1).first ∷ (t.1).rest))

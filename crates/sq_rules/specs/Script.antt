@@ -65,7 +65,8 @@ abbrev pub script_fault_of : Elements → List ModuleText → ScriptItem → Opt
 script_fault_of elements modules (script.Call «module» procedure arguments) =
     call_fault (argument_values arguments) (procedure_called modules «module» procedure)
 script_fault_of elements modules (script.Table user table) =
-    if is_some (base_place elements (record { user = user; name = table })) then None else Some script_fault.UnknownTable
+    if is_some (base_place elements (record { user = user; name = table })) then None
+    else Some script_fault.UnknownTable
 
 -- the item's number, and why
 pub record ScriptRefusal : Type 0 where

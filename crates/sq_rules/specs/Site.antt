@@ -119,9 +119,11 @@ expr_sites k a (set_function function distinct e) =
     Site.function_called a (Some e) ∷ summed_sites function (kind_here k a e) ++ expr_sites k (operand_of a) e
 expr_sites k a (signed sign e) = Site.number_wanted (kind_here k a e) ∷ expr_sites k a e
 expr_sites k a (added sign e f) =
-    Site.number_wanted (kind_here k a e) ∷ Site.number_wanted (kind_here k a f) ∷ expr_sites k a e ++ expr_sites k a f
+    Site.number_wanted (kind_here k a e) ∷ Site.number_wanted (kind_here k a f) ∷ expr_sites k a e
+    ++ expr_sites k a f
 expr_sites k a (scaled sign e f) =
-    Site.number_wanted (kind_here k a e) ∷ Site.number_wanted (kind_here k a f) ∷ Site.product_scale sign (kind_here k a e) (kind_here k a f)
+    Site.number_wanted (kind_here k a e) ∷ Site.number_wanted (kind_here k a f) ∷ Site.product_scale sign
+    (kind_here k a e) (kind_here k a f)
     ∷ expr_sites k a e ++ expr_sites k a f
 expr_sites k a (bracketed e) = expr_sites k a e
 
@@ -154,7 +156,8 @@ select_count tables (select distinct list from filter by having) = list_count ta
 -- a value beside a subquery of one column
 abbrev pub beside_subquery : Known → Around → Expr Named → Select Named → List Site
 beside_subquery k a e q =
-    Site.alike_wanted (kind_here k a e) (first_kind (kinds_here k a q)) ∷ Site.counts (select_count k.tables q) 1 ∷ Site.subquery_read ∷ expr_sites k a e
+    Site.alike_wanted (kind_here k a e) (first_kind (kinds_here k a q)) ∷ Site.counts
+    (select_count k.tables q) 1 ∷ Site.subquery_read ∷ expr_sites k a e
 
 abbrev pub text_sites : Known → Around → Expr Named → List Site
 text_sites k a e = Site.text_wanted (kind_here k a e) ∷ expr_sites k a e
@@ -237,5 +240,6 @@ query_kinds_of k q = query_kinds (kinds_by_name k.tables k.parameters) q
 abbrev pub query_sites : Known → Query Named → List Site
 query_sites k (specification q) = select_sites k outside q
 query_sites k (union all left right) =
-    Site.counts (query_count k.tables left) (query_count k.tables right) ∷ alike_pairs (query_kinds_of k left) (query_kinds_of k right)
+    Site.counts (query_count k.tables left) (query_count k.tables right) ∷ alike_pairs
+    (query_kinds_of k left) (query_kinds_of k right)
     ++ query_sites k left ++ query_sites k right

@@ -74,7 +74,8 @@ each_kind (Err s) = []
 -- the sites of targets: there are as many as columns, and each is of the kind of its column
 abbrev pub into_sites : Known → CommaList Parameter → ℕ → Outcome (List Kind) → List Site
 into_sites k list columns kinds =
-    Site.targets (listed list) ∷ Site.counts (length (listed list)) columns ∷ pair_sites (map (target_kind k) (listed list)) (each_kind kinds)
+    Site.targets (listed list) ∷ Site.counts (length (listed list)) columns ∷ pair_sites
+    (map (target_kind k) (listed list)) (each_kind kinds)
 
 -- ---- cursors (13.1)
 
@@ -99,7 +100,8 @@ sort_sites (Err s) order = []
 
 abbrev pub cursor_sites : Surroundings → Cursor → List Site
 cursor_sites u c =
-    query_sites (known_in_query (opener_surroundings u c)) (cursor_query u c) ++ sort_sites (cursor_names u c) (listed_if_any c.order_by)
+    query_sites (known_in_query (opener_surroundings u c)) (cursor_query u c)
+    ++ sort_sites (cursor_names u c) (listed_if_any c.order_by)
 
 abbrev pub is_sound : Surroundings → Cursor → Bool
 is_sound u c = is_well_formed (judged_by u (known_in_query (opener_surroundings u c))) (cursor_sites u c)
@@ -143,7 +145,8 @@ orientation_of f = option_and_then (λ from. from.orientation) f.from
 abbrev pub fetch_from_sites : Surroundings → Fetch → Cursor → List Site
 fetch_from_sites u f c =
     Site.orientation_used c.scroll (orientation_of f)
-    ∷ into_sites (known_in u) f.targets (query_count (tables_of u.elements) (cursor_query u c)) (cursor_columns u c)
+    ∷ into_sites (known_in u) f.targets (query_count (tables_of u.elements) (cursor_query u c))
+    (cursor_columns u c)
 
 abbrev pub fetch_sites : Surroundings → Fetch → List Site
 fetch_sites u f =
@@ -166,7 +169,8 @@ select_into_sites u s =
 -- the kind of a column of a table
 abbrev pub column_kind : Tables → TableName → Name → Outcome Kind
 column_kind tables name c =
-    and_then (descriptor_of tables name) (λ d. well_formed (option_map (λ k. k.kind) (find (λ k. same_name k.name c) d.columns)))
+    and_then (descriptor_of tables name)
+    (λ d. well_formed (option_map (λ k. k.kind) (find (λ k. same_name k.name c) d.columns)))
 
 -- the sites of a new value, which is of the kind of its column; NULL is of every kind
 abbrev pub value_sites : Known → Around → Outcome Kind → NewValue → List Site
@@ -186,16 +190,21 @@ insert_columns tables name (Some columns) = listed columns
 
 abbrev pub source_sites : Surroundings → List (Outcome Kind) → InsertSource → List Site
 source_sites u kinds (source.Values values) =
-    Site.counts (length kinds) (length (listed values)) ∷ flat_map (λ p. value_sites (known_in u) outside p.0 p.1) (zip kinds (listed values))
+    Site.counts (length kinds) (length (listed values)) ∷ flat_map
+    (λ p. value_sites (known_in u) outside p.0 p.1) (zip kinds (listed values))
 source_sites u kinds (source.Query q) =
     Site.counts (length kinds) (select_count (tables_of u.elements) (select_of (own u) q))
-    ∷ pair_sites kinds (each_kind (kinds_here (known_in u) outside (select_of (own u) q))) ++ select_sites (known_in u) outside (select_of (own u) q)
+    ∷ pair_sites kinds (each_kind (kinds_here (known_in u) outside (select_of (own u) q)))
+    ++ select_sites (known_in u) outside (select_of (own u) q)
 
 abbrev pub insert_sites : Surroundings → TableName → Insert → List Site
 insert_sites u name i =
-    Site.table_changed name ∷ Site.privilege_used name Privilege.insert ∷ Site.column_list (listed_if_any i.columns)
-    ∷ Site.column_count (length (listed_if_any i.columns)) ∷ map (Site.column_changed name) (listed_if_any i.columns)
-    ++ source_sites u (map (column_kind (tables_of u.elements) name) (insert_columns (tables_of u.elements) name i.columns)) i.source
+    Site.table_changed name ∷ Site.privilege_used name Privilege.insert ∷ Site.column_list
+    (listed_if_any i.columns)
+    ∷ Site.column_count (length (listed_if_any i.columns)) ∷ map (Site.column_changed name)
+    (listed_if_any i.columns)
+    ++ source_sites u (map (column_kind (tables_of u.elements) name)
+    (insert_columns (tables_of u.elements) name i.columns)) i.source
 
 -- ---- UPDATE and DELETE (13.6, 13.7, 13.9 and 13.10)
 
@@ -233,11 +242,13 @@ set_sites u name a =
 abbrev pub update_sites : Surroundings → TableName → Update → List Site
 update_sites u name x =
     Site.table_changed name ∷ Site.column_list (map (λ a. a.column) (listed x.assignments))
-    ∷ with_select (known_in u) name (flat_map (set_sites u name) (listed x.assignments) ++ where_sites u name x.target)
+    ∷ with_select (known_in u) name (flat_map (set_sites u name) (listed x.assignments)
+    ++ where_sites u name x.target)
 
 abbrev pub delete_sites : Surroundings → TableName → Delete → List Site
 delete_sites u name x =
-    Site.table_changed name ∷ Site.privilege_used name Privilege.delete ∷ with_select (known_in u) name (where_sites u name x.target)
+    Site.table_changed name ∷ Site.privilege_used name Privilege.delete ∷ with_select (known_in u) name
+    (where_sites u name x.target)
 
 -- ---- a statement
 

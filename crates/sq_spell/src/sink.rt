@@ -44,7 +44,8 @@ pub trait Sink {
 
     /// Takes some reserved words, where they are written.
     final fn words_if(&mut self, written: bool, words: &[Word]) -> Result<(), Self::Stop>
-        ensures { OnOk result (self.new ≡ fold after self.old (if_written written (map lexeme.Word words.now))) }
+        ensures { OnOk result
+            (self.new ≡ fold after self.old (if_written written (map lexeme.Word words.now))) }
     {
         if written {
             self.words(words)?;
@@ -61,7 +62,8 @@ pub trait Sink {
 
     /// Takes a symbol, where it is written.
     final fn symbol_if(&mut self, written: bool, symbol: Symbol) -> Result<(), Self::Stop>
-        ensures { OnOk result (self.new ≡ fold after self.old (if_written written (lexeme.Symbol symbol ∷ []))) }
+        ensures { OnOk result
+            (self.new ≡ fold after self.old (if_written written (lexeme.Symbol symbol ∷ []))) }
     {
         if written {
             self.symbol(symbol)?;

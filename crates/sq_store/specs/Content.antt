@@ -19,7 +19,12 @@ inserted t row = record { rows = t.rows ++ record { number = t.next; row = row }
 
 -- another row under a number that has one
 abbrev pub replaced : Table → ℕ → List Value → Table
-replaced t number row = record { rows = map (λ r. if nat_eq r.number number then record { number = number; row = row } else r) t.rows; next = t.next }
+replaced t number row =
+    record {
+      rows = map (λ r. if nat_eq r.number number then record { number = number; row = row }
+          else r) t.rows;
+      next = t.next;
+    }
 
 -- without the row under a number; the number isn't used again
 abbrev pub removed : Table → ℕ → Table

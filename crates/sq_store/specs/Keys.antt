@@ -28,7 +28,8 @@ with_key t columns key = find (has_key columns key) t.rows
 -- no row has the key of a later one
 abbrev pub are_distinct : List ℕ → List Numbered → Bool
 are_distinct columns [] = true
-are_distinct columns (r ∷ rs) = not (list_any (has_key columns (in_columns r.row columns)) rs) && are_distinct columns rs
+are_distinct columns (r ∷ rs) =
+    not (list_any (has_key columns (in_columns r.row columns)) rs) && are_distinct columns rs
 
 -- no two rows have the same key
 abbrev pub has_distinct_keys : Keys → Table → Bool

@@ -21,4 +21,5 @@ is_sound_if row_numbers keys (Some content) = is_sound row_numbers keys content
 -- all of them are sound
 abbrev pub are_sound : ℕ → List Keys → Option Saved → Bool
 are_sound row_numbers keys None = true
-are_sound row_numbers keys (Some saved) = is_sound row_numbers keys saved.committed && is_sound_if row_numbers keys saved.before
+are_sound row_numbers keys (Some saved) =
+    is_sound row_numbers keys saved.committed && is_sound_if row_numbers keys saved.before

@@ -15,12 +15,16 @@ use sq_value::Value;
 /// numbers that are left: what `Store::apply` asks for.
 pub fn can_apply<S: Store>(store: &S, table: usize, changes: &[Change]) -> bool
     ensures known { IsTrue result → table < length (S.content_now store.now) }
-    ensures columns { IsTrue result → list_all (has_keys (keys_at (S.key_columns store.now) table)) (rows_put changes.now) ≡ true }
-    ensures fits { IsTrue result → insert_count changes.now ≤ S.row_numbers store.now + 1 - (table_at (S.content_now store.now) table).next }
+    ensures columns { IsTrue result
+        → list_all (has_keys (keys_at (S.key_columns store.now) table)) (rows_put changes.now) ≡ true }
+    ensures fits { IsTrue result
+        → insert_count changes.now ≤ S.row_numbers store.now + 1
+        - (table_at (S.content_now store.now) table).next }
 
     ensures otherwise { table < length (S.content_now store.now)
         → list_all (has_keys (keys_at (S.key_columns store.now) table)) (rows_put changes.now) ≡ true
-        → insert_count changes.now ≤ S.row_numbers store.now + 1 - (table_at (S.content_now store.now) table).next
+        → insert_count changes.now ≤ S.row_numbers store.now + 1
+        - (table_at (S.content_now store.now) table).next
         → IsTrue result }
 {
     table < store.table_count()

@@ -170,7 +170,11 @@ impl ListStore {
         ensures keys { self.new.keys ≡ self.old.keys }
         ensures numbers { self.new.row_numbers ≡ self.old.row_numbers }
         ensures ok { OnOk result (self.new.saved
-            ≡ Some (record { committed = committed_or self.old.saved self.old.tables.items; before = Some self.old.tables.items })) }
+            ≡ Some (record {
+              committed = committed_or self.old.saved self.old.tables.items;
+              before
+                  = Some self.old.tables.items;
+            })) }
         ensures err { OnErr result (self.new.saved ≡ self.old.saved) }
     {
         let before = copy_tables(alloc, self.tables.as_slice())?;

@@ -63,7 +63,8 @@ pub trait Store: Drop {
         requires { table < length (content_now self.now) }
         ensures row { MatchOption result
             (first_from (table_at (content_now self.now) table) number ≡ None)
-            (λ r. first_from (table_at (content_now self.now) table) number ≡ Some (record { number = r.0; row = r.1.now })) }
+            (λ r. first_from (table_at (content_now self.now) table) number
+            ≡ Some (record { number = r.0; row = r.1.now })) }
         ensures metered { meter.new ≡ (if is_some result then counted meter.old else meter.old) };
 
     /// The row under a number.
@@ -71,7 +72,8 @@ pub trait Store: Drop {
         requires { table < length (content_now self.now) }
         ensures row { MatchOption result
             (row_at (table_at (content_now self.now) table) number ≡ None)
-            (λ r. row_at (table_at (content_now self.now) table) number ≡ Some (record { number = number; row = r.now })) }
+            (λ r. row_at (table_at (content_now self.now) table) number
+            ≡ Some (record { number = number; row = r.now })) }
         ensures metered { meter.new ≡ (if is_some result then counted meter.old else meter.old) };
 
     /// The row with a key, and its number.
@@ -84,15 +86,18 @@ pub trait Store: Drop {
     ) -> Option<(u64, &Row)>
         requires table { table < length (content_now self.now) }
         requires key { key < length (keys_at (key_columns self.now) table) }
-        ensures row { let found = with_key (table_at (content_now self.now) table) (key_at (key_columns self.now) table key) values.now in
+        ensures row { let found = with_key (table_at (content_now self.now) table)
+            (key_at (key_columns self.now) table key) values.now in
             MatchOption result (found ≡ None) (λ r. found ≡ Some (record { number = r.0; row = r.1.now })) }
         ensures metered { meter.new ≡ (if is_some result then counted meter.old else meter.old) };
 
     /// Whether a row has these values in these columns, where null is the same as null.
     fn has_row(&self, table: usize, columns: &[usize], values: &Key) -> bool
         requires table { table < length (content_now self.now) }
-        requires columns { list_all (λ r. has_columns columns.now r.row) (table_at (content_now self.now) table).rows ≡ true }
-        ensures { result ≡ is_some (with_key (table_at (content_now self.now) table) columns.now values.now) };
+        requires columns { list_all
+            (λ r. has_columns columns.now r.row) (table_at (content_now self.now) table).rows ≡ true }
+        ensures { result ≡ is_some
+            (with_key (table_at (content_now self.now) table) columns.now values.now) };
 
     /// The number of the next new row.
     fn next_number(&self, table: usize) -> u64
@@ -107,19 +112,24 @@ pub trait Store: Drop {
     /// Makes all changes, one after the other, or none. Whether two rows have the same key is looked at after all changes.
     fn apply(&mut self, alloc: Global, table: usize, changes: Vec<Change>) -> Result<(), ApplyFault>
         requires known { table < length (content_now self.old) }
-        requires columns { list_all (has_keys (keys_at (key_columns self.old) table)) (rows_put changes.items) ≡ true }
+        requires columns { list_all (has_keys (keys_at (key_columns self.old) table))
+            (rows_put changes.items) ≡ true }
 
         // The new rows fit in the numbers that are left.
-        requires fits { insert_count changes.items ≤ row_numbers self.old + 1 - (table_at (content_now self.old) table).next }
+        requires fits { insert_count changes.items ≤ row_numbers self.old + 1
+            - (table_at (content_now self.old) table).next }
 
         ensures ok { OnOk result (content_now self.new
-            ≡ with_table (content_now self.old) table (changed_by (table_at (content_now self.old) table) changes.items)) }
+            ≡ with_table (content_now self.old) table
+            (changed_by (table_at (content_now self.old) table) changes.items)) }
         ensures taken_back { OnOk result (before self.new ≡ Some (content_now self.old)) }
 
         ensures distinct { OnOk result
-            (has_distinct_keys (keys_at (key_columns self.old) table) (changed_by (table_at (content_now self.old) table) changes.items) ≡ true) }
+            (has_distinct_keys (keys_at (key_columns self.old) table)
+            (changed_by (table_at (content_now self.old) table) changes.items) ≡ true) }
         ensures duplicate { result ≡ Err ApplyFault.Duplicate
-            → has_distinct_keys (keys_at (key_columns self.old) table) (changed_by (table_at (content_now self.old) table) changes.items) ≡ false }
+            → has_distinct_keys (keys_at (key_columns self.old) table)
+            (changed_by (table_at (content_now self.old) table) changes.items) ≡ false }
 
         ensures err { OnErr result (content_now self.new ≡ content_now self.old) }
         ensures err_before { OnErr result (before self.new ≡ before self.old) }

@@ -101,8 +101,10 @@ impl Table {
         requires new_columns { list_all (has_keys keys.now) (rows_put changes.items) ≡ true }
         requires fits { self.now.next < 2 ^ 32 }
         ensures ok { IfOk result (λ table. table ≡ changed_by self.now changes.items) }
-        ensures distinct { OnOk result (has_distinct_keys keys.now (changed_by self.now changes.items) ≡ true) }
-        ensures duplicate { result ≡ Err ApplyFault.Duplicate → has_distinct_keys keys.now (changed_by self.now changes.items) ≡ false }
+        ensures distinct { OnOk result (has_distinct_keys keys.now (changed_by self.now changes.items)
+            ≡ true) }
+        ensures duplicate { result ≡ Err ApplyFault.Duplicate
+            → has_distinct_keys keys.now (changed_by self.now changes.items) ≡ false }
     {
         let table = self.changed(alloc, changes)?;
         if keys_are_distinct(table.rows.as_slice(), keys) {
@@ -176,7 +178,9 @@ fn place_from(rows: &[Numbered], number: u64, next: u64) -> usize
 #[tactic(auto, using(crate::proofs::Search::put_at, crate::proofs::Search::put_past, crate::proofs::Search::put_nowhere))]
 fn replace(rows: &mut Vec<Numbered>, number: u64, row: Row, next: u64)
     requires { rising_between 1 rows.old.items next ≡ true }
-    ensures { rows.new.items ≡ map (λ r. if nat_eq r.number number then record { number = number; row = row } else r) rows.old.items }
+    ensures { rows.new.items
+        ≡ map (λ r. if nat_eq r.number number then record { number = number; row = row } else r)
+        rows.old.items }
 {
     let place = place_from(rows.as_slice(), number, next);
     if place < rows.len() && rows[place].number == number {

@@ -70,7 +70,8 @@ select_list_tokens (Items items) = comma_tokens expr_tokens items
 
 -- GROUP BY column-ref { "," column-ref }
 abbrev pub group_by_tokens : CommaList ColumnReference → Tokens
-group_by_tokens columns = lexeme.Word word.Group ∷ lexeme.Word word.By ∷ comma_tokens column_reference_tokens columns
+group_by_tokens columns =
+    lexeme.Word word.Group ∷ lexeme.Word word.By ∷ comma_tokens column_reference_tokens columns
 
 -- One level of a tree, with the tokens of each part in its place.
 
@@ -83,11 +84,16 @@ body_layer (layer.Bracketed cond) = bracketed cond
 -- predicate, from its second part on
 abbrev pub tail_layer : Tail-F Tokens Tokens Tokens Tokens Tokens Tokens Tokens → Tokens
 tail_layer (layer.Compare op right) = comparison_token op ∷ expr_tokens right
-tail_layer (layer.CompareQuery op q query) = comparison_token op ∷ optional compared_tokens q ++ bracketed query
-tail_layer (layer.Between negated low high) = not_tokens negated ++ lexeme.Word word.Between ∷ expr_tokens low ++ lexeme.Word word.And ∷ expr_tokens high
+tail_layer (layer.CompareQuery op q query) =
+    comparison_token op ∷ optional compared_tokens q ++ bracketed query
+tail_layer (layer.Between negated low high) =
+    not_tokens negated ++ lexeme.Word word.Between ∷ expr_tokens low
+    ++ lexeme.Word word.And ∷ expr_tokens high
 tail_layer (layer.InQuery negated query) = not_tokens negated ++ lexeme.Word word.In ∷ bracketed query
-tail_layer (layer.InList negated values) = not_tokens negated ++ lexeme.Word word.In ∷ bracketed (comma_tokens expr_tokens values)
-tail_layer (layer.Like negated pattern escape) = not_tokens negated ++ lexeme.Word word.Like ∷ expr_tokens pattern ++ optional escape_tokens escape
+tail_layer (layer.InList negated values) =
+    not_tokens negated ++ lexeme.Word word.In ∷ bracketed (comma_tokens expr_tokens values)
+tail_layer (layer.Like negated pattern escape) =
+    not_tokens negated ++ lexeme.Word word.Like ∷ expr_tokens pattern ++ optional escape_tokens escape
 tail_layer (layer.Null negated) = lexeme.Word word.Is ∷ not_tokens negated ++ lexeme.Word word.Null ∷ []
 
 -- test = [ NOT ] ( predicate | "(" condition ")" )
@@ -119,30 +125,44 @@ abbrev pub having_tokens : Tokens → Tokens
 having_tokens cond = lexeme.Word word.Having ∷ cond
 
 -- table-exp = FROM table-ref { "," table-ref } [ WHERE condition ] [ GROUP BY column-ref { "," column-ref } ] [ HAVING condition ]
-abbrev pub table_expression_layer : TableExpression-F Tokens Tokens Tokens Tokens Tokens Tokens Tokens → Tokens
-table_expression_layer t = lexeme.Word word.From ∷ comma_tokens table_reference_tokens t.from ++ optional where_tokens t.where_clause ++ optional group_by_tokens t.group_by ++ optional having_tokens t.having
+abbrev pub table_expression_layer : TableExpression-F Tokens Tokens Tokens Tokens Tokens Tokens Tokens
+    → Tokens
+table_expression_layer t = lexeme.Word word.From ∷ comma_tokens table_reference_tokens t.from
+    ++ optional where_tokens t.where_clause ++ optional group_by_tokens t.group_by
+    ++ optional having_tokens t.having
 
 -- specification = SELECT [ ALL | DISTINCT ] list table-exp
-abbrev pub query_specification_layer : QuerySpecification-F Tokens Tokens Tokens Tokens Tokens Tokens Tokens → Tokens
-query_specification_layer s = lexeme.Word word.Select ∷ optional quantifier_tokens s.quantifier ++ select_list_tokens s.list ++ s.table
+abbrev pub query_specification_layer : QuerySpecification-F Tokens Tokens Tokens Tokens Tokens Tokens Tokens
+    → Tokens
+query_specification_layer s =
+    lexeme.Word word.Select ∷ optional quantifier_tokens s.quantifier ++ select_list_tokens s.list ++ s.table
 
 unfoldable pub body_tokens : Body → Tokens
-body_tokens = fold-Body Tokens Tokens Tokens Tokens Tokens Tokens Tokens body_layer tail_layer cond_layer conj_layer query_specification_layer table_expression_layer test_layer
+body_tokens = fold-Body Tokens Tokens Tokens Tokens Tokens Tokens Tokens body_layer tail_layer cond_layer
+    conj_layer query_specification_layer table_expression_layer test_layer
 
 unfoldable pub tail_tokens : Tail → Tokens
-tail_tokens = fold-Tail Tokens Tokens Tokens Tokens Tokens Tokens Tokens body_layer tail_layer cond_layer conj_layer query_specification_layer table_expression_layer test_layer
+tail_tokens = fold-Tail Tokens Tokens Tokens Tokens Tokens Tokens Tokens body_layer tail_layer cond_layer
+    conj_layer query_specification_layer table_expression_layer test_layer
 
 unfoldable pub test_tokens : Test → Tokens
-test_tokens = fold-Test Tokens Tokens Tokens Tokens Tokens Tokens Tokens body_layer tail_layer cond_layer conj_layer query_specification_layer table_expression_layer test_layer
+test_tokens = fold-Test Tokens Tokens Tokens Tokens Tokens Tokens Tokens body_layer tail_layer cond_layer
+    conj_layer query_specification_layer table_expression_layer test_layer
 
 unfoldable pub conj_tokens : Conj → Tokens
-conj_tokens = fold-Conj Tokens Tokens Tokens Tokens Tokens Tokens Tokens body_layer tail_layer cond_layer conj_layer query_specification_layer table_expression_layer test_layer
+conj_tokens = fold-Conj Tokens Tokens Tokens Tokens Tokens Tokens Tokens body_layer tail_layer cond_layer
+    conj_layer query_specification_layer table_expression_layer test_layer
 
 unfoldable pub cond_tokens : Cond → Tokens
-cond_tokens = fold-Cond Tokens Tokens Tokens Tokens Tokens Tokens Tokens body_layer tail_layer cond_layer conj_layer query_specification_layer table_expression_layer test_layer
+cond_tokens = fold-Cond Tokens Tokens Tokens Tokens Tokens Tokens Tokens body_layer tail_layer cond_layer
+    conj_layer query_specification_layer table_expression_layer test_layer
 
 unfoldable pub table_expression_tokens : TableExpression → Tokens
-table_expression_tokens = fold-TableExpression Tokens Tokens Tokens Tokens Tokens Tokens Tokens body_layer tail_layer cond_layer conj_layer query_specification_layer table_expression_layer test_layer
+table_expression_tokens =
+    fold-TableExpression Tokens Tokens Tokens Tokens Tokens Tokens Tokens body_layer tail_layer cond_layer
+    conj_layer query_specification_layer table_expression_layer test_layer
 
 unfoldable pub query_specification_tokens : QuerySpecification → Tokens
-query_specification_tokens = fold-QuerySpecification Tokens Tokens Tokens Tokens Tokens Tokens Tokens body_layer tail_layer cond_layer conj_layer query_specification_layer table_expression_layer test_layer
+query_specification_tokens =
+    fold-QuerySpecification Tokens Tokens Tokens Tokens Tokens Tokens Tokens body_layer tail_layer
+    cond_layer conj_layer query_specification_layer table_expression_layer test_layer

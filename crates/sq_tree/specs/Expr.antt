@@ -67,7 +67,8 @@ primary_layer (layer.Parameter p) = parameter_tokens p
 primary_layer layer.User = lexeme.Word word.User ∷ []
 primary_layer (layer.Column c) = column_reference_tokens c
 primary_layer layer.CountRows = lexeme.Word word.Count ∷ bracketed (lexeme.Symbol symbol.Star ∷ [])
-primary_layer (layer.SetFunction function quantifier expr) = function_token function ∷ bracketed (optional quantifier_tokens quantifier ++ expr)
+primary_layer (layer.SetFunction function quantifier expr) =
+    function_token function ∷ bracketed (optional quantifier_tokens quantifier ++ expr)
 primary_layer (layer.Bracketed expr) = bracketed expr
 
 -- factor = [ "+" | "-" ] primary
@@ -91,19 +92,25 @@ abbrev pub expr_layer : Expr-F Tokens Tokens Tokens Tokens Tokens Tokens → Tok
 expr_layer e = e.first ++ flat_map (λ ts. ts) e.rest
 
 unfoldable pub primary_tokens : Primary → Tokens
-primary_tokens = fold-Primary Tokens Tokens Tokens Tokens Tokens Tokens primary_layer added_layer expr_layer factor_layer scaled_layer term_layer
+primary_tokens = fold-Primary Tokens Tokens Tokens Tokens Tokens Tokens primary_layer added_layer expr_layer
+    factor_layer scaled_layer term_layer
 
 unfoldable pub factor_tokens : Factor → Tokens
-factor_tokens = fold-Factor Tokens Tokens Tokens Tokens Tokens Tokens primary_layer added_layer expr_layer factor_layer scaled_layer term_layer
+factor_tokens = fold-Factor Tokens Tokens Tokens Tokens Tokens Tokens primary_layer added_layer expr_layer
+    factor_layer scaled_layer term_layer
 
 unfoldable pub scaled_tokens : Scaled → Tokens
-scaled_tokens = fold-Scaled Tokens Tokens Tokens Tokens Tokens Tokens primary_layer added_layer expr_layer factor_layer scaled_layer term_layer
+scaled_tokens = fold-Scaled Tokens Tokens Tokens Tokens Tokens Tokens primary_layer added_layer expr_layer
+    factor_layer scaled_layer term_layer
 
 unfoldable pub term_tokens : Term → Tokens
-term_tokens = fold-Term Tokens Tokens Tokens Tokens Tokens Tokens primary_layer added_layer expr_layer factor_layer scaled_layer term_layer
+term_tokens = fold-Term Tokens Tokens Tokens Tokens Tokens Tokens primary_layer added_layer expr_layer
+    factor_layer scaled_layer term_layer
 
 unfoldable pub added_tokens : Added → Tokens
-added_tokens = fold-Added Tokens Tokens Tokens Tokens Tokens Tokens primary_layer added_layer expr_layer factor_layer scaled_layer term_layer
+added_tokens = fold-Added Tokens Tokens Tokens Tokens Tokens Tokens primary_layer added_layer expr_layer
+    factor_layer scaled_layer term_layer
 
 unfoldable pub expr_tokens : Expr → Tokens
-expr_tokens = fold-Expr Tokens Tokens Tokens Tokens Tokens Tokens primary_layer added_layer expr_layer factor_layer scaled_layer term_layer
+expr_tokens = fold-Expr Tokens Tokens Tokens Tokens Tokens Tokens primary_layer added_layer expr_layer
+    factor_layer scaled_layer term_layer

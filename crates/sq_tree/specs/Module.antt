@@ -43,21 +43,27 @@ sort_specification_tokens s = sort_key_token s.key ∷ optional direction_tokens
 
 -- ORDER BY sort { "," sort }
 abbrev pub order_by_tokens : CommaList SortSpecification → Tokens
-order_by_tokens sorts = lexeme.Word word.Order ∷ lexeme.Word word.By ∷ comma_tokens sort_specification_tokens sorts
+order_by_tokens sorts =
+    lexeme.Word word.Order ∷ lexeme.Word word.By ∷ comma_tokens sort_specification_tokens sorts
 
 -- cursor = DECLARE name [ INSENSITIVE ] [ SCROLL ] CURSOR FOR query [ ORDER BY .. ], and [ ";" ]
 abbrev pub cursor_tokens : Cursor → Tokens
-cursor_tokens c = lexeme.Word word.Declare ∷ lexeme.Name c.name ∷ if_written c.insensitive (lexeme.Word word.Insensitive ∷ []) ++ if_written c.scroll (lexeme.Word word.Scroll ∷ []) ++ lexeme.Word word.Cursor ∷ lexeme.Word word.For ∷ query_tokens c.query ++ optional order_by_tokens c.order_by ++ if_written c.semicolon (lexeme.Symbol symbol.Semicolon ∷ [])
+cursor_tokens c = lexeme.Word word.Declare ∷ lexeme.Name c.name ∷ if_written c.insensitive
+    (lexeme.Word word.Insensitive ∷ []) ++ if_written c.scroll (lexeme.Word word.Scroll ∷ [])
+    ++ lexeme.Word word.Cursor ∷ lexeme.Word word.For ∷ query_tokens c.query
+    ++ optional order_by_tokens c.order_by ++ if_written c.semicolon (lexeme.Symbol symbol.Semicolon ∷ [])
 
 -- declaration = ":" name type | SQLCODE | SQLSTATE
 abbrev pub declaration_tokens : Declaration → Tokens
-declaration_tokens (Parameter name data_type) = lexeme.Symbol symbol.Colon ∷ lexeme.Name name ∷ data_type_tokens data_type
+declaration_tokens (Parameter name data_type) =
+    lexeme.Symbol symbol.Colon ∷ lexeme.Name name ∷ data_type_tokens data_type
 declaration_tokens Sqlcode = lexeme.Word word.Sqlcode ∷ []
 declaration_tokens Sqlstate = lexeme.Word word.Sqlstate ∷ []
 
 -- [ "," ] declaration
 abbrev pub bare_declaration_tokens : BareDeclaration → Tokens
-bare_declaration_tokens b = if_written b.comma (lexeme.Symbol symbol.Comma ∷ []) ++ declaration_tokens b.declaration
+bare_declaration_tokens b =
+    if_written b.comma (lexeme.Symbol symbol.Comma ∷ []) ++ declaration_tokens b.declaration
 
 -- declarations = "(" declaration { "," declaration } ")" | declaration { [ "," ] declaration }
 abbrev pub declarations_tokens : Declarations → Tokens
@@ -66,7 +72,8 @@ declarations_tokens (Bare first rest) = declaration_tokens first ++ row_tokens b
 
 -- procedure = PROCEDURE name declarations ";" statement ";"
 abbrev pub procedure_tokens : Procedure → Tokens
-procedure_tokens p = lexeme.Word word.Procedure ∷ lexeme.Name p.name ∷ declarations_tokens p.declarations ++ lexeme.Symbol symbol.Semicolon ∷ statement_tokens p.statement ++ lexeme.Symbol symbol.Semicolon ∷ []
+procedure_tokens p = lexeme.Word word.Procedure ∷ lexeme.Name p.name ∷ declarations_tokens p.declarations
+    ++ lexeme.Symbol symbol.Semicolon ∷ statement_tokens p.statement ++ lexeme.Symbol symbol.Semicolon ∷ []
 
 -- cursor [ ";" ] | procedure
 abbrev pub module_item_tokens : ModuleItem → Tokens
@@ -75,7 +82,9 @@ module_item_tokens (item.Procedure procedure) = procedure_tokens procedure
 
 -- module-text = MODULE name LANGUAGE name AUTHORIZATION name { cursor [ ";" ] | procedure }
 abbrev pub module_tokens : ModuleText → Tokens
-module_tokens m = lexeme.Word word.Module ∷ lexeme.Name m.name ∷ lexeme.Word word.Language ∷ lexeme.Name m.language ∷ lexeme.Word word.Authorization ∷ lexeme.Name m.authorization ∷ row_tokens module_item_tokens m.items
+module_tokens m = lexeme.Word word.Module ∷ lexeme.Name m.name ∷ lexeme.Word word.Language
+    ∷ lexeme.Name m.language ∷ lexeme.Word word.Authorization ∷ lexeme.Name m.authorization
+    ∷ row_tokens module_item_tokens m.items
 
 -- the greatest number of round brackets open at once
 abbrev pub module_depth : ModuleText → ℕ

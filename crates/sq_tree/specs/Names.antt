@@ -34,7 +34,8 @@ column_reference_tokens c = optional qualifier_dot c.qualifier ++ name_tokens c.
 
 -- [ INDICATOR ] ":" name
 abbrev pub indicator_tokens : Indicator → Tokens
-indicator_tokens i = if_written i.word (lexeme.Word word.Indicator ∷ []) ++ lexeme.Symbol symbol.Colon ∷ lexeme.Name i.name ∷ []
+indicator_tokens i = if_written i.word (lexeme.Word word.Indicator ∷ [])
+    ++ lexeme.Symbol symbol.Colon ∷ lexeme.Name i.name ∷ []
 
 -- parameter = ":" name [ [ INDICATOR ] ":" name ]
 abbrev pub parameter_tokens : Parameter → Tokens

@@ -36,11 +36,13 @@ use Rattle.sq_tree.specs.declared.schema.Grantee.TheVariants as grantee
 
 -- references = REFERENCES table-name [ columns ]
 abbrev pub references_tokens : References → Tokens
-references_tokens r = lexeme.Word word.References ∷ table_name_tokens r.table ++ optional columns_tokens r.columns
+references_tokens r =
+    lexeme.Word word.References ∷ table_name_tokens r.table ++ optional columns_tokens r.columns
 
 -- FOREIGN KEY columns references
 abbrev pub foreign_key_tokens : ForeignKey → Tokens
-foreign_key_tokens f = lexeme.Word word.Foreign ∷ lexeme.Word word.Key ∷ columns_tokens f.columns ++ references_tokens f.references
+foreign_key_tokens f = lexeme.Word word.Foreign ∷ lexeme.Word word.Key ∷ columns_tokens f.columns
+    ++ references_tokens f.references
 
 -- default = [ "+" | "-" ] number | text | USER | NULL
 abbrev pub default_tokens : DefaultValue → Tokens
@@ -67,23 +69,30 @@ column_constraint_tokens (constraint.Check cond) = check_tokens cond
 
 -- column = name type [ DEFAULT default ] { constraint }
 abbrev pub column_definition_tokens : ColumnDefinition → Tokens
-column_definition_tokens c = lexeme.Name c.name ∷ data_type_tokens c.data_type ++ optional default_clause_tokens c.default ++ row_tokens column_constraint_tokens c.constraints
+column_definition_tokens c =
+    lexeme.Name c.name ∷ data_type_tokens c.data_type ++ optional default_clause_tokens c.default
+    ++ row_tokens column_constraint_tokens c.constraints
 
 -- element = column | UNIQUE columns | PRIMARY KEY columns | FOREIGN KEY columns references | CHECK "(" condition ")"
 abbrev pub table_element_tokens : TableElement → Tokens
 table_element_tokens (element.Column column) = column_definition_tokens column
 table_element_tokens (element.Unique columns) = lexeme.Word word.Unique ∷ columns_tokens columns
-table_element_tokens (element.PrimaryKey columns) = lexeme.Word word.Primary ∷ lexeme.Word word.Key ∷ columns_tokens columns
+table_element_tokens (element.PrimaryKey columns) =
+    lexeme.Word word.Primary ∷ lexeme.Word word.Key ∷ columns_tokens columns
 table_element_tokens (element.ForeignKey key) = foreign_key_tokens key
 table_element_tokens (element.Check cond) = check_tokens cond
 
 -- table = CREATE TABLE table-name "(" element { "," element } ")"
 abbrev pub table_definition_tokens : TableDefinition → Tokens
-table_definition_tokens t = lexeme.Word word.Create ∷ lexeme.Word word.Table ∷ table_name_tokens t.name ++ bracketed (comma_tokens table_element_tokens t.elements)
+table_definition_tokens t = lexeme.Word word.Create ∷ lexeme.Word word.Table ∷ table_name_tokens t.name
+    ++ bracketed (comma_tokens table_element_tokens t.elements)
 
 -- view = CREATE VIEW table-name [ columns ] AS specification [ WITH CHECK OPTION ]
 abbrev pub view_definition_tokens : ViewDefinition → Tokens
-view_definition_tokens v = lexeme.Word word.Create ∷ lexeme.Word word.View ∷ table_name_tokens v.name ++ optional columns_tokens v.columns ++ lexeme.Word word.As ∷ query_specification_tokens v.query ++ if_written v.check_option (lexeme.Word word.With ∷ lexeme.Word word.Check ∷ lexeme.Word word.Option ∷ [])
+view_definition_tokens v = lexeme.Word word.Create ∷ lexeme.Word word.View ∷ table_name_tokens v.name
+    ++ optional columns_tokens v.columns ++ lexeme.Word word.As ∷ query_specification_tokens v.query
+    ++ if_written v.check_option
+    (lexeme.Word word.With ∷ lexeme.Word word.Check ∷ lexeme.Word word.Option ∷ [])
 
 -- action = SELECT | INSERT | DELETE | UPDATE [ columns ] | REFERENCES [ columns ]
 abbrev pub action_tokens : Action → Tokens
@@ -105,7 +114,11 @@ grantee_tokens (grantee.User name) = lexeme.Name name ∷ []
 
 -- grant = GRANT privileges ON [ TABLE ] table-name TO grantee { "," grantee } [ WITH GRANT OPTION ]
 abbrev pub grant_tokens : GrantStatement → Tokens
-grant_tokens g = lexeme.Word word.Grant ∷ privileges_tokens g.privileges ++ lexeme.Word word.On ∷ if_written g.table_word (lexeme.Word word.Table ∷ []) ++ table_name_tokens g.table ++ lexeme.Word word.To ∷ comma_tokens grantee_tokens g.grantees ++ if_written g.grant_option (lexeme.Word word.With ∷ lexeme.Word word.Grant ∷ lexeme.Word word.Option ∷ [])
+grant_tokens g = lexeme.Word word.Grant ∷ privileges_tokens g.privileges
+    ++ lexeme.Word word.On ∷ if_written g.table_word (lexeme.Word word.Table ∷ [])
+    ++ table_name_tokens g.table ++ lexeme.Word word.To ∷ comma_tokens grantee_tokens g.grantees
+    ++ if_written g.grant_option
+    (lexeme.Word word.With ∷ lexeme.Word word.Grant ∷ lexeme.Word word.Option ∷ [])
 
 -- table | view | grant
 abbrev pub schema_element_tokens : SchemaElement → Tokens
@@ -115,7 +128,10 @@ schema_element_tokens (Grant grant) = grant_tokens grant
 
 -- schema = CREATE SCHEMA AUTHORIZATION name { table | view | grant }, and [ ";" ]
 abbrev pub schema_definition_tokens : SchemaDefinition → Tokens
-schema_definition_tokens s = lexeme.Word word.Create ∷ lexeme.Word word.Schema ∷ lexeme.Word word.Authorization ∷ lexeme.Name s.authorization ∷ row_tokens schema_element_tokens s.elements ++ if_written s.semicolon (lexeme.Symbol symbol.Semicolon ∷ [])
+schema_definition_tokens s =
+    lexeme.Word word.Create ∷ lexeme.Word word.Schema ∷ lexeme.Word word.Authorization
+    ∷ lexeme.Name s.authorization ∷ row_tokens schema_element_tokens s.elements
+    ++ if_written s.semicolon (lexeme.Symbol symbol.Semicolon ∷ [])
 
 -- schema-text = schema [ ";" ] { schema [ ";" ] }
 abbrev pub schema_tokens : SchemaText → Tokens

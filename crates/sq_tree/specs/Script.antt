@@ -29,8 +29,11 @@ arguments_tokens (Listed arguments) = bracketed (comma_tokens argument_tokens ar
 
 -- item = CALL name "." name [ .. ] | TABLE name "." name
 abbrev pub script_item_tokens : ScriptItem → Tokens
-script_item_tokens (Call «module» procedure arguments) = lexeme.Name (codes "CALL") ∷ lexeme.Name «module» ∷ lexeme.Symbol symbol.Dot ∷ lexeme.Name procedure ∷ arguments_tokens arguments
-script_item_tokens (Table schema table) = lexeme.Word word.Table ∷ lexeme.Name schema ∷ lexeme.Symbol symbol.Dot ∷ lexeme.Name table ∷ []
+script_item_tokens (Call «module» procedure arguments) =
+    lexeme.Name (codes "CALL") ∷ lexeme.Name «module» ∷ lexeme.Symbol symbol.Dot ∷ lexeme.Name procedure
+    ∷ arguments_tokens arguments
+script_item_tokens (Table schema table) =
+    lexeme.Word word.Table ∷ lexeme.Name schema ∷ lexeme.Symbol symbol.Dot ∷ lexeme.Name table ∷ []
 
 -- item ";"
 abbrev pub ended_item_tokens : ScriptItem → Tokens

@@ -21,11 +21,13 @@ schemas s = s.first ∷ s.rest
 
 -- CREATE SCHEMA AUTHORIZATION name
 abbrev pub schema_head : SchemaDefinition → Tokens
-schema_head s = lexeme.Word word.Create ∷ lexeme.Word word.Schema ∷ lexeme.Word word.Authorization ∷ lexeme.Name s.authorization ∷ []
+schema_head s = lexeme.Word word.Create ∷ lexeme.Word word.Schema ∷ lexeme.Word word.Authorization
+    ∷ lexeme.Name s.authorization ∷ []
 
 -- MODULE name LANGUAGE name AUTHORIZATION name
 abbrev pub module_head : ModuleText → Tokens
-module_head m = lexeme.Word word.Module ∷ lexeme.Name m.name ∷ lexeme.Word word.Language ∷ lexeme.Name m.language ∷ lexeme.Word word.Authorization ∷ lexeme.Name m.authorization ∷ []
+module_head m = lexeme.Word word.Module ∷ lexeme.Name m.name ∷ lexeme.Word word.Language
+    ∷ lexeme.Name m.language ∷ lexeme.Word word.Authorization ∷ lexeme.Name m.authorization ∷ []
 
 -- the first token of a schema
 abbrev pub schema_start : SchemaText → ℕ → ℕ
@@ -42,7 +44,8 @@ before_element_of_first (s ∷ ss) n = before_element s n
 
 -- the first token of an element of a schema
 abbrev pub schema_element_start : SchemaText → ℕ → ℕ → ℕ
-schema_element_start s schema element = schema_start s schema + before_element_of_first (drop schema (schemas s)) element
+schema_element_start s schema element =
+    schema_start s schema + before_element_of_first (drop schema (schemas s)) element
 
 -- the first token of a cursor or a procedure
 abbrev pub module_item_start : ModuleText → ℕ → ℕ

@@ -48,11 +48,14 @@ fetch_from_tokens f = optional orientation_tokens f.orientation ++ lexeme.Word w
 
 -- FETCH [ [ orientation ] FROM ] name INTO parameter { "," parameter }
 abbrev pub fetch_tokens : Fetch → Tokens
-fetch_tokens f = lexeme.Word word.Fetch ∷ optional fetch_from_tokens f.from ++ lexeme.Name f.cursor ∷ lexeme.Word word.Into ∷ comma_tokens parameter_tokens f.targets
+fetch_tokens f = lexeme.Word word.Fetch ∷ optional fetch_from_tokens f.from
+    ++ lexeme.Name f.cursor ∷ lexeme.Word word.Into ∷ comma_tokens parameter_tokens f.targets
 
 -- SELECT [ ALL | DISTINCT ] list INTO parameter { "," parameter } table-exp
 abbrev pub select_tokens : Select → Tokens
-select_tokens s = lexeme.Word word.Select ∷ optional quantifier_tokens s.quantifier ++ select_list_tokens s.list ++ lexeme.Word word.Into ∷ comma_tokens parameter_tokens s.targets ++ table_expression_tokens s.table
+select_tokens s = lexeme.Word word.Select ∷ optional quantifier_tokens s.quantifier
+    ++ select_list_tokens s.list ++ lexeme.Word word.Into ∷ comma_tokens parameter_tokens s.targets
+    ++ table_expression_tokens s.table
 
 -- value = expr | NULL
 abbrev pub new_value_tokens : NewValue → Tokens
@@ -61,17 +64,20 @@ new_value_tokens value.Null = lexeme.Word word.Null ∷ []
 
 -- VALUES "(" value { "," value } ")" | specification
 abbrev pub insert_source_tokens : InsertSource → Tokens
-insert_source_tokens (source.Values values) = lexeme.Word word.Values ∷ bracketed (comma_tokens new_value_tokens values)
+insert_source_tokens (source.Values values) =
+    lexeme.Word word.Values ∷ bracketed (comma_tokens new_value_tokens values)
 insert_source_tokens (source.Query spec) = query_specification_tokens spec
 
 -- INSERT INTO table-name [ columns ] ( .. )
 abbrev pub insert_tokens : Insert → Tokens
-insert_tokens i = lexeme.Word word.Insert ∷ lexeme.Word word.Into ∷ table_name_tokens i.table ++ optional columns_tokens i.columns ++ insert_source_tokens i.source
+insert_tokens i = lexeme.Word word.Insert ∷ lexeme.Word word.Into ∷ table_name_tokens i.table
+    ++ optional columns_tokens i.columns ++ insert_source_tokens i.source
 
 -- where = WHERE condition | WHERE CURRENT OF name
 abbrev pub target_tokens : Where → Tokens
 target_tokens (Condition cond) = lexeme.Word word.Where ∷ cond_tokens cond
-target_tokens (CurrentOf cursor) = lexeme.Word word.Where ∷ lexeme.Word word.Current ∷ lexeme.Word word.Of ∷ lexeme.Name cursor ∷ []
+target_tokens (CurrentOf cursor) =
+    lexeme.Word word.Where ∷ lexeme.Word word.Current ∷ lexeme.Word word.Of ∷ lexeme.Name cursor ∷ []
 
 -- assignment = name "=" value
 abbrev pub assignment_tokens : Assignment → Tokens
@@ -79,11 +85,13 @@ assignment_tokens a = lexeme.Name a.column ∷ lexeme.Symbol symbol.Equal ∷ ne
 
 -- UPDATE table-name SET assignment { "," assignment } [ where ]
 abbrev pub update_tokens : Update → Tokens
-update_tokens u = lexeme.Word word.Update ∷ table_name_tokens u.table ++ lexeme.Word word.Set ∷ comma_tokens assignment_tokens u.assignments ++ optional target_tokens u.target
+update_tokens u = lexeme.Word word.Update ∷ table_name_tokens u.table
+    ++ lexeme.Word word.Set ∷ comma_tokens assignment_tokens u.assignments ++ optional target_tokens u.target
 
 -- DELETE FROM table-name [ where ]
 abbrev pub delete_tokens : Delete → Tokens
-delete_tokens d = lexeme.Word word.Delete ∷ lexeme.Word word.From ∷ table_name_tokens d.table ++ optional target_tokens d.target
+delete_tokens d = lexeme.Word word.Delete ∷ lexeme.Word word.From ∷ table_name_tokens d.table
+    ++ optional target_tokens d.target
 
 -- [ WORK ]
 abbrev pub work_tokens : Bool → Tokens

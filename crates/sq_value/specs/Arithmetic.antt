@@ -9,7 +9,8 @@ use Rattle.sq_value.specs.declared.fault.ArithmeticFault.TheVariants.{Range, Zer
 
 -- the number of a scale, or a fault where it has more than 18 digits
 abbrev pub in_range : ℕ → ℤ → Result Number ArithmeticFault
-in_range s m = if nat_lt (unsigned_abs m) (10 ^ 18) then Ok (record { unscaled = m; scale = s }) else Err Range
+in_range s m = if nat_lt (unsigned_abs m) (10 ^ 18) then Ok (record { unscaled = m; scale = s })
+    else Err Range
 
 -- the unscaled value of the same number at a greater scale
 abbrev pub at_scale : ℕ → Number → ℤ

@@ -35,7 +35,8 @@ abbrev pub pattern_items : Option ℕ → List ℕ → Result (List Item) LikeFa
 pattern_items e [] = Ok []
 pattern_items e (c ∷ []) = if is_escape e c then Err EscapeSequence else Ok (plain c ∷ [])
 pattern_items e (c ∷ d ∷ cs) =
-    if is_escape e c then (if may_be_escaped e d then with_item (This d) (pattern_items e cs) else Err EscapeSequence)
+    if is_escape e c then (if may_be_escaped e d then with_item (This d) (pattern_items e cs)
+    else Err EscapeSequence)
     else with_item (plain c) (pattern_items e (d ∷ cs))
 
 -- ---- cutting a text

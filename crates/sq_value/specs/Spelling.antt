@@ -21,7 +21,8 @@ are_digits ds = nat_lt 0 (length ds) && list_all is_ascii_digit ds
 abbrev pub read_parts : List ℕ → List ℕ → Result Number ReadFault
 read_parts whole fraction =
     if are_digits (whole ++ fraction) then (
-    if nat_le (length whole + length fraction) 18 then Ok (record { unscaled = pos (digits_value 10 (whole ++ fraction)); scale = length fraction })
+    if nat_le (length whole + length fraction) 18
+    then Ok (record { unscaled = pos (digits_value 10 (whole ++ fraction)); scale = length fraction })
     else Err Range)
     else Err NotANumber
 
@@ -42,4 +43,5 @@ fraction_written (suc k) n = point ∷ last_digits (suc k) n
 -- a sign where the number is below zero, the whole part, and as many digits after the point as the scale says
 abbrev pub written : Number → List ℕ
 written n =
-    sign_text (int_lt n.unscaled (pos 0)) ++ decimal (unsigned_abs n.unscaled / 10 ^ n.scale) ++ fraction_written n.scale (unsigned_abs n.unscaled)
+    sign_text (int_lt n.unscaled (pos 0)) ++ decimal (unsigned_abs n.unscaled / 10 ^ n.scale)
+    ++ fraction_written n.scale (unsigned_abs n.unscaled)

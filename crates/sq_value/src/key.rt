@@ -15,13 +15,13 @@ use std::alloc::{AllocError, Global};
 use std::hash::{Hash, Hasher};
 use std::marker::Model;
 
-/// The values of a key, six of them in place. Contracts see it as the list of its values.
+/// The values of a key, two of them in place. Contracts see it as the list of its values.
 ///
 /// Two keys are equal where they have one length and are the same in each place: null is the same as null, numbers of
 /// one value are, whatever their scales, and texts that differ only in the blanks at their ends.
 #[derive(Drop)]
 pub struct Key {
-    parts: SmallVec<Part, 6>,
+    parts: SmallVec<Part, 2>,
 }
 
 impl Model for Key {

@@ -30,7 +30,8 @@ pub enum Item {
 /// It takes time bounded by the product of the two lengths, and no memory.
 pub fn like(text: &Value, pattern: &Value, escape: Option<&Value>) -> Result<Truth, LikeFault>
     ensures answer { result ≡ liked text.now pattern.now (option_copied escape.entry) }
-    ensures cutting { (items : List Item) (codes : List ℕ) → IsTrue (can_be_cut items codes) ↔ CanBeCut items codes }
+    ensures cutting { (items : List Item) (codes : List ℕ) → IsTrue (can_be_cut items codes)
+        ↔ CanBeCut items codes }
 {
     liked(text, pattern, escape)
 }
@@ -53,7 +54,8 @@ fn liked(text: &Value, pattern: &Value, escape: Option<&Value>) -> Result<Truth,
 
 /// The only code of an escape character.
 fn one_code(codes: &[u8]) -> Result<u8, LikeFault>
-    ensures { MatchResult result (λ code. one_code codes.now ≡ Ok (Some code)) (λ fault. one_code codes.now ≡ Err fault) }
+    ensures { MatchResult result (λ code. one_code codes.now ≡ Ok (Some code))
+        (λ fault. one_code codes.now ≡ Err fault) }
 {
     match codes {
         [code] => Ok(*code),
@@ -143,7 +145,8 @@ fn cut_by_nothing(cuts: &mut [bool])
 /// Puts one item more before those by which the text was cut.
 fn put_before(item: Item, text: &[u8], cuts: &mut [bool])
     requires { length cuts.old ≡ length text.now + 1 }
-    ensures { (items : List Item) → AreCuts items text.now cuts.old → AreCuts (item ∷ items) text.now cuts.new }
+    ensures { (items : List Item) → AreCuts items text.now cuts.old
+        → AreCuts (item ∷ items) text.now cuts.new }
 {
     match item {
         Item::AnyRun => put_any_run(cuts),
@@ -154,8 +157,11 @@ fn put_before(item: Item, text: &[u8], cuts: &mut [bool])
 /// A run ends at once, or takes the code here and goes on.
 fn put_any_run(cuts: &mut [bool])
     requires { 0 < length cuts.old }
-    ensures same_end { slice_index_or cuts.new (length cuts.old - 1) false ≡ slice_index_or cuts.old (length cuts.old - 1) false }
-    ensures each { (k : ℕ) → k + 1 < length cuts.old → slice_index_or cuts.new k false ≡ (slice_index_or cuts.old k false || slice_index_or cuts.new (k + 1) false) }
+    ensures same_end { slice_index_or cuts.new (length cuts.old - 1) false
+        ≡ slice_index_or cuts.old (length cuts.old - 1) false }
+    ensures each { (k : ℕ) → k + 1 < length cuts.old
+        → slice_index_or cuts.new k false
+        ≡ (slice_index_or cuts.old k false || slice_index_or cuts.new (k + 1) false) }
 {
     for place in (0..cuts.len() - 1).rev() {
         cuts[place] = cuts[place] || cuts[place + 1];
@@ -166,7 +172,9 @@ fn put_any_run(cuts: &mut [bool])
 fn put_one_code(item: Item, text: &[u8], cuts: &mut [bool])
     requires { length cuts.old ≡ length text.now + 1 }
     ensures no_end { slice_index_or cuts.new (length text.now) false ≡ false }
-    ensures each { (k : ℕ) → k < length text.now → slice_index_or cuts.new k false ≡ (takes item (slice_index text.now k) && slice_index_or cuts.old (k + 1) false) }
+    ensures each { (k : ℕ) → k < length text.now
+        → slice_index_or cuts.new k false
+        ≡ (takes item (slice_index text.now k) && slice_index_or cuts.old (k + 1) false) }
 {
     for place in 0..text.len() {
         cuts[place] = item.takes(text[place]) && cuts[place + 1];

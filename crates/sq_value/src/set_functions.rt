@@ -84,7 +84,8 @@ impl Extreme {
 /// A copy of the value, or null.
 fn copy_of(alloc: Global, value: Option<&Value>) -> Result<Value, AllocError>
     ensures value { IfOk result (λ v. v ≡ unwrap_or (option_copied value.entry) Value.Null) }
-    ensures memory { let v = unwrap_or (option_copied value.entry) Value.Null in takes_memory v ≡ false → result ≡ Ok v }
+    ensures memory { let v = unwrap_or (option_copied value.entry) Value.Null in takes_memory v ≡ false
+        → result ≡ Ok v }
 {
     match value {
         Some(value) => value.copy(alloc),

@@ -73,7 +73,8 @@ run =
 
 -- `check [--schema F]... [--module F]...`
 abbrev pub check : App
-check = with_rule (with_rule (new_app (codes "check")) (files_rule (codes "schema"))) (files_rule (codes "module"))
+check = with_rule (with_rule (new_app (codes "check")) (files_rule (codes "schema")))
+    (files_rule (codes "module"))
 
 -- A word that stands without an option.
 abbrev pub name_rule : Rule
@@ -134,7 +135,8 @@ MakesExplain rows request = option_map (λ name. name.now) request.name ≡ firs
 -- ---- what the words ask for
 
 abbrev pub is_subcommand : Text → Bool
-is_subcommand name = bytes_eq name (codes "run") || bytes_eq name (codes "check") || bytes_eq name (codes "explain")
+is_subcommand name = bytes_eq name (codes "run") || bytes_eq name (codes "check")
+    || bytes_eq name (codes "explain")
 
 -- a subcommand that the program has, with what it may be given
 abbrev pub IsGiven : Text → List Row → Type 0

@@ -21,15 +21,18 @@ scaled_lt : (x y : ℤ) (k : ℕ) → 0 < k → x <ℤ y → (x *ℤ pos k) <ℤ
 scaled_lt (pos a) (pos b) k p h = let f = times_lt a b k p (omega (arith, ints)) in omega (arith, ints)
 scaled_lt (pos a) (negsuc b) k p h = absurd (omega (arith, ints))
 scaled_lt (negsuc a) (pos b) k p h = let f = positive a k p in omega (arith, ints)
-scaled_lt (negsuc a) (negsuc b) k p h = let f = times_lt (suc b) (suc a) k p (omega (arith, ints)) in omega (arith, ints)
+scaled_lt (negsuc a) (negsuc b) k p h = let f = times_lt (suc b) (suc a) k p (omega (arith, ints)) in
+    omega (arith, ints)
 
-scaled_rank : (x y : ℤ) (k : ℕ) → 0 < k → (r : Ordering) → MatchOrdering r (x <ℤ y) (x ≡ y) (y <ℤ x) → MatchOrdering r ((x *ℤ pos k) <ℤ (y *ℤ pos k)) (x *ℤ pos k ≡ y *ℤ pos k) ((y *ℤ pos k) <ℤ (x *ℤ pos k))
+scaled_rank : (x y : ℤ) (k : ℕ) → 0 < k → (r : Ordering) → MatchOrdering r (x <ℤ y) (x ≡ y) (y <ℤ x)
+    → MatchOrdering r ((x *ℤ pos k) <ℤ (y *ℤ pos k)) (x *ℤ pos k ≡ y *ℤ pos k) ((y *ℤ pos k) <ℤ (x *ℤ pos k))
 scaled_rank x y k p Less h = scaled_lt x y k p h
 scaled_rank x y k p Equal h = ap (λ z. z *ℤ pos k) h
 scaled_rank x y k p Greater h = scaled_lt y x k p h
 
 scaled_cmp : (x y : ℤ) (k : ℕ) → 0 < k → int_cmp x y ≡ int_cmp (x *ℤ pos k) (y *ℤ pos k)
-scaled_cmp x y k p = int_cmp_is (x *ℤ pos k) (y *ℤ pos k) (int_cmp x y) (scaled_rank x y k p (int_cmp x y) (int_ranks x y))
+scaled_cmp x y k p = int_cmp_is (x *ℤ pos k) (y *ℤ pos k) (int_cmp x y)
+    (scaled_rank x y k p (int_cmp x y) (int_ranks x y))
 
 negated_times : (n k : ℕ) → neg_ℤ (pos n) *ℤ pos k ≡ neg_ℤ (pos (n * k))
 negated_times zero k = ap pos (zero-mul k) ∙ sym (ap (λ n. neg_ℤ (pos n)) (zero-mul k))
@@ -49,27 +52,47 @@ compared_alike a b h =
     ∙ ap (λ s. int_cmp (a.unscaled *ℤ pos (10 ^ s)) (b.unscaled *ℤ pos (10 ^ a.scale))) h
 
 -- two numbers compare as both times the power of ten of a third one's scale
-third : (a b : Number) (s : ℕ) → compared a b ≡ int_cmp (a.unscaled *ℤ pos (10 ^ b.scale * 10 ^ s)) (b.unscaled *ℤ pos (10 ^ a.scale * 10 ^ s))
+third : (a b : Number) (s : ℕ)
+    → compared a b ≡ int_cmp (a.unscaled *ℤ pos (10 ^ b.scale * 10 ^ s))
+    (b.unscaled *ℤ pos (10 ^ a.scale * 10 ^ s))
 third a b s =
     scaled_cmp (a.unscaled *ℤ pos (10 ^ b.scale)) (b.unscaled *ℤ pos (10 ^ a.scale)) (10 ^ s) (ten_positive s)
-    ∙ (λ i. int_cmp (times_twice a.unscaled (10 ^ b.scale) (10 ^ s) i) (times_twice b.unscaled (10 ^ a.scale) (10 ^ s) i))
+    ∙ (λ i. int_cmp (times_twice a.unscaled (10 ^ b.scale) (10 ^ s) i)
+    (times_twice b.unscaled (10 ^ a.scale) (10 ^ s) i))
 
-turned : (x y : ℤ) (k l m n : ℕ) → int_cmp (x *ℤ pos (k * l)) (y *ℤ pos (m * n)) ≡ int_cmp (x *ℤ pos (l * k)) (y *ℤ pos (n * m))
+turned : (x y : ℤ) (k l m n : ℕ) → int_cmp (x *ℤ pos (k * l)) (y *ℤ pos (m * n))
+    ≡ int_cmp (x *ℤ pos (l * k)) (y *ℤ pos (n * m))
 turned x y k l m n = λ i. int_cmp (x *ℤ pos (mul_comm k l i)) (y *ℤ pos (mul_comm m n i))
 
 -- all three comparisons of three numbers, over one common power of ten
-first_second : (a b c : Number) → compared a b ≡ int_cmp (a.unscaled *ℤ pos (10 ^ b.scale * 10 ^ c.scale)) (b.unscaled *ℤ pos (10 ^ a.scale * 10 ^ c.scale))
+first_second : (a b c : Number)
+    → compared a b ≡ int_cmp (a.unscaled *ℤ pos (10 ^ b.scale * 10 ^ c.scale))
+    (b.unscaled *ℤ pos (10 ^ a.scale * 10 ^ c.scale))
 first_second a b c = third a b c.scale
 
-second_third : (a b c : Number) → compared b c ≡ int_cmp (b.unscaled *ℤ pos (10 ^ a.scale * 10 ^ c.scale)) (c.unscaled *ℤ pos (10 ^ a.scale * 10 ^ b.scale))
-second_third a b c = third b c a.scale ∙ turned b.unscaled c.unscaled (10 ^ c.scale) (10 ^ a.scale) (10 ^ b.scale) (10 ^ a.scale)
+second_third : (a b c : Number)
+    → compared b c ≡ int_cmp (b.unscaled *ℤ pos (10 ^ a.scale * 10 ^ c.scale))
+    (c.unscaled *ℤ pos (10 ^ a.scale * 10 ^ b.scale))
+second_third a b c = third b c a.scale ∙ turned b.unscaled c.unscaled (10 ^ c.scale) (10 ^ a.scale)
+    (10 ^ b.scale) (10 ^ a.scale)
 
-first_third : (a b c : Number) → compared a c ≡ int_cmp (a.unscaled *ℤ pos (10 ^ b.scale * 10 ^ c.scale)) (c.unscaled *ℤ pos (10 ^ a.scale * 10 ^ b.scale))
-first_third a b c = third a c b.scale ∙ (λ i. int_cmp (a.unscaled *ℤ pos (mul_comm (10 ^ c.scale) (10 ^ b.scale) i)) (c.unscaled *ℤ pos (10 ^ a.scale * 10 ^ b.scale)))
+first_third : (a b c : Number)
+    → compared a c ≡ int_cmp (a.unscaled *ℤ pos (10 ^ b.scale * 10 ^ c.scale))
+    (c.unscaled *ℤ pos (10 ^ a.scale * 10 ^ b.scale))
+first_third a b c = third a c b.scale ∙
+    (λ i. int_cmp (a.unscaled *ℤ pos (mul_comm (10 ^ c.scale) (10 ^ b.scale) i))
+    (c.unscaled *ℤ pos (10 ^ a.scale * 10 ^ b.scale)))
 
 pub numbers_total : IsTotalOrder compared
 numbers_total = record {
-  antisymm = λ a b. int_cmp_total.antisymm (a.unscaled *ℤ pos (10 ^ b.scale)) (b.unscaled *ℤ pos (10 ^ a.scale));
-  trans = λ a b c p q. first_third a b c ∙ int_cmp_total.trans (a.unscaled *ℤ pos (10 ^ b.scale * 10 ^ c.scale)) (b.unscaled *ℤ pos (10 ^ a.scale * 10 ^ c.scale)) (c.unscaled *ℤ pos (10 ^ a.scale * 10 ^ b.scale)) (sym (first_second a b c) ∙ p) (sym (second_third a b c) ∙ q);
-  congr = λ a b c p. first_third a b c ∙ int_cmp_total.congr (a.unscaled *ℤ pos (10 ^ b.scale * 10 ^ c.scale)) (b.unscaled *ℤ pos (10 ^ a.scale * 10 ^ c.scale)) (c.unscaled *ℤ pos (10 ^ a.scale * 10 ^ b.scale)) (sym (first_second a b c) ∙ p) ∙ sym (second_third a b c);
+  antisymm = λ a b. int_cmp_total.antisymm (a.unscaled *ℤ pos (10 ^ b.scale))
+      (b.unscaled *ℤ pos (10 ^ a.scale));
+  trans = λ a b c p q. first_third a b c ∙ int_cmp_total.trans
+      (a.unscaled *ℤ pos (10 ^ b.scale * 10 ^ c.scale)) (b.unscaled *ℤ pos (10 ^ a.scale * 10 ^ c.scale))
+      (c.unscaled *ℤ pos (10 ^ a.scale * 10 ^ b.scale)) (sym (first_second a b c) ∙ p)
+      (sym (second_third a b c) ∙ q);
+  congr = λ a b c p. first_third a b c ∙ int_cmp_total.congr
+      (a.unscaled *ℤ pos (10 ^ b.scale * 10 ^ c.scale)) (b.unscaled *ℤ pos (10 ^ a.scale * 10 ^ c.scale))
+      (c.unscaled *ℤ pos (10 ^ a.scale * 10 ^ b.scale)) (sym (first_second a b c) ∙ p) ∙ sym
+      (second_third a b c);
 }

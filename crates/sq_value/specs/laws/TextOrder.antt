@@ -14,7 +14,8 @@ use Rattle.sq_value.specs.laws.Padding.{from_front, front_is, padded_is}
 abbrev longest : List ℕ → List ℕ → List ℕ → ℕ
 longest s t u = max (length s) (max (length t) (length u))
 
-at_one_length : (n : ℕ) (s t : List ℕ) → length s ≤ n → length t ≤ n → texts_compared s t ≡ slice_cmp nat_cmp (padded n s) (padded n t)
+at_one_length : (n : ℕ) (s t : List ℕ) → length s ≤ n → length t ≤ n
+    → texts_compared s t ≡ slice_cmp nat_cmp (padded n s) (padded n t)
 at_one_length n s t p q = front_is s t ∙ sym (padded_is n s t p q)
 
 pub texts_total : IsTotalOrder texts_compared
@@ -25,10 +26,14 @@ texts_total = record {
       ∙ ap ordering_reverse (sym (at_one_length (longest s t []) t s (omega arith) (omega arith)));
   trans = λ s t u p q.
       at_one_length (longest s t u) s u (omega arith) (omega arith)
-      ∙ nat_list_cmp_total.trans (padded (longest s t u) s) (padded (longest s t u) t) (padded (longest s t u) u) (sym (at_one_length (longest s t u) s t (omega arith) (omega arith)) ∙ p) (sym (at_one_length (longest s t u) t u (omega arith) (omega arith)) ∙ q);
+      ∙ nat_list_cmp_total.trans (padded (longest s t u) s) (padded (longest s t u) t)
+      (padded (longest s t u) u)
+      (sym (at_one_length (longest s t u) s t (omega arith) (omega arith)) ∙ p)
+      (sym (at_one_length (longest s t u) t u (omega arith) (omega arith)) ∙ q);
   congr = λ s t u p.
       at_one_length (longest s t u) s u (omega arith) (omega arith)
-      ∙ nat_list_cmp_total.congr (padded (longest s t u) s) (padded (longest s t u) t) (padded (longest s t u) u) (sym (at_one_length (longest s t u) s t (omega arith) (omega arith)) ∙ p)
+      ∙ nat_list_cmp_total.congr (padded (longest s t u) s) (padded (longest s t u) t)
+      (padded (longest s t u) u) (sym (at_one_length (longest s t u) s t (omega arith) (omega arith)) ∙ p)
       ∙ sym (at_one_length (longest s t u) t u (omega arith) (omega arith));
 }
 

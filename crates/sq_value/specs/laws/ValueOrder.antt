@@ -35,7 +35,8 @@ abbrev by_parts : Value → Value → Ordering
 by_parts = then_cmp (on kind_rank nat_cmp) (then_cmp (on number_part compared) (on text_part texts_compared))
 
 parts_total : IsTotalOrder by_parts
-parts_total = then_total (on_total kind_rank nat_cmp_total) (then_total (on_total number_part numbers_total) (on_total text_part texts_total))
+parts_total = then_total (on_total kind_rank nat_cmp_total)
+    (then_total (on_total number_part numbers_total) (on_total text_part texts_total))
 
 then_equal : (o : Ordering) → o ≡ ordering_then o Equal
 then_equal Less = refl
@@ -80,11 +81,13 @@ negated_quotient (suc n) k = refl
 -- a factor of both goes
 quotient_reduced : (x : ℤ) (d k : ℕ) → 0 < k → int_div (x *ℤ pos k) (pos (d * k)) ≡ int_div x (pos d)
 quotient_reduced (pos a) d k p = ap pos (mul-div-mul_right a d p)
-quotient_reduced (negsuc a) d k p = negated_quotient (suc a * k) (d * k) ∙ ap (λ q. neg_ℤ (pos q)) (mul-div-mul_right (suc a) d p)
+quotient_reduced (negsuc a) d k p =
+    negated_quotient (suc a * k) (d * k) ∙ ap (λ q. neg_ℤ (pos q)) (mul-div-mul_right (suc a) d p)
 
 whole_quotient : (x : ℤ) (k : ℕ) → 0 < k → int_div (x *ℤ pos k) (pos k) ≡ x
 whole_quotient (pos a) k p = ap pos (mul-div_cancel a p)
-whole_quotient (negsuc a) k p = negated_quotient (suc a * k) k ∙ ap (λ q. neg_ℤ (pos q)) (mul-div_cancel (suc a) p)
+whole_quotient (negsuc a) k p =
+    negated_quotient (suc a * k) k ∙ ap (λ q. neg_ℤ (pos q)) (mul-div_cancel (suc a) p)
 
 exchanged : (x : ℤ) (k l : ℕ) → x *ℤ pos k *ℤ pos l ≡ x *ℤ pos l *ℤ pos k
 exchanged x k l = times_twice x k l ∙ ap (λ n. x *ℤ pos n) (mul_comm k l) ∙ sym (times_twice x l k)
@@ -94,12 +97,17 @@ equal_from Less h = cc
 equal_from Equal h = refl
 equal_from Greater h = cc
 
-same_at_18 : (a b : Number) → is_eq (compared a b) ≡ true → (truncated 18 a).unscaled ≡ (truncated 18 b).unscaled
+same_at_18 : (a b : Number) → is_eq (compared a b) ≡ true
+    → (truncated 18 a).unscaled ≡ (truncated 18 b).unscaled
 same_at_18 a b h =
-    let equal : a.unscaled *ℤ pos (10 ^ b.scale) ≡ b.unscaled *ℤ pos (10 ^ a.scale) = exact_signed _ _ (equal_from (compared a b) h) in
+    let equal : a.unscaled *ℤ pos (10 ^ b.scale) ≡ b.unscaled *ℤ pos (10 ^ a.scale) =
+    exact_signed _ _ (equal_from (compared a b) h) in
     sym (quotient_reduced (a.unscaled *ℤ pos (10 ^ 18)) (10 ^ a.scale) (10 ^ b.scale) (ten_positive b.scale))
-    ∙ ap (λ x. int_div x (pos (10 ^ a.scale * 10 ^ b.scale))) (exchanged a.unscaled (10 ^ 18) (10 ^ b.scale) ∙ ap (λ x. x *ℤ pos (10 ^ 18)) equal ∙ exchanged b.unscaled (10 ^ a.scale) (10 ^ 18))
-    ∙ ap (λ d. int_div (b.unscaled *ℤ pos (10 ^ 18) *ℤ pos (10 ^ a.scale)) (pos d)) (mul_comm (10 ^ a.scale) (10 ^ b.scale))
+    ∙ ap (λ x. int_div x (pos (10 ^ a.scale * 10 ^ b.scale)))
+    (exchanged a.unscaled (10 ^ 18) (10 ^ b.scale) ∙ ap
+    (λ x. x *ℤ pos (10 ^ 18)) equal ∙ exchanged b.unscaled (10 ^ a.scale) (10 ^ 18))
+    ∙ ap (λ d. int_div (b.unscaled *ℤ pos (10 ^ 18) *ℤ pos (10 ^ a.scale)) (pos d))
+    (mul_comm (10 ^ a.scale) (10 ^ b.scale))
     ∙ quotient_reduced (b.unscaled *ℤ pos (10 ^ 18)) (10 ^ b.scale) (10 ^ a.scale) (ten_positive a.scale)
 
 pub same_fed : (v w : Value) → is_same v w ≡ true → value_writes v ≡ value_writes w
@@ -117,9 +125,11 @@ same_fed (Chars s) (Chars t) h = ap (λ u. fed.u8 2 ++ fed.slice fed.u8 u) (same
 pub at_18_is : (n : Number) → n.scale ≤ 18 → at_scale 18 n ≡ (truncated 18 n).unscaled
 at_18_is n h =
     let whole : 18 - n.scale + n.scale ≡ 18 = omega arith in
-    let power : 10 ^ (18 - n.scale) * 10 ^ n.scale ≡ 10 ^ 18 = sym (pow-add 10 (18 - n.scale) n.scale) ∙ ap (λ k. 10 ^ k) whole in
+    let power : 10 ^ (18 - n.scale) * 10 ^ n.scale ≡ 10 ^ 18 =
+    sym (pow-add 10 (18 - n.scale) n.scale) ∙ ap (λ k. 10 ^ k) whole in
     sym (whole_quotient (n.unscaled *ℤ pos (10 ^ (18 - n.scale))) (10 ^ n.scale) (ten_positive n.scale))
-    ∙ ap (λ x. int_div x (pos (10 ^ n.scale))) (times_twice n.unscaled (10 ^ (18 - n.scale)) (10 ^ n.scale) ∙ ap (λ k. n.unscaled *ℤ pos k) power)
+    ∙ ap (λ x. int_div x (pos (10 ^ n.scale)))
+    (times_twice n.unscaled (10 ^ (18 - n.scale)) (10 ^ n.scale) ∙ ap (λ k. n.unscaled *ℤ pos k) power)
 
 -- a number at its own scale
 pub truncated_alike : (n : Number) (s : ℕ) → n.scale ≡ s → n.unscaled ≡ (truncated s n).unscaled

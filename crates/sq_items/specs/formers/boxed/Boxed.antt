@@ -44,16 +44,24 @@ module _ (R S : RattleType) (h : R.Denot → S.Denot) where
   unfolding part_of
   box_places alike = record {
     mir_same = λ i. (box_of (one_value R (alike.mir_same i) (λ _. ftrue) (λ _ _. nothing) gnil)).mir;
-    own_same = λ b i. (box_of (one_value R (alike.mir_same i) (alike.own_same b.value i) (alike.shr_same b.value i) gnil)).own_val (with_value b tt);
-    shr_same = λ b i. (box_of (one_value R (alike.mir_same i) (alike.own_same b.value i) (alike.shr_same b.value i) gnil)).shr_at (with_value b tt);
+    own_same = λ b i. (box_of
+        (one_value R (alike.mir_same i) (alike.own_same b.value i) (alike.shr_same b.value i) gnil)).own_val
+        (with_value b tt);
+    shr_same = λ b i. (box_of
+        (one_value R (alike.mir_same i) (alike.own_same b.value i) (alike.shr_same b.value i) gnil)).shr_at
+        (with_value b tt);
   }
 
-  pub the_places : Alike R S h → Alike (contracts.the_row R) (contracts.the_row S) ((the_former this).map R.Denot S.Denot h)
+  pub the_places : Alike R S h
+      → Alike (contracts.the_row R) (contracts.the_row S) ((the_former this).map R.Denot S.Denot h)
   the_places alike =
-      view_places fields this view (λ X Y k u. refl) (λ X u. refl) R.Denot S.Denot h (contracts.the_row R).coded (contracts.the_row S).coded
+      view_places fields this view (λ X Y k u. refl)
+      (λ X u. refl) R.Denot S.Denot h (contracts.the_row R).coded (contracts.the_row S).coded
       (invariant R.Denot) (invariant S.Denot) (λ u p q. refl) (λ u p q. refl) (λ u e. tt) (λ u e. tt)
       (over (inside.the_row R)) (over (inside.the_row S))
-      (struct_places (inside.the_type R) (inside.the_type S) ((λ b. with_value b (h b.value)), tt) _ (λ d. refl) refl (laid _ _ _ (box_places alike), tt))
+      (struct_places (inside.the_type R) (inside.the_type S) ((λ b. with_value b (h b.value)), tt) _
+      (λ d. refl) refl (laid _ _ _ (box_places alike), tt))
 
-  pub the_codes_placed : Recodes R S h → Recodes (contracts.the_row R) (contracts.the_row S) ((the_former this).map R.Denot S.Denot h)
+  pub the_codes_placed : Recodes R S h
+      → Recodes (contracts.the_row R) (contracts.the_row S) ((the_former this).map R.Denot S.Denot h)
   the_codes_placed recoded value = recoded value

@@ -31,20 +31,26 @@ the_empty = []
 abbrev pub the_items : (X : Type 0) → List X → List X
 the_items X xs = xs
 
-pub the_items_listed : (X : Type 0) (xs : List X) → listed _ (children (the_former this) X xs) ≡ the_items X xs
+pub the_items_listed : (X : Type 0) (xs : List X) → listed _ (children (the_former this) X xs)
+    ≡ the_items X xs
 the_items_listed X xs = list-listed X xs
 
 -- the struct's one field, a vector
 abbrev fields : Former {0}
-fields = via (vec.the_former this Global) Inside (λ X a. a.items) (λ X v. record { items = v }) (λ X a. refl) (λ X v. refl)
+fields = via (vec.the_former this Global) Inside (λ X a. a.items) (λ X v. record { items = v })
+    (λ X a. refl) (λ X v. refl)
 
 module _ (R S : RattleType) (h : R.Denot → S.Denot) where
-  pub the_places : Alike R S h → Alike (contracts.the_row R) (contracts.the_row S) ((the_former this).map R.Denot S.Denot h)
+  pub the_places : Alike R S h
+      → Alike (contracts.the_row R) (contracts.the_row S) ((the_former this).map R.Denot S.Denot h)
   the_places alike =
-      view_places fields (list this) view (λ X Y k u. refl) (λ X u. refl) R.Denot S.Denot h (contracts.the_row R).coded (contracts.the_row S).coded
+      view_places fields (list this) view (λ X Y k u. refl)
+      (λ X u. refl) R.Denot S.Denot h (contracts.the_row R).coded (contracts.the_row S).coded
       (invariant R.Denot) (invariant S.Denot) (λ u p q. refl) (λ u p q. refl) (λ u e. tt) (λ u e. tt)
       (over (inside.the_row R)) (over (inside.the_row S))
-      (struct_places (inside.the_type R) (inside.the_type S) (vec.mapped h, tt) _ (λ d. refl) refl (laid _ _ _ (vec.the_places heap.the_row ghosts R S h alike), tt))
+      (struct_places (inside.the_type R) (inside.the_type S) (vec.mapped h, tt) _
+      (λ d. refl) refl (laid _ _ _ (vec.the_places heap.the_row ghosts R S h alike), tt))
 
-  pub the_codes_placed : Recodes R S h → Recodes (contracts.the_row R) (contracts.the_row S) ((the_former this).map R.Denot S.Denot h)
+  pub the_codes_placed : Recodes R S h
+      → Recodes (contracts.the_row R) (contracts.the_row S) ((the_former this).map R.Denot S.Denot h)
   the_codes_placed recoded xs = sym (code_map R.coded.code S.coded.code h (λ x. sym (recoded x)) xs)
