@@ -98,10 +98,3 @@ is_shortest_of leaf (Some own) k =
 abbrev pub is_plain_base : TableBody → Option Leaf → Bool
 is_plain_base (body.Base b) leaf = option_all (λ l. nat_eq (length l.conditions) 0) leaf
 is_plain_base (body.View v) leaf = true
-
--- The key that is noted for a condition on the rows under a table: on a base table the shortest by which the condition names a row, and none
--- where a view is in between.
-abbrev pub IsKeyNoted : TableBody → Leaf → Option BoundCond → Option ℕ → Type 0
-IsKeyNoted (body.Base b) leaf None noted = noted ≡ None
-IsKeyNoted (body.Base b) leaf (Some own) noted = IsShortestKey leaf.table.keys own noted
-IsKeyNoted (body.View v) leaf own noted = noted ≡ None

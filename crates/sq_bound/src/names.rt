@@ -63,9 +63,13 @@ pub trait Names {
 
     ghost references: { (names : Self) → all_refer (base_tables names) ≡ true };
 
-    ghost kinds_of_bases: { (names : Self) (place : ℕ) (b : BaseTable) → slice_get (base_tables names) place ≡ Some b → column_kinds names (at_place.Base place) ≡ Ok (base_kinds b) };
+    ghost kinds_of_bases: { (names : Self) (place : ℕ) (b : BaseTable)
+        → slice_get (base_tables names) place ≡ Some b
+        → column_kinds names (at_place.Base place) ≡ Ok (base_kinds b) };
 
-    ghost kinds_of_views: { (names : Self) (place : ℕ) (kinds : List AnyKind) → column_kinds names (at_place.View place) ≡ Ok kinds → IsViewQuery (column_kinds names) (view_queries names) place kinds };
+    ghost kinds_of_views: { (names : Self) (place : ℕ) (kinds : List AnyKind)
+        → column_kinds names (at_place.View place) ≡ Ok kinds
+        → IsViewQuery (column_kinds names) (view_queries names) place kinds };
 }
 
 /// A cursor's number among the cursors of all modules, and the cursor.
@@ -92,8 +96,12 @@ pub struct TableDesc {
     pub body: TableBody,
     /// For a base table and an updatable view, the rows under it.
     pub leaf: Option<Shared<Leaf>>,
-    ghost leaf_columns: { option_all (λ l. list_all (λ c. nat_lt c.leaf_column (length l.table.columns)) columns) leaf ≡ true },
-    ghost leaf_kinds: { option_all (λ l. list_all (λ c. is_kind_at (map (λ own. kind_of own.domain) l.table.columns) c.leaf_column c.kind) columns) leaf ≡ true },
+    ghost leaf_columns: { option_all
+        (λ l. list_all (λ c. nat_lt c.leaf_column (length l.table.columns)) columns) leaf ≡ true },
+    ghost leaf_kinds: { option_all
+        (λ l. list_all
+        (λ c. is_kind_at (map (λ own. kind_of own.domain) l.table.columns) c.leaf_column c.kind) columns)
+        leaf ≡ true },
 }
 
 /// A column, as a query sees it.

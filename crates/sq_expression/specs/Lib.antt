@@ -1,7 +1,7 @@
 pub mod Arithmetic
 pub mod ByKey
+pub mod Evaluated
 pub mod Fault
-pub mod Found
 pub mod Frame
 pub mod Group
 pub mod Index

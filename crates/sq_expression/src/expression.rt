@@ -16,8 +16,8 @@ ghost use Rattle.sq_expression.specs.Frame.{column_meant, env_of, group_values, 
 
 use crate::arithmetic::{calculated, signed};
 use crate::context::Context;
+use crate::evaluated::Evaluated;
 use crate::fault::Fault;
-use crate::found::Found;
 use crate::frame::{Frame, column_value, value_at};
 use crate::whole_expression::whole_value;
 use sq_bound::{BoundExpr, Input, Operator, Place};
@@ -32,12 +32,12 @@ pub fn value<'a>(
     expr: &'a BoundExpr,
     frame: &Frame<'a>,
     context: &Context<'a>,
-) -> Result<Found<'a>, Fault>
+) -> Result<Evaluated<'a>, Fault>
     ensures { Meets result
         (meaning.value (reading context.now) (on_line frame.now expr.now) (env_of frame.now context.now)) }
 {
     match whole_value(expr, frame, context) {
-        Some(number) => Ok(Found::made(number.value())),
+        Some(number) => Ok(Evaluated::made(number.value())),
         None => any_value(expr, frame, context),
     }
 }
@@ -84,12 +84,12 @@ fn any_value<'a>(
     expr: &'a BoundExpr,
     frame: &Frame<'a>,
     context: &Context<'a>,
-) -> Result<Found<'a>, Fault>
+) -> Result<Evaluated<'a>, Fault>
     ensures { Meets result
         (meaning.value (reading context.now) (on_line frame.now expr.now) (env_of frame.now context.now)) }
 {
     match expr {
-        BoundExpr::Literal(value) => Ok(Found::lent(value)),
+        BoundExpr::Literal(value) => Ok(Evaluated::lent(value)),
         BoundExpr::Parameter(input) => input_value(*input, context.parameters),
         BoundExpr::User => user_value(context),
         BoundExpr::Column(place) => column_value(*place, frame),
@@ -109,25 +109,28 @@ fn any_value<'a>(
 }
 
 /// The operand's value with the sign before it, or its fault.
-fn signed_or_fault<'a>(sign: Sign, operand: Result<Found<'a>, Fault>) -> Result<Found<'a>, Fault>
+fn signed_or_fault<'a>(
+    sign: Sign,
+    operand: Result<Evaluated<'a>, Fault>,
+) -> Result<Evaluated<'a>, Fault>
     ensures { (outcome : Outcome AnyValue) → Meets operand.entry outcome
         → Meets result (and_then outcome (meaning.with_sign sign)) }
 {
     let operand = operand?;
-    Ok(Found::made(signed(sign, operand.get())?))
+    Ok(Evaluated::made(signed(sign, operand.get())?))
 }
 
 /// What the operator gives of the left value and the right one, or the right one's fault.
 fn calculated_or_fault<'a>(
     operator: Operator,
-    left: Found<'a>,
-    right: Result<Found<'a>, Fault>,
-) -> Result<Found<'a>, Fault>
+    left: Evaluated<'a>,
+    right: Result<Evaluated<'a>, Fault>,
+) -> Result<Evaluated<'a>, Fault>
     ensures { (outcome : Outcome AnyValue) → Meets right.entry outcome
         → Meets result (and_then outcome (operation operator left.entry)) }
 {
     match right {
-        Ok(right) => Ok(Found::made(calculated(operator, left.get(), right.get())?)),
+        Ok(right) => Ok(Evaluated::made(calculated(operator, left.get(), right.get())?)),
         Err(fault) => {
             drop(left);
             Err(fault)
@@ -136,17 +139,17 @@ fn calculated_or_fault<'a>(
 }
 
 /// The value of the group's set function with this number.
-fn function_value<'a>(number: usize, frame: &Frame<'a>) -> Result<Found<'a>, Fault>
+fn function_value<'a>(number: usize, frame: &Frame<'a>) -> Result<Evaluated<'a>, Fault>
     ensures { Meets result (well_formed (slice_get (group_values frame.now) number)) }
 {
     match frame.functions.get(number) {
-        Some(value) => Ok(Found::lent(value)),
+        Some(value) => Ok(Evaluated::lent(value)),
         None => Err(Fault::NOT_WELL_FORMED),
     }
 }
 
 /// A parameter's value, and null where its indicator is below zero.
-fn input_value<'a>(input: Input, parameters: &'a [Value]) -> Result<Found<'a>, Fault>
+fn input_value<'a>(input: Input, parameters: &'a [Value]) -> Result<Evaluated<'a>, Fault>
     ensures { Meets result (placed_value (parameter_meant input) (inputs_of parameters.now)) }
 {
     match parameters.get(input.parameter) {
@@ -159,11 +162,11 @@ fn indicated_value<'a>(
     value: &'a Value,
     indicator: Option<usize>,
     parameters: &'a [Value],
-) -> Result<Found<'a>, Fault>
+) -> Result<Evaluated<'a>, Fault>
     ensures { Meets result (with_indicator (input_at (inputs_of parameters.now)) indicator value.now) }
 {
     match indicator {
-        None => Ok(Found::lent(value)),
+        None => Ok(Evaluated::lent(value)),
         Some(place) => match parameters.get(place) {
             Some(indicator) => Ok(null_if(is_below_zero(indicator), value)),
             None => Err(Fault::NOT_WELL_FORMED),
@@ -171,13 +174,13 @@ fn indicated_value<'a>(
     }
 }
 
-fn null_if<'a>(is_null: bool, value: &'a Value) -> Found<'a>
+fn null_if<'a>(is_null: bool, value: &'a Value) -> Evaluated<'a>
     ensures { result ≡ (if is_null then Null else value.now) }
 {
     if is_null {
-        Found::made(Value::Null)
+        Evaluated::made(Value::Null)
     } else {
-        Found::lent(value)
+        Evaluated::lent(value)
     }
 }
 
@@ -191,11 +194,11 @@ fn is_below_zero(value: &Value) -> bool
 }
 
 /// USER has 18 characters (own rule).
-fn user_value<'a>(context: &Context<'_>) -> Result<Found<'a>, Fault>
+fn user_value<'a>(context: &Context<'_>) -> Result<Evaluated<'a>, Fault>
     ensures { Meets result (Ok (meaning.user_value context.now.user)) }
 {
     let codes = padded(context.user);
-    Ok(Found::made(Value::Chars(Text::new(context.alloc, &codes)?)))
+    Ok(Evaluated::made(Value::Chars(Text::new(context.alloc, &codes)?)))
 }
 
 fn padded(name: Name) -> [u8; 18]

@@ -8,9 +8,9 @@
 mod arithmetic;
 mod by_key;
 mod context;
+mod evaluated;
 mod expression;
 mod fault;
-mod found;
 mod frame;
 mod group;
 mod index;
@@ -22,9 +22,9 @@ mod whole_expression;
 
 pub use arithmetic::{GREATEST_SCALE, number_value};
 pub use context::Context;
+pub use evaluated::Evaluated;
 pub use expression::{owned_value, standing_value, value};
 pub use fault::{Failure, Fault};
-pub use found::Found;
 pub use frame::{Frame, Group, Lines, line_frame, value_at, value_in_line};
 pub use group::{add_group_if, grouped};
 pub use index::{Index, key_if_known, key_of};

@@ -77,11 +77,6 @@ module _ (t : Target) (own : BoundCond) (parameters : List Value) (user : Name) 
             (known (take (length key) (out-BoundConj firsts.term).tests) (record { own = firsts.own; is_own = firsts.is_own; term = firsts.term; only_term = firsts.only_term; firsts = refl })));
       }
 
-  -- where the shortest key is noted, and the target names a row by the key with some number
-  pub keyed_by_any : (n : ℕ) (key : Columns) → t.condition ≡ Some own → IsShortestKey t.leaf.table.keys own t.key → slice_get t.leaf.table.keys n ≡ Some key → names_key key (out-BoundCond own).terms ≡ true
-      → ((tests : List BoundTest) → AreKeyTests key t tests → AreKnownEqual tests parameters user) → IsKeyed t parameters user
-  keyed_by_any n key is shortest at fit known = by_shortest t.key n key refl is shortest at fit known
-
 -- ---- any condition on the rows of a base table
 
 pub known_by_shortest : (keys : Keys) (own : BoundCond) (parameters : List Value) (user : Name) (k : ℕ) → IsShortestKey keys own (Some k) → IsKeyedBy keys own parameters user

@@ -3,6 +3,6 @@ use Rattle.std.specs.Prelude.{Option, Some, None}
 use Rattle.std.specs.Borrow.{Bor}
 use Rattle.sq_value.specs.declared.value.Value.{Value}
 
-abbrev pub found : Option (Bor Value) → Value → Value
-found None made = made
-found (Some lent) made = lent.now
+abbrev pub evaluated : Option (Bor Value) → Value → Value
+evaluated None made = made
+evaluated (Some lent) made = lent.now

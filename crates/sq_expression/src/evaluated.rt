@@ -8,37 +8,37 @@ use std::marker::Model;
 
 /// The value of an expression, as which contracts see it.
 #[derive(Drop)]
-pub struct Found<'a> {
+pub struct Evaluated<'a> {
     lent: Option<&'a Value>,
     /// The value where none is lent.
     made: Value,
 }
 
-impl<'a> Model for Found<'a> {
+impl<'a> Model for Evaluated<'a> {
     ghost use Rattle.sq_value.specs.declared.value.Value.{Value as AnyValue};
-    ghost use Rattle.sq_expression.specs.Found.{found};
+    ghost use Rattle.sq_expression.specs.Evaluated.{evaluated};
 
     ghost Value = { AnyValue };
 
-    ghost view = { λ f. found f.lent f.made };
+    ghost view = { λ v. evaluated v.lent v.made };
 }
 
-impl<'a> Found<'a> {
+impl<'a> Evaluated<'a> {
     /// A value that stands somewhere.
-    pub(crate) fn lent(value: &'a Value) -> Found<'a>
+    pub(crate) fn lent(value: &'a Value) -> Evaluated<'a>
         ensures { result ≡ value.now }
     {
-        Found {
+        Evaluated {
             lent: Some(value),
             made: Value::Null,
         }
     }
 
     /// A value that was computed.
-    pub(crate) fn made(value: Value) -> Found<'a>
+    pub(crate) fn made(value: Value) -> Evaluated<'a>
         ensures { result ≡ value }
     {
-        Found {
+        Evaluated {
             lent: None,
             made: value,
         }
@@ -58,7 +58,7 @@ impl<'a> Found<'a> {
     pub(crate) fn into_value(self, alloc: Global) -> Result<Value, AllocError>
         ensures { IfOk result (λ value. value ≡ self.entry) }
     {
-        let Found { lent, made } = self;
+        let Evaluated { lent, made } = self;
         match lent {
             Some(value) => value.copy(alloc),
             None => Ok(made),
