@@ -1,5 +1,5 @@
 -- The key by which a target names a row, through views too.
-use Rattle.std.proofs.Common.{◌≡◌, ◌∙◌, ◌&&◌, ℕ, true, List, [], Option, Some, None, Result, sym, ap, subst, Ok, Err}
+use Rattle.std.proofs.Common.{◌≡◌, ◌∙◌, ℕ, true, List, [], Option, Some, None, Result, sym, ap, subst, Ok, Err}
 use Rattle.std.specs.Prelude.{IfOk, IfSome, slice_index_or}
 use Rattle.std.proofs.lemmas.Option.{slice_get-get_or}
 use Rattle.sq_lex.specs.declared.name.Name.{Name}
