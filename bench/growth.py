@@ -312,6 +312,13 @@ def selected_where_there(n):
                calls("ONE ({}, *)", keys(n)), asked("A", rest, keys(n)))
 
 
+def updated_where_there(n):
+    rest = "WHERE K = {} AND EXISTS (SELECT P.K FROM P WHERE P.K = R.A)"
+    return Row({"R": one_more(n), "P": pairs(n)},
+               f"PROCEDURE UPD (SQLCODE, :K INTEGER, :A INTEGER); UPDATE R SET A = :A {rest.format(':K')};\n",
+               calls("UPD ({}, 5)", keys(n), "R"), changed(f"UPDATE R SET A = 5 {rest}", keys(n), "R"))
+
+
 def joined(n):
     return counted("FROM P, R WHERE R.K = P.A", {"P": to_themselves(n), "R": pairs(n)})
 
@@ -352,6 +359,7 @@ ROWS = {
     f"the same of a view, {SCANS} calls": lambda n: scanned("W", n),
     "join of two tables by key": joined_by_key,
     "SELECT INTO by key where a subquery has a row by key": selected_where_there,
+    "UPDATE by key where a subquery has a row by key": updated_where_there,
     f"join of all rows by a key, {JOINS} calls": joined,
     f"EXISTS by a key, {JOINS} calls": found_by_exists,
     f"product with a test of its second table, {JOINS} calls": thinned,

@@ -22,6 +22,7 @@ use Rattle.sq_expression.specs.declared.fault.Fault.{Fault}
 use Rattle.sq_expression.specs.declared.fault.Fault.TheVariants as fault
 use Rattle.sq_expression.proofs.Expressions.{handed_on}
 use Rattle.sq_condition.proofs.Conditions.{neither_left, neither_right}
+use Rattle.sq_query.specs.Keyed.{IsKeyedTarget, ReadsNoTable}
 use Rattle.sq_query.specs.Row.{truth_on_row}
 use Rattle.sq_query.specs.Target.{IsChosen, and_own, are_true, conditions_of}
 use Rattle.sq_query.proofs.KeyedRows.{both_are}
@@ -46,6 +47,12 @@ are_plain t h =
     no_subquery (conditions_of t) (both_are (λ c. has_subquery (cond_of [] c) ≡ false) t.leaf.conditions t.condition
     (sure_plain t.leaf.conditions (both_left (are_quiet_conds t.leaf.conditions) (option_all is_quiet_cond t.condition) sure))
     (own_plain t.condition (both_right (are_quiet_conds t.leaf.conditions) (option_all is_quiet_cond t.condition) sure)))
+
+-- where a key of a target has known values, no table is read for a row of it
+pub keyed_reads_none : (t : Target) (parameters : List Value) (user : Name) → IsKeyedTarget t parameters user → ReadsNoTable t
+keyed_reads_none t parameters user keyed none =
+    no_subquery (conditions_of t) (both_are (λ c. has_subquery (cond_of [] c) ≡ false) t.leaf.conditions t.condition (sure_plain t.leaf.conditions (sym t.leaf.quiet ∙ keyed.quiet_views))
+    (subst (λ (own : Option BoundCond). IfSome own (λ c. has_subquery (cond_of [] c) ≡ false)) (sym keyed.under.is_own) (keyed.plain none)))
 
 -- what is answered without any table is what is meant, whatever the tables are
 pub quiet_meant : (r : Result Bool Fault) (t : Target) (row : Row) (values : List Value) (user : Name) → t.is_quiet ≡ true → IsChosen r (conditions_of t) row values user

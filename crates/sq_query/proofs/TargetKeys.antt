@@ -1,5 +1,5 @@
 -- The key by which a target names a row, through views too.
-use Rattle.std.proofs.Common.{◌≡◌, ◌∙◌, ◌&&◌, ℕ, true, List, [], Option, Some, None, Result, sym, ap, subst, Ok, Err}
+use Rattle.std.proofs.Common.{◌≡◌, ◌∙◌, ℕ, true, List, [], Option, Some, None, Result, sym, ap, subst, Ok, Err}
 use Rattle.std.specs.Prelude.{IfOk, IfSome, slice_index_or}
 use Rattle.std.proofs.lemmas.Option.{slice_get-get_or}
 use Rattle.sq_lex.specs.declared.name.Name.{Name}
@@ -7,7 +7,6 @@ use Rattle.sq_value.specs.declared.domain.Kind.{Kind}
 use Rattle.sq_value.specs.declared.value.Value.{Value}
 use Rattle.sq_store.specs.Content.{Content}
 use Rattle.sq_store.specs.Keys.{Keys}
-use Rattle.sq_bound.specs.Condition.{cond_of}
 use Rattle.sq_bound.specs.Keyed.{IsShortestKey, is_shortest_of}
 use Rattle.sq_bound.specs.Names.{option_all}
 use Rattle.sq_bound.specs.Quiet.{are_quiet_conds, is_quiet_cond}
@@ -15,10 +14,10 @@ use Rattle.sq_bound.specs.WellFormed.{IsTarget, TableKinds}
 use Rattle.sq_bound.specs.declared.condition.BoundCond.{BoundCond, out-BoundCond}
 use Rattle.sq_bound.specs.declared.condition.TablePlace.TheVariants.{Base}
 use Rattle.sq_bound.specs.declared.query.Target.{Target}
-use Rattle.sq_bound.proofs.QuietTruths.{both_left, both_right, quiet_plain}
+use Rattle.sq_bound.proofs.QuietTruths.{both_left}
 use Rattle.sq_expression.specs.declared.fault.Fault.{Fault}
 use Rattle.sq_query.specs.Key.{IsKeyOf, IsKeyOn, StandsOn}
-use Rattle.sq_query.specs.Keyed.{IsKeyed, IsKeyedBy, IsKeyedTarget, IsKeyedUnder}
+use Rattle.sq_query.specs.Keyed.{IsKeyed, IsKeyedBy, IsKeyedUnder}
 use Rattle.sq_query.specs.Meant.{IsKeyUnder}
 use Rattle.sq_query.specs.declared.key.KnownKey.{KnownKey}
 use Rattle.sq_query.proofs.KeyNames.{key_there, no_view, own_named}
@@ -69,21 +68,13 @@ module _ (t : Target) (parameters : List Value) (user : Name) where
       subst (λ (ks : Keys). IsKeyedBy ks own parameters user) (sym keys_are)
       (subst (λ (c : BoundCond). IsKeyedBy t.leaf.table.keys c parameters user) (same_some keyed.own own t.condition keyed.is_own is_own) keyed.by_key)
 
-  -- a search finds the row of a target by a key that its own condition names, where no condition is ever a fault
-  pub quiet_keyed : t.is_quiet ≡ true → IsKeyedUnder t parameters user → IsKeyedTarget t parameters user
-  quiet_keyed quiet keyed =
-      let all : (are_quiet_conds t.leaf.conditions && option_all is_quiet_cond t.condition) ≡ true = sym t.quiet ∙ quiet in
-      record {
-        under = keyed;
-        quiet_views = t.leaf.quiet ∙ both_left (are_quiet_conds t.leaf.conditions) (option_all is_quiet_cond t.condition) all;
-        plain = λ none.
-            quiet_plain (cond_of [] keyed.own)
-            (sym (ap (option_all is_quiet_cond) keyed.is_own) ∙ both_right (are_quiet_conds t.leaf.conditions) (option_all is_quiet_cond t.condition) all);
-      }
-
   pub none_known : t.condition ≡ None → IsKeyedUnder t parameters user → ⊥
   none_known none keyed = let some : t.condition ≡ Some keyed.own = keyed.is_own in cc
 
 -- the target's own condition stands on the rows of the base table
 pub own_on_base : (columns : TableKinds) (parameters : List Kind) (t : Target) (own : BoundCond) → IsTarget columns parameters t → t.condition ≡ Some own → StandsOn columns parameters (Base t.base) own
 own_on_base columns parameters t own well is = subst (λ (p : ℕ). StandsOn columns parameters (Base p) own) (sym t.is_under) (own_stands columns parameters t own well is)
+
+-- where no condition of a target is ever a fault, none of a view between is
+pub quiet_views : (t : Target) → t.is_quiet ≡ true → t.leaf.is_quiet ≡ true
+quiet_views t quiet = t.leaf.quiet ∙ both_left (are_quiet_conds t.leaf.conditions) (option_all is_quiet_cond t.condition) (sym t.quiet ∙ quiet)

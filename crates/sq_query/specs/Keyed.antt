@@ -1,7 +1,7 @@
 -- Targets and query specifications that name a row by a key whose values are known in a call (own rule: then one row at most is read to
 -- find it; ISO/IEC 9075:1992 asks nothing of how rows are found).
 use Rattle.std.specs.Prelude.{◌≡◌, ℕ, true, false, get_or, slice_get, List, [], None, Some, Ok, Err}
-use Rattle.std.specs.List.{Contains}
+use Rattle.std.specs.List.{Contains, list_any}
 use Rattle.sq_lex.specs.declared.name.Name.{Name}
 use Rattle.sq_value.specs.SetFunctions.{is_null}
 use Rattle.sq_value.specs.declared.value.Value.{Value}
@@ -26,6 +26,7 @@ use Rattle.sq_query.specs.Key.{AreFirstTests, AreKeyTests, IsEquality}
 use Rattle.sq_query.specs.Needed.{inside_tables}
 use Rattle.sq_query.specs.Row.{outside}
 use Rattle.sq_query.specs.Search.{IsOverBase, IsWhere}
+use Rattle.sq_query.specs.Target.{conditions_of}
 
 -- there is a value, and it is not null
 abbrev pub IsKnownValue : Outcome Value → Type 0
@@ -60,12 +61,16 @@ pub record IsKeyedUnder (t : Target) (parameters : List Value) (user : Name) : T
   pub is_own : t.condition ≡ Some own
   pub by_key : IsKeyedBy t.leaf.table.keys own parameters user
 
--- A search for the rows of a target finds one by a key with known values: its own condition names a row by the key, the conditions of the views
--- between are never a fault and, where binding noted no key, its own condition has no subquery.
+-- A search for the rows of a target reads one at most, by a key with known values: its own condition names a row by the key, the conditions of
+-- the views between are never a fault and, where binding noted no key, its own condition has no subquery.
 pub record IsKeyedTarget (t : Target) (parameters : List Value) (user : Name) : Type 0 where
   pub under : IsKeyedUnder t parameters user
   pub quiet_views : t.leaf.is_quiet ≡ true
   pub plain : t.key ≡ None → has_subquery (cond_of [] under.own) ≡ false
+
+-- to test a row of its base table no other is read: a key is noted, or no condition has a subquery
+abbrev pub ReadsNoTable : Target → Type 0
+ReadsNoTable t = t.key ≡ None → list_any (λ c. has_subquery (cond_of [] c)) (conditions_of t) ≡ false
 
 -- an UPDATE or DELETE over a target whose row is found by a key with known values; a positioned one searches no row
 abbrev pub IsKeyedChange : ChangeTarget → List Value → Name → Type 0

@@ -1,40 +1,38 @@
 //! The rows of a base table that a target means: found by a key, or by a search over all rows.
 
-ghost use Rattle.std.specs.Prelude.{◌≡◌, ◌<◌, ◌≤◌, ◌+◌, ◌∷◌, [], List, false, if◌then◌else◌, length, map, IfErr, IfOk, IfSome, IsSome, None, true};
+ghost use Rattle.std.specs.Prelude.{◌≡◌, ◌<◌, ◌≤◌, ◌+◌, ◌∷◌, [], List, if◌then◌else◌, length, map, IfErr, IfOk, IfSome, IsSome, true};
 ghost use Rattle.sq_value.specs.declared.domain.Kind.{Kind};
 ghost use Rattle.sq_value.specs.declared.value.Value.{Value as AnyValue};
 ghost use Rattle.sq_store.specs.Content.{table_at};
 ghost use Rattle.sq_store.specs.Keys.{keys_at};
 ghost use Rattle.sq_meaning.specs.Status.{Outcome, and_then};
-ghost use Rattle.sq_meaning.specs.Target.{has_subquery};
 ghost use Rattle.sq_meaning.specs.WellFormed.{IsRowOf};
-ghost use Rattle.sq_bound.specs.Condition.{cond_of};
 ghost use Rattle.sq_bound.specs.Fits.{IsBase, keys_of_bases, not_nulls_hold};
 ghost use Rattle.sq_bound.specs.WellFormed.{IsTarget, TableKinds};
 ghost use Rattle.sq_bound.specs.declared.condition.TablePlace.{TablePlace};
 ghost use Rattle.sq_expression.specs.Fault.{MeetsAs};
-ghost use Rattle.sq_query.specs.Keyed.{IsKeyedTarget, IsKeyedUnder};
+ghost use Rattle.sq_query.specs.Inner.{HasKeys};
+ghost use Rattle.sq_query.specs.Keyed.{IsKeyedTarget, IsKeyedUnder, ReadsNoTable};
 ghost use Rattle.sq_query.specs.MayRead.{MayEnd, MayRead};
 ghost use Rattle.sq_query.specs.Meant.{IsKeyUnder};
 ghost use Rattle.sq_query.specs.Needed.{FindsConds};
 ghost use Rattle.sq_query.specs.Table.{numbered_in, numbered_row, stored_numbered};
-ghost use Rattle.sq_query.specs.Target.{AreNumbersOf, AreRowsThere, HasTargetRows, conditions_of, is_true_of, numbers_chosen, numbers_in};
+ghost use Rattle.sq_query.specs.Target.{AreNumbersOf, AreRowsThere, HasTargetRows, IsChosenAsMeant, conditions_of, is_true_of, numbers_chosen, numbers_in};
 
 use crate::inputs::Inputs;
 use crate::key::{KnownKey, known_key, shortest_known_key};
-use crate::needed::Needed;
 use crate::scan::rows_by_scan;
 use crate::target::meets_target;
-use sq_bound::{BoundCond, Names, Target};
+use sq_bound::{Names, Target};
 use sq_expression::{Context, Fault};
 use sq_store::{Meter, Store};
 use sq_value::Row;
-use std::alloc::{AllocError, Global};
+use std::alloc::Global;
 
 /// The rows that a target means, with their numbers, which rise: those for which each condition in turn is true, over all rows.
-/// Where the target names one row by a key, no other row is read: on each of them one of the first tests of its own condition,
-/// those of the key's columns, is false, and decides before a later test can end with a status, and the conditions of views between
-/// have a truth. The meter counts the rows that are read.
+/// Where the target names one row by a key, no other row is looked at: on each of them one of the first tests of its own condition,
+/// those of the key's columns, is false, and decides before a later test can end with a status or reads a table, and the conditions of
+/// views between have a truth. The meter counts the rows that are read.
 pub fn rows_of<'a, N: Names, S: Store>(
     alloc: Global,
     names: &N,
@@ -158,8 +156,8 @@ pub fn key_of<S: Store>(
     key_under(target, store, &call)
 }
 
-/// The key by which a target names a row of the base table, with its values, where no other row needs to be read: the one that is
-/// noted for it or, where views are between, the shortest.
+/// The key by which a target names a row of the base table, with its values, where no other row needs to be looked at: the one that is
+/// noted for it or, where views are between or the condition has a subquery, the shortest.
 fn key_under<S: Store>(
     target: &Target,
     store: &S,
@@ -170,8 +168,8 @@ fn key_under<S: Store>(
     ensures known { IfOk result
         (λ found. IfSome found (IsKeyUnder target.now (S.content_now store.now) (S.key_columns store.now)
         call.now.parameters.now call.now.user)) }
-    ensures found { IfOk result
-        (λ found. IsKeyedTarget target.now call.now.parameters.now call.now.user → IsSome found) }
+    ensures found { target.now.leaf.is_quiet ≡ true → IfOk result
+        (λ found. IsKeyedUnder target.now call.now.parameters.now call.now.user → IsSome found) }
     ensures memory { (columns : TableKinds) (parameters : List Kind) → IsTarget columns parameters target.now
         → IsRowOf parameters call.now.parameters.now → IfErr result (λ fault. fault ≡ Fault.NoMemory) }
 {
@@ -182,7 +180,7 @@ fn key_under<S: Store>(
 }
 
 /// The shortest key by which a target's own condition names a row of the base table, with its values: `None` if the condition of a
-/// view between may end with a status on another row, or the own one has a subquery, the rows of whose tables are counted.
+/// view between may end with a status on another row.
 fn key_through_views<S: Store>(
     target: &Target,
     store: &S,
@@ -193,41 +191,23 @@ fn key_through_views<S: Store>(
     ensures known { IfOk result
         (λ found. IfSome found (IsKeyUnder target.now (S.content_now store.now) (S.key_columns store.now)
         call.now.parameters.now call.now.user)) }
-    ensures found { target.now.key ≡ None → IfOk result
-        (λ found. IsKeyedTarget target.now call.now.parameters.now call.now.user → IsSome found) }
+    ensures found { target.now.leaf.is_quiet ≡ true → IfOk result
+        (λ found. IsKeyedUnder target.now call.now.parameters.now call.now.user → IsSome found) }
     ensures memory { (columns : TableKinds) (parameters : List Kind) → IsTarget columns parameters target.now
         → IsRowOf parameters call.now.parameters.now → IfErr result (λ fault. fault ≡ Fault.NoMemory) }
 {
-    match &target.condition {
-        Some(own) => {
-            let may = may_look_up(call.alloc, target, own)?;
-            if may {
-                shortest_known_key(target.base, own, store, call)
-            } else {
-                Ok(None)
-            }
-        }
-        None => Ok(None),
+    let Some(own) = &target.condition else {
+        return Ok(None);
+    };
+    if target.leaf.get().is_quiet {
+        shortest_known_key(target.base, own, store, call)
+    } else {
+        Ok(None)
     }
 }
 
-/// Whether the conditions of the views between are never a fault, and the target's own has no subquery.
-fn may_look_up(alloc: Global, target: &Target, own: &BoundCond) -> Result<bool, AllocError>
-    ensures views { IfOk result (λ may. may ≡ true → target.now.leaf.is_quiet ≡ true) }
-    ensures plain { target.now.leaf.is_quiet ≡ true → has_subquery (cond_of [] own.now) ≡ false
-        → IfOk result (λ may. may ≡ true) }
-{
-    if target.is_quiet {
-        return Ok(true);
-    }
-    if !target.leaf.get().is_quiet {
-        return Ok(false);
-    }
-    let needed = Needed::of_condition(alloc, own)?;
-    Ok(needed.bases.is_empty() && needed.views.is_empty())
-}
-
-/// The row with a key, if the conditions are true of it. They are true of no other row.
+/// The row with a key, if the conditions are true of it. They are true of no other row, and on that one alone are their subqueries
+/// evaluated.
 fn rows_by_key<'a, N: Names, S: Store>(
     names: &N,
     target: &Target,
@@ -247,14 +227,41 @@ fn rows_by_key<'a, N: Names, S: Store>(
     ensures meant { HasTargetRows result (N.base_tables names.now) (N.view_queries names.now)
         (N.column_kinds names.now) (S.content_now store.now) call.now.user call.now.parameters.now
         target.now }
-    ensures read { meter.new ≤ meter.old + 1 }
+    ensures read { ReadsNoTable target.now → meter.new ≤ meter.old + 1 }
 {
     match store.find_key(target.base, known.key, &known.values, meter) {
         Some(found) => {
-            let is_chosen = meets_target(&*names, &*target, &*found.1, true, &*store, &*call)?;
+            let is_chosen = is_meant(&*names, &*target, &*found.1, &*store, &*call, meter)?;
             row_if(call.alloc, is_chosen, found)
         }
         None => Ok(Vec::new(call.alloc)),
+    }
+}
+
+/// Whether a target means the row that its key found. The meter counts what its subqueries read; there is none where binding noted
+/// the key.
+fn is_meant<'a, N: Names, S: Store>(
+    names: &'a N,
+    target: &'a Target,
+    row: &'a Row,
+    store: &'a S,
+    call: &Context<'a>,
+    meter: &mut Meter,
+) -> Result<bool, Fault>
+    requires finds { FindsConds (N.base_tables names.now) (N.column_kinds names.now)
+        (conditions_of target.now) }
+    requires keys { HasKeys (N.base_tables names.now) (S.content_now store.now) (S.key_columns store.now) }
+    ensures meant { IsChosenAsMeant result (N.base_tables names.now) (N.view_queries names.now)
+        (N.column_kinds names.now) (S.content_now store.now) call.now.user call.now.parameters.now
+        (conditions_of target.now) row.now }
+    ensures read { ReadsNoTable target.now → meter.new ≡ meter.old }
+{
+    match target.key {
+        Some(_) => {
+            let mut uncounted = Meter::new();
+            meets_target(names, target, row, true, store, call, &mut uncounted)
+        }
+        None => meets_target(names, target, row, true, store, call, meter),
     }
 }
 

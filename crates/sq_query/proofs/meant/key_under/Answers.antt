@@ -1,4 +1,4 @@
-use Rattle.sq_query.specs.Keyed.{IsKeyed, IsKeyedTarget}
+use Rattle.sq_query.specs.Keyed.{IsKeyed, IsKeyedUnder}
 use Rattle.sq_query.proofs.KnownKeys.{known_if}
 use Rattle.sq_query.proofs.TargetKeys.{noted_known, noted_under}
 use Rattle.sq_query.proofs.meant.key_under.Goals as goal
@@ -10,11 +10,8 @@ returns-in-Some-clause-known g c =
     noted_under c.args.target.now (g.S.Store.content_now store) (g.S.Store.key_columns store) call.parameters.now call.user c.known_key.result c.known_key.ensures.known
 
 pub returns-in-Some-clause-found : goal.returns-in-Some-clause-found
-returns-in-Some-clause-found g c =
+returns-in-Some-clause-found g c = λ quiet.
     let t = c.args.target.now in
     let call = c.args.call.now in
-    known_if c.known_key.result (IsKeyed t call.parameters.now call.user) (IsKeyedTarget t call.parameters.now call.user)
-    (λ keyed. noted_known t call.parameters.now call.user c.in-Some.field-0 c.in-Some.is keyed.under) c.known_key.ensures.found
-
-pub returns-in-None-clause-found : goal.returns-in-None-clause-found
-returns-in-None-clause-found g c = c.key_through_views.ensures.found c.in-None.is
+    known_if c.known_key.result (IsKeyed t call.parameters.now call.user) (IsKeyedUnder t call.parameters.now call.user)
+    (noted_known t call.parameters.now call.user c.in-Some.field-0 c.in-Some.is) c.known_key.ensures.found

@@ -1,4 +1,4 @@
-use Rattle.std.proofs.Common.{ℕ, ap, false, true, ◌∙◌}
+use Rattle.std.proofs.Common.{ℕ, ◌+◌, ◌≤◌, ◌∙◌, ap, false, subst, sym, true}
 use Rattle.sq_store.specs.Content.{table_at}
 use Rattle.sq_store.specs.Keys.{has_key, key_at}
 use Rattle.sq_store.specs.declared.table.Numbered.{Numbered}
@@ -74,10 +74,12 @@ returns-in-None-clause-meant g c = λ parameters tables may well.
     c.new.result c.in-None.ensures.row c.new.ensures.items
 
 pub returns-in-None-clause-read : goal.returns-in-None-clause-read
-returns-in-None-clause-read g c = one_at_most false c.args.meter.now c.find_key.new.meter c.in-None.ensures.metered
+returns-in-None-clause-read g c = λ plain. one_at_most false c.args.meter.now c.find_key.new.meter c.in-None.ensures.metered
 
 pub returns-in_ok-is_chosen-in-Some-clause-read : goal.returns-in_ok-is_chosen-in-Some-clause-read
-returns-in_ok-is_chosen-in-Some-clause-read g c = one_at_most true c.args.meter.now c.find_key.new.meter c.in-Some.ensures.metered
+returns-in_ok-is_chosen-in-Some-clause-read g c = λ plain.
+    subst (λ (m : ℕ). m ≤ c.args.meter.now + 1) (sym (c.in_ok-is_chosen-in-Some.ensures.read plain)) (one_at_most true c.args.meter.now c.find_key.new.meter c.in-Some.ensures.metered)
 
 pub returns-in_err-is_chosen-in-Some-clause-read : goal.returns-in_err-is_chosen-in-Some-clause-read
-returns-in_err-is_chosen-in-Some-clause-read g c = one_at_most true c.args.meter.now c.find_key.new.meter c.in-Some.ensures.metered
+returns-in_err-is_chosen-in-Some-clause-read g c = λ plain.
+    subst (λ (m : ℕ). m ≤ c.args.meter.now + 1) (sym (c.in_err-is_chosen-in-Some.ensures.read plain)) (one_at_most true c.args.meter.now c.find_key.new.meter c.in-Some.ensures.metered)

@@ -8,6 +8,7 @@ use Rattle.sq_query.proofs.KeyValues.{handed_memory, memory_meets}
 use Rattle.sq_query.proofs.KnownConditions.{memory_ends, rows_answer, target_on_base}
 use Rattle.sq_query.proofs.KnownKeys.{not_none}
 use Rattle.sq_query.proofs.NumbersThere.{rows_there}
+use Rattle.sq_query.proofs.QuietTargets.{keyed_reads_none}
 use Rattle.sq_query.proofs.meant.rows_of.Goals as goal
 
 pub returns-in-None-clause-there : goal.returns-in-None-clause-there
@@ -67,7 +68,11 @@ returns-in_err-known-clause-right g c = λ parameters tables may well.
     (handed_memory c.from_residual.result c.in_err-known.field-0.0 c.from_residual.ensures.1 (c.in_err-known.ensures.memory (g.N.Names.column_kinds c.args.names.now) parameters well may.inputs))
 
 pub returns-in-None-clause-read : goal.returns-in-None-clause-read
-returns-in-None-clause-read g c = λ keyed. absurd (not_none c.in_ok-known.field-0 c.in-None.is (c.in_ok-known.ensures.found keyed))
+returns-in-None-clause-read g c = λ keyed. absurd (not_none c.in_ok-known.field-0 c.in-None.is (c.in_ok-known.ensures.found keyed.quiet_views keyed.under))
+
+pub returns-in-Some-clause-read : goal.returns-in-Some-clause-read
+returns-in-Some-clause-read g c = λ keyed.
+    c.rows_by_key-rows.ensures.read (keyed_reads_none c.args.target.now c.args.inputs.parameters.now c.args.inputs.user keyed)
 
 pub returns-in_err-known-clause-read : goal.returns-in_err-known-clause-read
 returns-in_err-known-clause-read g c = λ keyed. omega arith

@@ -1,4 +1,4 @@
-use Rattle.std.proofs.Common.{◌≡◌, [], List, sym, subst, true}
+use Rattle.std.proofs.Common.{◌≡◌, ◌∙◌, [], List, sym, subst, true}
 use Rattle.sq_bound.specs.Condition.{cond_of}
 use Rattle.sq_expression.specs.declared.table.BaseRows.{BaseRows}
 use Rattle.sq_query.specs.Items.{is_left}
@@ -13,7 +13,7 @@ pub rows_beneath-requires : goal.rows_beneath-requires
 rows_beneath-requires g c =
     let names = c.args.names.now in
     let store = c.args.store.now in record {
-      there = λ by. stored_cond (g.N.Names.base_tables names) (g.S.Store.key_columns store) (c.requires.keys by).0 (g.S.Store.content_now store) (g.met.S.Store.keyed store) (g.N.Names.column_kinds names) c.requires.finds.0
+      there = λ by. stored_cond (g.N.Names.base_tables names) (g.S.Store.key_columns store) (c.requires.keys (c.is_sought.ensures.may by)).0 (g.S.Store.content_now store) (g.met.S.Store.keyed store) (g.N.Names.column_kinds names) c.requires.finds.0
           (cond_of [] c.args.condition.now) c.requires.finds.1;
     }
 
@@ -45,9 +45,24 @@ returns-clause-tables g c = λ parameters tables may on.
     let row = c.args.row.now in
     let found = c.in_ok-found.found.items in
     let fitting = tables_fit bases (g.N.Names.view_queries names) columns content user tables (g.met.N.Names.kinds_of_bases names) may.there may.in_domains may.meant (g.met.N.Names.kinds_of_views names) in
-    let same = same_on_row bases columns content keys (g.met.S.Store.keyed store) may.there parameters values user may.inputs tables may.meant.bases fitting condition row on c.args.by_keys c.requires.keys found c.in_ok-found.ensures.found c.in_ok-found.ensures.none in (
+    let same = same_on_row bases columns content keys (g.met.S.Store.keyed store) may.there parameters values user may.inputs tables may.meant.bases fitting condition row on c.is_sought.result
+    (λ by. c.requires.keys (c.is_sought.ensures.may by)) found c.in_ok-found.ensures.found c.in_ok-found.ensures.none in (
       c.with_bases.ensures.answered,
       read_on_row bases columns content keys (g.met.S.Store.keyed store) may.there parameters values user may.inputs tables may.meant.bases fitting condition row on found same c.in_ok-needed.needed c.without-left.result
           (c.in_ok-needed.ensures.reads []) (λ t h is. c.without-left.ensures.left t h (subst (λ (l : List BaseRows). is_left l t ≡ true) (sym c.as_slice.ensures.value) is))
           c.in_ok-tables.tables (c.in_ok-tables.ensures.meant may.in_domains tables may.meant).1 c.with_bases.result c.with_bases.ensures.bases c.with_bases.ensures.views,
     )
+
+pub returns-in_err-found-clause-none : goal.returns-in_err-found-clause-none
+returns-in_err-found-clause-none g c = λ plain.
+    c.in_err-found.ensures.unread (c.is_sought.ensures.none (c.in_ok-needed.ensures.plain plain))
+
+pub returns-in_err-tables-clause-none : goal.returns-in_err-tables-clause-none
+returns-in_err-tables-clause-none g c = λ plain.
+    c.in_err-tables.ensures.none (c.without-left.ensures.none (c.in_ok-needed.ensures.plain plain))
+    ∙ c.in_ok-found.ensures.unread (c.is_sought.ensures.none (c.in_ok-needed.ensures.plain plain))
+
+pub returns-clause-none : goal.returns-clause-none
+returns-clause-none g c = λ plain.
+    c.in_ok-tables.ensures.none (c.without-left.ensures.none (c.in_ok-needed.ensures.plain plain))
+    ∙ c.in_ok-found.ensures.unread (c.is_sought.ensures.none (c.in_ok-needed.ensures.plain plain))

@@ -1,5 +1,5 @@
-use Rattle.std.proofs.Common.{◌≡◌, ◌≢◌, ◌∙◌, ◌∷◌, [], map, ap, false, true, refl, rules, subst, sym, Ok}
-use Rattle.std.specs.List.{AllByRecursion}
+use Rattle.std.proofs.Common.{◌≡◌, ◌≢◌, ◌∙◌, ◌∷◌, [], List, map, ap, false, true, refl, rules, subst, sym, Ok}
+use Rattle.std.specs.List.{AllByRecursion, list_any}
 use Rattle.std.specs.Borrow.{Bor}
 use Rattle.sq_value.specs.declared.truth.Truth.TheVariants.{True}
 use Rattle.sq_meaning.specs.Placed.{by_place}
@@ -16,7 +16,7 @@ use Rattle.sq_query.proofs.Levels.{level_true, level_not, level_failed, levels_e
 use Rattle.sq_query.proofs.target.meets_levels.Goals as goal
 
 pub loop-condition-init : goal.loop-condition-init
-loop-condition-init g c = record { plain = λ none tables. refl; meant = λ parameters tables may on. refl }
+loop-condition-init g c = record { plain = λ none tables. refl; meant = λ parameters tables may on. refl; none = λ none. refl }
 
 pub truth_with_tables-requires : goal.truth_with_tables-requires
 truth_with_tables-requires g c =
@@ -41,6 +41,7 @@ loop-condition-preserved g c =
           let test = λ (b : Bor BoundCond). truth_on_row tables c.args.call.now.parameters.now c.args.call.now.user c.args.row.now b.now in
           level_true test (are_true test items) items i x c.loop-condition-test.true c.condition-item.is (c.loop-condition.invariant.meant parameters tables may on)
           (c.in_ok-truth.ensures.truth parameters tables may (lent_at (IsOnRow (g.N.Names.column_kinds c.args.names.now) parameters c.args.row.now) items i x c.loop-condition-test.true c.condition-item.is on) ∙ ap Ok holds);
+      none = λ none. c.in_ok-truth.ensures.none (none_at (λ (d : BoundCond). has_subquery (cond_of [] d)) items i x c.loop-condition-test.true c.condition-item.is none) ∙ c.loop-condition.invariant.none none;
     }
 
 pub returns-in_err-truth-clause-plain : goal.returns-in_err-truth-clause-plain
@@ -120,3 +121,24 @@ returns-clause-meant g c = λ parameters tables may on.
     let all = subst (AllByRecursion (IsOnRow (g.N.Names.column_kinds c.args.names.now) parameters c.args.row.now)) (sym same) on in
     told_by of (Ok true) items (conditions_of c.args.target.now) same
     (levels_end test (are_true test items) items c.loop-condition.condition-index c.loop-condition-test.false (c.loop-condition.invariant.meant parameters tables may all))
+
+pub returns-in_err-truth-clause-none : goal.returns-in_err-truth-clause-none
+returns-in_err-truth-clause-none g c = λ none.
+    let has = λ (d : BoundCond). has_subquery (cond_of [] d) in
+    let items = c.as_slice-condition-items.result.now in
+    let same = ap (map (λ (b : Bor BoundCond). b.now)) c.as_slice-condition-items.ensures.value ∙ c.in_ok-levels.ensures in
+    let lone = subst (λ (cs : List BoundCond). list_any has cs ≡ false) (sym same) none in
+    c.in_err-truth.ensures.none (none_at has items c.loop-condition.condition-index c.condition-item.result c.loop-condition-test.true c.condition-item.is lone) ∙ c.loop-condition.invariant.none lone
+
+pub returns-then-ne-clause-none : goal.returns-then-ne-clause-none
+returns-then-ne-clause-none g c = λ none.
+    let has = λ (d : BoundCond). has_subquery (cond_of [] d) in
+    let items = c.as_slice-condition-items.result.now in
+    let same = ap (map (λ (b : Bor BoundCond). b.now)) c.as_slice-condition-items.ensures.value ∙ c.in_ok-levels.ensures in
+    let lone = subst (λ (cs : List BoundCond). list_any has cs ≡ false) (sym same) none in
+    c.in_ok-truth.ensures.none (none_at has items c.loop-condition.condition-index c.condition-item.result c.loop-condition-test.true c.condition-item.is lone) ∙ c.loop-condition.invariant.none lone
+
+pub returns-clause-none : goal.returns-clause-none
+returns-clause-none g c = λ none.
+    let same = ap (map (λ (b : Bor BoundCond). b.now)) c.as_slice-condition-items.ensures.value ∙ c.in_ok-levels.ensures in
+    c.loop-condition.invariant.none (subst (λ (cs : List BoundCond). list_any (λ d. has_subquery (cond_of [] d)) cs ≡ false) (sym same) none)

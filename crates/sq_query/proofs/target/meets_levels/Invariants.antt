@@ -26,4 +26,5 @@ invariant-loop-condition g l = record {
       → AllByRecursion (IsOnRow (g.N.Names.column_kinds l.names) parameters l.row) (map (λ (b : Bor BoundCond). b.now) l.condition-items)
       → (let test = λ (b : Bor BoundCond). truth_on_row tables l.call.parameters.now l.call.user l.row b.now in
       are_true test l.condition-items ≡ are_true test (drop l.condition-index l.condition-items));
+  none : list_any (λ c. has_subquery (cond_of [] c)) (map (λ (b : Bor BoundCond). b.now) l.condition-items) ≡ false → l.meter ≡ l.fn.meter;
 }
