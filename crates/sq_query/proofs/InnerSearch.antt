@@ -1,5 +1,5 @@
 -- What the search in the subqueries of a condition finds.
-use Rattle.std.proofs.Common.{◌≡◌, ◌∙◌, ◌<◌, ◌+◌, ◌-◌, ◌⊎◌, ⊥, inl, inr, ℕ, zero, suc, arith, Bool, true, false, not, ◌||◌, List, [], ◌∷◌, cond, drop, filter, fold, length, map, nat_eq, take, Option, Some, None, Bor, refl, sym, ap, subst}
+use Rattle.std.proofs.Common.{◌≡◌, ◌∙◌, ◌<◌, ◌+◌, ◌-◌, ◌⊎◌, inl, inr, ℕ, zero, suc, arith, Bool, true, false, not, ◌||◌, List, [], ◌∷◌, cond, drop, filter, fold, length, map, nat_eq, take, Option, Some, None, Bor, refl, sym, ap, subst}
 use Rattle.std.specs.Prelude.{IfSome, IsSomeAnd, Vec}
 use Rattle.std.specs.declared.alloc.Global.{Global}
 use Rattle.std.proofs.lemmas.Bool.{eqb-true}

@@ -20,17 +20,19 @@ use Rattle.sq_bound.specs.declared.condition.BoundCond.{BoundCond}
 use Rattle.sq_bound.specs.declared.condition.TablePlace.{TablePlace}
 use Rattle.sq_bound.specs.declared.names.BaseTable.{BaseTable}
 use Rattle.sq_expression.specs.Fault.{Meets, MeetsAs}
+use Rattle.sq_expression.specs.Frame.{scopes_beyond}
 use Rattle.sq_expression.specs.declared.fault.Fault.{Fault}
 use Rattle.sq_expression.specs.declared.fault.Fault.TheVariants as fault
 use Rattle.sq_expression.specs.declared.table.BaseRows.{BaseRows}
-use Rattle.sq_query.specs.Inner.{AreBeneath, HasKeys, IsInStore, IsReadOnRow, ServesCond}
-use Rattle.sq_query.specs.Around.{IsAround}
+use Rattle.sq_query.specs.Inner.{AreBeneath, HasKeys, IsInStore, IsReadOnRow, ServesCond, ServesLine}
+use Rattle.sq_query.specs.Around.{IsStanding}
 use Rattle.sq_query.specs.Items.{is_left, over}
 use Rattle.sq_query.specs.Needed.{IsNeeded, ReadsCond}
 use Rattle.sq_query.specs.Row.{HasTruthOn, IsOnRow, outside, truth_on_row}
 use Rattle.sq_query.specs.Table.{AreOfStore, ReadsAsMeant, bases_of, rows_among, rows_read}
 use Rattle.sq_query.specs.Union.{AreFitting}
-use Rattle.sq_query.specs.declared.around.Around.{Around}
+use Rattle.sq_query.specs.declared.around.Standing.{Standing}
+use Rattle.sq_query.specs.declared.around.Standing.TheVariants.{Within}
 use Rattle.sq_query.specs.declared.needed.Needed.{Needed}
 use Rattle.sq_query.specs.declared.view.Tables.{Tables}
 use Rattle.sq_query.proofs.FoundRead.{rows_over}
@@ -78,12 +80,12 @@ handed_fault (Ok a) e is memory = tt
 handed_fault (Err g) e is memory = is ∙ memory
 
 -- what was found beneath a row
-pub beneath_so : (c : BoundCond) (row : Row) (content : Content) (keys : List Keys) (values : List Value) (caller : Name) (elsewhere : Needed) (a : Around) → IsAround a (alone [] (row ∷ []) ∷ []) → (none : List BaseRows) → none ≡ []
-    → (r : Result (Vec BaseRows Global) Fault) → IfOk r (λ found. ServesCond (cond_of [] c) (CondIsNoted c) elsewhere a content keys values caller none found.items) → IfOk r (λ found. AreBeneath c row content keys values caller found.items)
-beneath_so c row content keys values caller elsewhere a around none is (Err e) h = tt
-beneath_so c row content keys values caller elsewhere a around none is (Ok found) h = record {
-  a = a;
-  is_around = around;
+pub beneath_so : (c : BoundCond) (row : Row) (content : Content) (keys : List Keys) (values : List Value) (caller : Name) (elsewhere : Needed) (scopes : List (Scope (Unit {0}))) → scopes ≡ alone [] (row ∷ []) ∷ [] → (none : List BaseRows) → none ≡ []
+    → (r : Result (Vec BaseRows Global) Fault) → IfOk r (λ found. ServesLine c elsewhere Within scopes content keys values caller none found.items) → IfOk r (λ found. AreBeneath c row content keys values caller found.items)
+beneath_so c row content keys values caller elsewhere scopes are none is (Err e) h = tt
+beneath_so c row content keys values caller elsewhere scopes are none is (Ok found) h = record {
+  a = h.a;
+  is_around = subst (λ (b : Standing). IsStanding b (scopes_beyond h.a.lines) (alone [] (row ∷ []) ∷ [])) (sym h.stands) (sym (h.lines ∙ are));
   elsewhere = elsewhere;
-  inside = subst (λ (l : List BaseRows). ServesCond (cond_of [] c) (CondIsNoted c) elsewhere a content keys values caller l found.items) is h;
+  inside = subst (λ (l : List BaseRows). ServesCond (cond_of [] c) (CondIsNoted c) elsewhere h.a content keys values caller l found.items) is h.serves;
 }

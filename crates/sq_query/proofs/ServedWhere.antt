@@ -1,6 +1,6 @@
 -- A query specification has the rows that it has over the one row at most of each base table that was found among its items and in the
 -- subqueries of its WHERE clause (ISO/IEC 9075:1992, 7.4 to 7.9 and 7.11).
-use Rattle.std.proofs.Common.{◌≡◌, ◌∙◌, List, [], ◌∷◌, ◌++◌, Option, Some, Result, refl, sym, ap, subst, Ok, Err}
+use Rattle.std.proofs.Common.{◌≡◌, ◌∙◌, List, [], ◌∷◌, ◌++◌, Option, Some, Result, Bor, refl, sym, ap, subst, Ok, Err}
 use Rattle.std.specs.Prelude.{IfOk, Vec}
 use Rattle.std.specs.List.{AllByRecursion, AllZip}
 use Rattle.std.specs.declared.alloc.Global.{Global}
@@ -26,16 +26,17 @@ use Rattle.sq_bound.specs.declared.condition.TablePlace.{TablePlace}
 use Rattle.sq_bound.proofs.ConditionLaws.{select_of-out}
 use Rattle.sq_bound.proofs.Nested.{select_held}
 use Rattle.sq_condition.proofs.Lone.{clause_alone}
-use Rattle.sq_expression.specs.Frame.{inputs_of}
+use Rattle.sq_expression.specs.Frame.{inputs_of, lent, scopes_beyond}
 use Rattle.sq_expression.specs.declared.fault.Fault.{Fault}
 use Rattle.sq_expression.specs.declared.table.BaseRows.{BaseRows}
-use Rattle.sq_query.specs.Around.{AreRowsAround, IsAround}
-use Rattle.sq_query.specs.Inner.{IsInStore, ReadsAround, ServesCond, ServesLines, ServesSelect, StandsSelect, around_tables}
+use Rattle.sq_query.specs.Around.{AreRowsAround, IsAround, IsStanding}
+use Rattle.sq_query.specs.Inner.{IsInStore, IsLineBeneath, ReadsAround, ServesCond, ServesLine, ServesSelect, StandsSelect, around_tables}
 use Rattle.sq_query.specs.Items.{AreMore, Grows, IsLineAmong, IsReadOf, IsRowAmong, items_of, over}
 use Rattle.sq_query.specs.Needed.{Adds, IsNeeded, ReadsClause, inside_tables}
 use Rattle.sq_query.specs.Search.{IsWhere}
 use Rattle.sq_query.specs.Union.{AreFitting}
 use Rattle.sq_query.specs.declared.around.Around.{Around}
+use Rattle.sq_query.specs.declared.around.Standing.{Standing}
 use Rattle.sq_query.specs.declared.needed.Needed.{Needed}
 use Rattle.sq_query.proofs.Added.{around_needed, inside_needed, needs_more}
 use Rattle.sq_query.proofs.FoundRows as step
@@ -93,9 +94,15 @@ module _ (q : BoundSpecification) (content : Content) (keys : List Keys) (values
 
   -- ---- what was found in the subqueries of WHERE
 
-  module _ (c : BoundCond) (is_where : IsWhere q c) (others : Needed) (adds : Adds elsewhere (around_tables (select_of q)) others) (before after : List BaseRows) (l : ServesLines q c others a content keys values caller before after) where
+  module _ (c : BoundCond) (is_where : IsWhere q c) (others : Needed) (adds : Adds elsewhere (around_tables (select_of q)) others) (before after : List BaseRows) (standing : Standing) (row_line : List (Bor Row)) (known : IsLineBeneath q a before standing row_line)
+      (l : ServesLine c others standing (alone [] (lent row_line) ∷ scopes_beyond a.lines) content keys values caller before after) where
     abbrev ts : List TablePlace
     ts = items_of q
+
+    beneath : (scopes : List (Scope (Unit {0}))) (line : Line) → IsAround a scopes → IsLineAmong before ts line → IsAround l.a (alone [] line ∷ scopes)
+    beneath scopes line around among =
+        subst (λ (b : Standing). IsStanding b (scopes_beyond l.a.lines) (alone [] line ∷ scopes)) (sym l.stands)
+        (subst (λ (ss : List (Scope (Unit {0}))). IsStanding standing ss (alone [] line ∷ scopes)) (sym l.lines) (known scopes line around among))
 
     besides : (P : TablePlace → Type 0) → ReadsAround P (select_of q) → AllByRecursion P ts × ReadsClause P (groups_in q).having
     besides P reads = subst (ReadsAround P) (select_of-out q) reads
@@ -132,7 +139,7 @@ module _ (q : BoundSpecification) (content : Content) (keys : List Keys) (values
           ts tables_known
 
       module _ (apart : (t : TablePlace) → IsNeeded others t → now t ≡ next t)
-          (same : (scopes : List (Scope (Unit {0}))) → IsAround l.beneath scopes → AreRowsAround columns parameters (of_lines ts ∷ levels) scopes → clause_truth (by_place now) (clause_of [] (Some c)) (env_in scopes) ≡ clause_truth (by_place next) (clause_of [] (Some c)) (env_in scopes))
+          (same : (scopes : List (Scope (Unit {0}))) → IsAround l.a scopes → AreRowsAround columns parameters (of_lines ts ∷ levels) scopes → clause_truth (by_place now) (clause_of [] (Some c)) (env_in scopes) ≡ clause_truth (by_place next) (clause_of [] (Some c)) (env_in scopes))
           (scopes : List (Scope (Unit {0}))) (is_around : IsAround a scopes) (rows_around : AreRowsAround columns parameters levels scopes) where
         on_line : (heads : List (Unit {0})) (line : Line) → AllZip IsIn ts line
             → clause_truth (by_place now) (where_in q) (within (alone heads line) (env_in scopes)) ≡ clause_truth (by_place next) (where_in q) (within (alone heads line) (env_in scopes))
@@ -142,7 +149,7 @@ module _ (q : BoundSpecification) (content : Content) (keys : List Keys) (values
             let among : IsLineAmong before ts line = zip_weaker IsIn (IsRowAmong before) (λ t row p. p.1) ts line is in
             clause_alone now heads line (env_in scopes) (out-BoundSpecification q).condition
             ∙ (λ i. clause_truth (by_place now) (clause_of [] (is_where i)) (within (alone [] line) (env_in scopes)))
-            ∙ same inner (l.lines scopes line is_around among) around
+            ∙ same inner (beneath scopes line is_around among) around
             ∙ sym (λ i. clause_truth (by_place next) (clause_of [] (is_where i)) (within (alone [] line) (env_in scopes)))
             ∙ sym (clause_alone next heads line (env_in scopes) (out-BoundSpecification q).condition)
 
@@ -165,14 +172,14 @@ module _ (q : BoundSpecification) (content : Content) (keys : List Keys) (values
           same = all_same columns parameters levels tables given stands fitting s.apart s.same;
         }
 
--- in the results of a search
+-- in the result of a search
 pub where_found : (q : BoundSpecification) (content : Content) (keys : List Keys) (values : List Value) (caller : Name) (elsewhere : Needed) (a : Around) (c : BoundCond) → IsWhere q c → (others : Needed) → Adds elsewhere (around_tables (select_of q)) others
-    → (before : List BaseRows) (r : Result (Vec BaseRows Global) Fault) → IfOk r (λ found. ServesLines q c others a content keys values caller before found.items) → IfOk r (λ found. ServesSelect q elsewhere a content keys values caller before found.items)
-where_found q content keys values caller elsewhere a c is_where others adds before (Err e) l = tt
-where_found q content keys values caller elsewhere a c is_where others adds before (Ok found) l = where_serves q content keys values caller elsewhere a c is_where others adds before found.items l
+    → (before : List BaseRows) (standing : Standing) (line : List (Bor Row)) → IsLineBeneath q a before standing line → (r : Result (Vec BaseRows Global) Fault)
+    → IfOk r (λ found. ServesLine c others standing (alone [] (lent line) ∷ scopes_beyond a.lines) content keys values caller before found.items) → IfOk r (λ found. ServesSelect q elsewhere a content keys values caller before found.items)
+where_found q content keys values caller elsewhere a c is_where others adds before standing line known (Err e) l = tt
+where_found q content keys values caller elsewhere a c is_where others adds before standing line known (Ok found) l = where_serves q content keys values caller elsewhere a c is_where others adds before found.items standing line known l
 
-pub lines_found : (q : BoundSpecification) (content : Content) (keys : List Keys) (values : List Value) (caller : Name) (elsewhere : Needed) (a : Around) (c : BoundCond) (before : List BaseRows) (beneath : Around)
-    → ((scopes : List (Scope (Unit {0}))) (line : Line) → IsAround a scopes → IsLineAmong before (items_of q) line → IsAround beneath (alone [] line ∷ scopes))
-    → (r : Result (Vec BaseRows Global) Fault) → IfOk r (λ found. ServesCond (cond_of [] c) (CondIsNoted c) elsewhere beneath content keys values caller before found.items) → IfOk r (λ found. ServesLines q c elsewhere a content keys values caller before found.items)
-lines_found q content keys values caller elsewhere a c before beneath lines (Err e) h = tt
-lines_found q content keys values caller elsewhere a c before beneath lines (Ok found) h = record { beneath = beneath; lines = lines; serves = h }
+pub line_found : (c : BoundCond) (content : Content) (keys : List Keys) (values : List Value) (caller : Name) (elsewhere : Needed) (a : Around) (scopes : List (Scope (Unit {0}))) → scopes_beyond a.lines ≡ scopes → (before : List BaseRows) (r : Result (Vec BaseRows Global) Fault)
+    → IfOk r (λ found. ServesCond (cond_of [] c) (CondIsNoted c) elsewhere a content keys values caller before found.items) → IfOk r (λ found. ServesLine c elsewhere a.standing scopes content keys values caller before found.items)
+line_found c content keys values caller elsewhere a scopes is before (Err e) h = tt
+line_found c content keys values caller elsewhere a scopes is before (Ok found) h = record { a = a; stands = refl; lines = is; serves = h }

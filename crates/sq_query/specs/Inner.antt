@@ -147,14 +147,14 @@ IsLineBeneath q a found standing line =
     (scopes : List (Scope (Unit {0}))) (other : Line) → IsAround a scopes → IsLineAmong found (items_of q) other
     → IsStanding standing (alone [] (lent line) ∷ scopes_beyond a.lines) (alone [] other ∷ scopes)
 
--- what was found in the subqueries of a condition on the lines of a query specification
-pub record ServesLines (q : BoundSpecification) (c : BoundCond) (elsewhere : Needed) (a : Around)
-    (content : Content) (keys : List Keys) (values : List Value) (user : Name)
-    (before after : List BaseRows) : Type 0 where
-  pub beneath : Around
-  pub lines : (scopes : List (Scope (Unit {0}))) (line : Line) → IsAround a scopes
-      → IsLineAmong before (items_of q) line → IsAround beneath (alone [] line ∷ scopes)
-  pub serves : ServesCond (cond_of [] c) (CondIsNoted c) elsewhere beneath content keys values user before after
+-- what was found in the subqueries of a condition, where this is known of the line, and these may be the scopes
+pub record ServesLine (c : BoundCond) (elsewhere : Needed) (standing : Standing)
+    (scopes : List (Scope (Unit {0}))) (content : Content) (keys : List Keys) (values : List Value)
+    (user : Name) (before after : List BaseRows) : Type 0 where
+  pub a : Around
+  pub stands : a.standing ≡ standing
+  pub lines : scopes_beyond a.lines ≡ scopes
+  pub serves : ServesCond (cond_of [] c) (CondIsNoted c) elsewhere a content keys values user before after
 
 -- ---- on a row
 

@@ -25,12 +25,12 @@ pub(crate) enum Standing {
 /// What is around a query specification or a condition: the lines of the queries in which it stands, where they are known. Outside every
 /// query there is none.
 #[derive(Clone, Copy)]
-pub(crate) struct Around<'l> {
+pub(crate) struct Around<'l, 'r> {
     pub standing: Standing,
-    pub lines: Option<&'l Frame<'l>>,
+    pub lines: Option<&'l Frame<'r>>,
 }
 
-impl<'l> Around<'l> {
+impl<'l, 'r> Around<'l, 'r> {
     /// Whether there is nothing that the query specification could be evaluated for.
     pub(crate) fn is_no_line(&self) -> bool
         ensures { result ≡ true → self.now.standing ≡ at_standing.OnNoLine }
@@ -45,7 +45,7 @@ impl<'l> Around<'l> {
 /// The value of an expression, where it is the same on each line of a query specification, and not null.
 pub(crate) fn value_around(
     expr: &BoundExpr,
-    around: &Around<'_>,
+    around: &Around<'_, '_>,
     call: &Context<'_>,
 ) -> Result<Option<Value>, Fault>
     ensures known { IfOk result (λ known. IfSome known
