@@ -25,7 +25,7 @@ use Rattle.sq_bound.proofs.ConditionLaws.{cond_of-out, conj_of-out, predicate_of
 use Rattle.sq_expression.specs.Frame.{lent, scopes_beyond}
 use Rattle.sq_expression.specs.declared.table.BaseRows.{BaseRows}
 use Rattle.sq_query.specs.Around.{IsStanding}
-use Rattle.sq_query.specs.Inner.{AreBeside, AreOnlyRows, IsLineBeneath, IsOnlyRow, IsSubqueryOf}
+use Rattle.sq_query.specs.Inner.{AreOfOtherParts, AreOnlyRows, IsLineBeneath, IsOnlyRow, IsSubqueryOf}
 use Rattle.sq_query.specs.Items.{IsLineAmong, IsRowAmong, IsRowFound, found_of, is_empty_item, is_found, is_left, items_of}
 use Rattle.sq_query.specs.Needed.{Adds, IsNeeded, NeedsMore, NeedsNone, ReadsCond, ReadsConds, ReadsClause, ReadsSelect, conds_tables, places_in, with_table}
 use Rattle.sq_query.specs.Search.{IsWhere}
@@ -65,7 +65,7 @@ all_behind (x ∷ xs) (suc n) =
     subst (λ k. take k (drop n xs) ≡ drop n xs) (sym same) (all_behind xs n)
 
 pub beside_so : {A : Type 0} (tree : A → PlacedCond) (parts : List A) (number : ℕ) (tables copy some all : Needed) → places_in copy ≡ places_in tables → (before behind : List A) → before ≡ take number parts → behind ≡ drop (number + 1) parts
-    → Adds copy (conds_tables (conds (map tree before))) some → Adds some (conds_tables (conds (map tree behind))) all → AreBeside tree parts number tables all
+    → Adds copy (conds_tables (conds (map tree before))) some → Adds some (conds_tables (conds (map tree behind))) all → AreOfOtherParts tree parts number tables all
 beside_so {A} tree parts number tables copy some all same before behind before_is behind_is to_some to_all =
     let later = needs_more some all (conds_tables (conds (map tree behind))) to_all in record {
       more = λ t h. later t (needs_more copy some (conds_tables (conds (map tree before))) to_some t (copied_more tables copy same t h));

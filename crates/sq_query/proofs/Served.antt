@@ -39,7 +39,7 @@ use Rattle.sq_bound.proofs.Nested.{among_one, bracketed_one, compared_with_one, 
 use Rattle.sq_expression.specs.Frame.{inputs_of}
 use Rattle.sq_expression.specs.declared.fault.Fault.{Fault}
 use Rattle.sq_expression.specs.declared.table.BaseRows.{BaseRows}
-use Rattle.sq_query.specs.Inner.{AreBeside, IsSubqueryOf, Serves, ServesCond, ServesSelect, StandsCond}
+use Rattle.sq_query.specs.Inner.{AreOfOtherParts, IsSubqueryOf, Serves, ServesCond, ServesSelect, StandsCond}
 use Rattle.sq_query.specs.Items.{over}
 use Rattle.sq_query.specs.Needed.{IsNeeded, ReadsCond}
 use Rattle.sq_query.specs.declared.around.Around.{Around}
@@ -192,7 +192,7 @@ module _ (content : Content) (keys : List Keys) (values : List Value) (caller : 
     cond_both = both_serve (StandsCond c Notes) SameTruth (λ f env. refl) (λ f g h env p q. p ∙ q)
 
   -- what serves a part of a condition serves all of it, where the other parts stand elsewhere
-  module _ {A : Type 0} (tree : A → PlacedCond) (parts : List A) (n : ℕ) (x : A) (at : slice_get parts n ≡ Some x) (all : Needed) (beside : AreBeside tree parts n elsewhere all) (NotesAll Notes : Type 0) (part : NotesAll → Notes) (before after : List BaseRows) where
+  module _ {A : Type 0} (tree : A → PlacedCond) (parts : List A) (n : ℕ) (x : A) (at : slice_get parts n ≡ Some x) (all : Needed) (beside : AreOfOtherParts tree parts n elsewhere all) (NotesAll Notes : Type 0) (part : NotesAll → Notes) (before after : List BaseRows) where
     module _ (f g : TablePlace → Outcome (List Row)) (apart : (t : TablePlace) → IsNeeded all t → f t ≡ g t) (env : Env (Unit {0})) where
       abbrev SamePart : A → Type 0
       SamePart y = truth (by_place f) (tree y) env ≡ truth (by_place g) (tree y) env
@@ -230,7 +230,7 @@ module _ (content : Content) (keys : List Keys) (values : List Value) (caller : 
           }
 
   -- a term of a condition
-  pub term_serves : (c : BoundCond) (terms : List BoundConj) → terms ≡ (out-BoundCond c).terms → (n : ℕ) (term : BoundConj) → slice_get terms n ≡ Some term → (all : Needed) → AreBeside (conj_of []) terms n elsewhere all → (before after : List BaseRows)
+  pub term_serves : (c : BoundCond) (terms : List BoundConj) → terms ≡ (out-BoundCond c).terms → (n : ℕ) (term : BoundConj) → slice_get terms n ≡ Some term → (all : Needed) → AreOfOtherParts (conj_of []) terms n elsewhere all → (before after : List BaseRows)
       → ServesCond (conj_of [] term) (ConjWith IsNoted term) all a content keys values caller before after → ServesCond (cond_of [] c) (CondIsNoted c) elsewhere a content keys values caller before after
   term_serves c terms are n term at all beside before after serves =
       let tree : cond_of [] c ≡ disjunction (conds (map (conj_of []) terms)) = cond_of-out [] c ∙ ap (λ (ts : List BoundConj). disjunction (conds (map (conj_of []) ts))) (sym are) in
@@ -239,7 +239,7 @@ module _ (content : Content) (keys : List Keys) (values : List Value) (caller : 
       (serves_any (conj_of []) terms n term at all beside (CondIsNoted c) (ConjWith IsNoted term) noted before after serves)
 
   -- a test of a term
-  pub test_serves : (c : BoundConj) (tests : List BoundTest) → tests ≡ (out-BoundConj c).tests → (n : ℕ) (test : BoundTest) → slice_get tests n ≡ Some test → (all : Needed) → AreBeside (test_of []) tests n elsewhere all → (before after : List BaseRows)
+  pub test_serves : (c : BoundConj) (tests : List BoundTest) → tests ≡ (out-BoundConj c).tests → (n : ℕ) (test : BoundTest) → slice_get tests n ≡ Some test → (all : Needed) → AreOfOtherParts (test_of []) tests n elsewhere all → (before after : List BaseRows)
       → ServesCond (predicate_of [] test.predicate) (PredicateWith IsNoted test.predicate) all a content keys values caller before after → ServesCond (conj_of [] c) (ConjWith IsNoted c) elsewhere a content keys values caller before after
   test_serves c tests are n test at all beside before after serves =
       let tree : conj_of [] c ≡ conjunction (conds (map (test_of []) tests)) = conj_of-out [] c ∙ ap (λ (ts : List BoundTest). conjunction (conds (map (test_of []) ts))) (sym are) in
@@ -256,12 +256,12 @@ module _ (content : Content) (keys : List Keys) (values : List Value) (caller : 
           }
 
   -- one part more
-  pub term_more : (c : BoundCond) (terms : List BoundConj) → terms ≡ (out-BoundCond c).terms → (n : ℕ) (term : BoundConj) → n < length terms → term ≡ get_or terms n term → (all : Needed) → AreBeside (conj_of []) terms n elsewhere all → (before now after : List BaseRows)
+  pub term_more : (c : BoundCond) (terms : List BoundConj) → terms ≡ (out-BoundCond c).terms → (n : ℕ) (term : BoundConj) → n < length terms → term ≡ get_or terms n term → (all : Needed) → AreOfOtherParts (conj_of []) terms n elsewhere all → (before now after : List BaseRows)
       → ServesCond (cond_of [] c) (CondIsNoted c) elsewhere a content keys values caller before now → ServesCond (conj_of [] term) (ConjWith IsNoted term) all a content keys values caller now after → ServesCond (cond_of [] c) (CondIsNoted c) elsewhere a content keys values caller before after
   term_more c terms are n term within at all beside before now after so_far serves =
       cond_both (cond_of [] c) (CondIsNoted c) before now after so_far (term_serves c terms are n term (at_index terms n term term within (sym at)) all beside now after serves)
 
-  pub test_more : (c : BoundConj) (tests : List BoundTest) → tests ≡ (out-BoundConj c).tests → (n : ℕ) (test : BoundTest) → n < length tests → test ≡ get_or tests n test → (all : Needed) → AreBeside (test_of []) tests n elsewhere all → (before now after : List BaseRows)
+  pub test_more : (c : BoundConj) (tests : List BoundTest) → tests ≡ (out-BoundConj c).tests → (n : ℕ) (test : BoundTest) → n < length tests → test ≡ get_or tests n test → (all : Needed) → AreOfOtherParts (test_of []) tests n elsewhere all → (before now after : List BaseRows)
       → ServesCond (conj_of [] c) (ConjWith IsNoted c) elsewhere a content keys values caller before now → ServesCond (predicate_of [] test.predicate) (PredicateWith IsNoted test.predicate) all a content keys values caller now after → ServesCond (conj_of [] c) (ConjWith IsNoted c) elsewhere a content keys values caller before after
   test_more c tests are n test within at all beside before now after so_far serves =
       cond_both (conj_of [] c) (ConjWith IsNoted c) before now after so_far (test_serves c tests are n test (at_index tests n test test within (sym at)) all beside now after serves)

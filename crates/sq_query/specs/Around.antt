@@ -35,7 +35,8 @@ IsAround a = IsStanding a.standing (scopes_beyond a.lines)
 abbrev pub AreRowsAround : TableKinds → List Kind → Levels → List (Scope (Unit {0})) → Type 0
 AreRowsAround columns parameters levels scopes =
     (now : TablePlace → Outcome (List Row))
-    → AllZip (HasRowsOf (by_place now) (kinds_by_place columns parameters) (IsDeclaredAt parameters)) levels scopes
+    → AllZip (HasRowsOf (by_place now) (kinds_by_place columns parameters) (IsDeclaredAt parameters)) levels
+    scopes
 
 -- a line is seen within them, in a call by this user with these values of parameters
 abbrev pub beneath : List (Scope (Unit {0})) → Line → List Value → Name → Env (Unit {0})
@@ -58,7 +59,8 @@ IsSameBeneath scopes parameters user e v =
     × (is_null v ≡ false)
 
 -- the value that it has there, or the status that it ends with
-abbrev pub HasValueBeneath : Result Value Fault → BoundExpr → List (Scope (Unit {0})) → List Value → Name → Type 0
+abbrev pub HasValueBeneath : Result Value Fault → BoundExpr → List (Scope (Unit {0})) → List Value → Name
+    → Type 0
 HasValueBeneath result e scopes parameters user =
     (tables : TablePlace → Outcome (List Row))
     → Meets result (meaning.value (by_place tables) (expr_of [] e) (beneath scopes [] parameters user))

@@ -66,7 +66,7 @@ abbrev pub terms_tables : List BoundConj → List TablePlace
 terms_tables terms = conds_tables (conds (map (conj_of []) terms))
 
 -- all these tables are needed, and those of all terms, or tests, but one
-pub record AreBeside {A : Type 0} (tree : A → PlacedCond) (parts : List A) (number : ℕ)
+pub record AreOfOtherParts {A : Type 0} (tree : A → PlacedCond) (parts : List A) (number : ℕ)
     (tables all : Needed) : Type 0 where
   pub more : NeedsMore tables all
   pub before : AllByRecursion (λ x. ReadsCond (IsNeeded all) (tree x)) (take number parts)
@@ -144,7 +144,8 @@ AreOnlyRows found = AllZip (λ t row. IsOnlyRow found t row.now)
 -- this is known of each line of a query specification, within what is around
 abbrev pub IsLineBeneath : BoundSpecification → Around → List BaseRows → Standing → List (Bor Row) → Type 0
 IsLineBeneath q a found standing line =
-    (scopes : List (Scope (Unit {0}))) (other : Line) → IsAround a scopes → IsLineAmong found (items_of q) other
+    (scopes : List (Scope (Unit {0}))) (other : Line) → IsAround a scopes
+    → IsLineAmong found (items_of q) other
     → IsStanding standing (alone [] (lent line) ∷ scopes_beyond a.lines) (alone [] other ∷ scopes)
 
 -- what was found in the subqueries of a condition, where this is known of the line, and these may be the scopes

@@ -77,7 +77,8 @@ fn value_within(
     lines: Option<&Frame<'_>>,
     call: &Context<'_>,
 ) -> Result<Value, Fault>
-    ensures { HasValueBeneath result expr.now (scopes_beyond lines.entry) call.now.parameters.now call.now.user }
+    ensures { HasValueBeneath result expr.now
+        (scopes_beyond lines.entry) call.now.parameters.now call.now.user }
 {
     owned_value(expr, &line_frame(&[], lines), call)
 }

@@ -1,11 +1,13 @@
-use Rattle.std.proofs.Common.{[], List, inl, inr, ap, refl, subst, sym, ◌∙◌}
+use Rattle.std.proofs.Common.{[], List, Bor, inl, inr, ap, refl, subst, sym, ◌∙◌}
 use Rattle.std.specs.Prelude.{IfOk}
 use Rattle.sq_bound.specs.Condition.{cond_of, conj_of, predicate_of}
 use Rattle.sq_bound.specs.Noted.{CondIsNoted, IsNoted}
 use Rattle.sq_bound.specs.Numbered.{ConjWith, PredicateWith}
 use Rattle.sq_bound.specs.declared.condition.Predicate.TheVariants as bound
 use Rattle.sq_expression.specs.Frame.{scopes_of}
-use Rattle.sq_query.specs.Inner.{ServesLine}
+use Rattle.sq_expression.specs.declared.table.BaseRows.{BaseRows}
+use Rattle.sq_meaning.specs.Environment.{Row}
+use Rattle.sq_query.specs.Inner.{IsLineBeneath, ServesLine}
 use Rattle.sq_query.proofs.Served.{bracketed_serves, cond_none, subquery_serves, test_more, term_more}
 use Rattle.sq_query.proofs.ServedWhere.{items_serve, line_found, select_none, select_then, where_found}
 use Rattle.sq_query.proofs.inner.+read_inside.Goals as goal
@@ -26,19 +28,21 @@ pub with_where-returns-in_default-clause-found : goal.with_where-returns-in_defa
 with_where-returns-in_default-clause-found g t c =
     select_none c.args.query.now (g.S.Store.content_now c.args.store.now) (g.S.Store.key_columns c.args.store.now) c.args.call.now.parameters.now c.args.call.now.user c.args.elsewhere.now c.args.around.now c.args.before.items
 
-pub with_where-returns-then-has_subqueries-clause-found : goal.with_where-returns-then-has_subqueries-clause-found
-with_where-returns-then-has_subqueries-clause-found g t c =
+pub with_where-returns-then-not-branch-clause-found : goal.with_where-returns-then-not-branch-clause-found
+with_where-returns-then-not-branch-clause-found g t c =
     select_none c.args.query.now (g.S.Store.content_now c.args.store.now) (g.S.Store.key_columns c.args.store.now) c.args.call.now.parameters.now c.args.call.now.user c.args.elsewhere.now c.args.around.now c.args.before.items
 
 pub with_where-returns-clause-found : goal.with_where-returns-clause-found
 with_where-returns-clause-found g t c =
     where_found c.args.query.now (g.S.Store.content_now c.args.store.now) (g.S.Store.key_columns c.args.store.now) c.args.call.now.parameters.now c.args.call.now.user c.args.elsewhere.now c.args.around.now c.in-Some.condition c.in-Some.is
-    c.in_ok-others.others c.in_ok-others.ensures c.args.before.items c.in_ok-line.line.standing c.in_ok-line.line.rows.items c.in_ok-line.ensures c.with_line-found.result c.with_line-found.ensures.found
+    c.in_ok-others.others c.in_ok-others.ensures c.args.before.items c.in_ok-line.line.standing c.as_slice-rows.result.now
+    (subst (λ (r : List (Bor Row)). IsLineBeneath c.args.query.now c.args.around.now c.args.before.items c.in_ok-line.line.standing r) (sym c.as_slice-rows.ensures.value)
+    (subst (λ (l : List BaseRows). IsLineBeneath c.args.query.now c.args.around.now l c.in_ok-line.line.standing c.in_ok-line.line.rows.items) c.as_slice.ensures.value c.in_ok-line.ensures)) c.with_line-found.result c.with_line-found.ensures.found
 
 pub with_line-returns-clause-found : goal.with_line-returns-clause-found
 with_line-returns-clause-found g t c =
     subst (λ ss. IfOk c.with_lines.result (λ found. ServesLine c.args.condition.now c.args.elsewhere.now c.args.standing ss (g.S.Store.content_now c.args.store.now) (g.S.Store.key_columns c.args.store.now) c.args.call.now.parameters.now c.args.call.now.user c.args.before.items found.items))
-    c.line_frame.ensures.scopes c.with_lines.ensures.found
+    c.line_beneath.ensures c.with_lines.ensures.found
 
 pub with_lines-returns-clause-found : goal.with_lines-returns-clause-found
 with_lines-returns-clause-found g t c =
@@ -52,7 +56,7 @@ with_condition-loop-number-init g t c =
 pub with_condition-loop-number-preserved : goal.with_condition-loop-number-preserved
 with_condition-loop-number-preserved g t c =
     term_more (g.S.Store.content_now c.args.store.now) (g.S.Store.key_columns c.args.store.now) c.args.call.now.parameters.now c.args.call.now.user c.args.elsewhere.now c.args.around.now c.args.condition.now c.as_slice-terms.result.now c.as_slice-terms.ensures
-    c.loop-number.number c.term-item.result c.loop-number-test.true c.term-item.is c.in_ok-others.others c.in_ok-others.ensures c.args.before.items c.loop-number.found.items c.in_ok-found.found.items c.loop-number.invariant c.in_ok-found.ensures.found
+    c.loop-number.number c.index-terms-number.result c.loop-number-test.true c.index-terms-number.is c.in_ok-others.others c.in_ok-others.ensures c.args.before.items c.loop-number.found.items c.in_ok-found.found.items c.loop-number.invariant c.in_ok-found.ensures.found
 
 pub with_term-loop-number-init : goal.with_term-loop-number-init
 with_term-loop-number-init g t c =
@@ -61,7 +65,7 @@ with_term-loop-number-init g t c =
 pub with_term-loop-number-preserved : goal.with_term-loop-number-preserved
 with_term-loop-number-preserved g t c =
     test_more (g.S.Store.content_now c.args.store.now) (g.S.Store.key_columns c.args.store.now) c.args.call.now.parameters.now c.args.call.now.user c.args.elsewhere.now c.args.around.now c.args.term.now c.as_slice-tests.result.now c.as_slice-tests.ensures
-    c.loop-number.number c.test-item.result c.loop-number-test.true c.test-item.is c.in_ok-others.others c.in_ok-others.ensures c.args.before.items c.loop-number.found.items c.in_ok-found.found.items c.loop-number.invariant c.in_ok-found.ensures.found
+    c.loop-number.number c.index-tests-number.result c.loop-number-test.true c.index-tests-number.is c.in_ok-others.others c.in_ok-others.ensures c.args.before.items c.loop-number.found.items c.in_ok-found.found.items c.loop-number.invariant c.in_ok-found.ensures.found
 
 pub with_predicate-returns-in-CompareQuery-clause-found : goal.with_predicate-returns-in-CompareQuery-clause-found
 with_predicate-returns-in-CompareQuery-clause-found g t c =
