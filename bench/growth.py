@@ -319,6 +319,14 @@ def updated_where_there(n):
                calls("UPD ({}, 5)", keys(n), "R"), changed(f"UPDATE R SET A = 5 {rest}", keys(n), "R"))
 
 
+def selected_where_there_twice(n):
+    rest = ("FROM P WHERE K = {} AND (A < 0 OR EXISTS (SELECT K FROM R WHERE R.K = P.A "
+            "AND EXISTS (SELECT K FROM C WHERE C.K = R.A)))")
+    return Row({"P": pairs(n), "R": pairs(n), "C": pairs(n)},
+               f"PROCEDURE ONE (SQLCODE, :K INTEGER, :A INTEGER); SELECT A INTO :A {rest.format(':K')};\n",
+               calls("ONE ({}, *)", keys(n)), asked("A", rest, keys(n)))
+
+
 def joined(n):
     return counted("FROM P, R WHERE R.K = P.A", {"P": to_themselves(n), "R": pairs(n)})
 
@@ -360,6 +368,7 @@ ROWS = {
     "join of two tables by key": joined_by_key,
     "SELECT INTO by key where a subquery has a row by key": selected_where_there,
     "UPDATE by key where a subquery has a row by key": updated_where_there,
+    "the same under OR, with a subquery in the subquery": selected_where_there_twice,
     f"join of all rows by a key, {JOINS} calls": joined,
     f"EXISTS by a key, {JOINS} calls": found_by_exists,
     f"product with a test of its second table, {JOINS} calls": thinned,

@@ -1,103 +1,55 @@
 -- What the search in the subqueries of a condition finds.
-use Rattle.std.proofs.Common.{◌≡◌, ◌∙◌, ◌<◌, ◌+◌, ◌-◌, inl, inr, ℕ, zero, suc, arith, Bool, true, false, not, ◌||◌, List, [], ◌∷◌, cond, drop, filter, length, map, nat_eq, take, Option, Some, None, Bor, refl, sym, ap, subst}
-use Rattle.std.specs.Prelude.{IfSome, Vec}
+use Rattle.std.proofs.Common.{◌≡◌, ◌∙◌, ◌<◌, ◌+◌, ◌-◌, ◌⊎◌, inl, inr, ℕ, zero, suc, arith, Bool, true, false, not, ◌||◌, List, [], ◌∷◌, cond, drop, filter, fold, length, map, nat_eq, take, Option, Some, None, Bor, refl, sym, ap, subst}
+use Rattle.std.specs.Prelude.{IfSome, IsSomeAnd, Vec}
 use Rattle.std.specs.declared.alloc.Global.{Global}
 use Rattle.std.proofs.lemmas.Bool.{eqb-true}
 use Rattle.std.proofs.lemmas.List.{take_all}
 use Rattle.std.specs.List.{AllByRecursion, AllZip, Contains, list_any}
 use Rattle.sq_meaning.specs.Environment.{Line, Row, alone}
-use Rattle.sq_meaning.specs.Placed.{Placed}
-use Rattle.sq_meaning.specs.Syntax.{conds, exists, in_subquery, select}
+use Rattle.sq_meaning.specs.Syntax.{conds, in_subquery}
 use Rattle.sq_meaning.proofs.AnswerLaws.{all_weaker}
-use Rattle.sq_bound.specs.Condition.{PlacedCond, PlacedSelect, clause_of, compared_with, cond_of, not_if, predicate_of, select_of, test_of}
+use Rattle.sq_bound.specs.Condition.{PlacedCond, PlacedSelect, clause_of, compared_with, cond_of, conj_of, not_if, predicate_of, select_of, test_of}
 use Rattle.sq_bound.specs.Expression.{PlacedExpr, expr_of}
 use Rattle.sq_bound.specs.declared.condition.BoundCond.{BoundCond, out-BoundCond}
 use Rattle.sq_bound.specs.declared.condition.BoundConj.{BoundConj, out-BoundConj}
-use Rattle.sq_bound.specs.declared.condition.BoundSpecification.{BoundSpecification, out-BoundSpecification}
+use Rattle.sq_bound.specs.declared.condition.BoundSpecification.{BoundSpecification}
 use Rattle.sq_bound.specs.declared.condition.BoundTest.{BoundTest}
 use Rattle.sq_bound.specs.declared.condition.Compared.{Compared}
 use Rattle.sq_bound.specs.declared.condition.Compared.TheVariants.{Scalar, All, Any}
 use Rattle.sq_bound.specs.declared.condition.Predicate.{Predicate}
+use Rattle.sq_bound.specs.declared.condition.Predicate.TheVariants as bound
 use Rattle.sq_bound.specs.declared.condition.TablePlace.{TablePlace}
 use Rattle.sq_bound.specs.declared.condition.TablePlace.TheVariants.{Base, View}
 use Rattle.sq_tree.specs.declared.cond.Comparison.{Comparison}
-use Rattle.sq_bound.proofs.ConditionLaws.{predicate_of-CompareQuery, predicate_of-Exists, predicate_of-InQuery, select_of-out, test_of-out}
-use Rattle.sq_expression.specs.Frame.{lent}
+use Rattle.sq_bound.proofs.ConditionLaws.{cond_of-out, conj_of-out, predicate_of-Bracketed, predicate_of-CompareQuery, predicate_of-Exists, predicate_of-InQuery, select_of-out, test_of-out}
+use Rattle.sq_expression.specs.Frame.{lent, scopes_beyond}
 use Rattle.sq_expression.specs.declared.table.BaseRows.{BaseRows}
-use Rattle.sq_query.specs.Around.{IsAround, IsStanding}
-use Rattle.sq_query.specs.Inner.{AreOnlyRows, AreOthers, IsOnlyRow, IsSubqueryOf, ReadsAround, ReadsBesides, tables_besides, tests_tables}
-use Rattle.sq_query.specs.Items.{IsLineAmong, IsRowAmong, IsRowFound, found_of, is_found, is_left}
-use Rattle.sq_query.specs.Needed.{Adds, IsNeeded, NeedsMore, NeedsNone, ReadsCond, ReadsConds, ReadsClause, ReadsInside, ReadsSelect}
+use Rattle.sq_query.specs.Around.{IsStanding}
+use Rattle.sq_query.specs.Inner.{AreOfOtherParts, AreOnlyRows, IsLineBeneath, IsOnlyRow, IsSubqueryOf}
+use Rattle.sq_query.specs.Items.{IsLineAmong, IsRowAmong, IsRowFound, found_of, is_empty_item, is_found, is_left, items_of}
+use Rattle.sq_query.specs.Needed.{Adds, IsNeeded, NeedsMore, NeedsNone, ReadsCond, ReadsConds, ReadsClause, ReadsSelect, conds_tables, places_in, with_table}
 use Rattle.sq_query.specs.Search.{IsWhere}
 use Rattle.sq_query.specs.declared.around.Around.{Around}
 use Rattle.sq_query.specs.declared.around.Standing.{Standing}
-use Rattle.sq_query.specs.declared.around.Standing.TheVariants.{OnLine}
+use Rattle.sq_query.specs.declared.around.Standing.TheVariants.{OnNoLine, OnSomeLine, Within}
 use Rattle.sq_query.specs.declared.needed.Needed.{Needed}
-use Rattle.sq_query.proofs.Added.{around_needed, conds_needed, needs_more}
+use Rattle.sq_query.proofs.Added.{conds_needed, needs_more}
+use Rattle.sq_query.proofs.ItemRows.{no_line_among}
 use Rattle.sq_query.proofs.ItemValues.{one_only}
 use Rattle.sq_query.proofs.KeyTests.{if_some}
-use Rattle.sq_query.proofs.KeyValues.{term_tree}
-use Rattle.sq_query.proofs.NeededViews.{clause_weaker, cond_reads_weaker, inside_weaker}
-
--- ---- tables of tests
-
-module _ (P : TablePlace → Type 0) where
-  unnegated : (b : Bool) (c : PlacedCond) → ReadsCond P (not_if b c) → ReadsCond P c
-  unnegated true c h = h
-  unnegated false c h = h
-
-  pub negated_reads : (b : Bool) (c : PlacedCond) → ReadsCond P c → ReadsCond P (not_if b c)
-  negated_reads true c h = h
-  negated_reads false c h = h
-
-  compared_reads : (k : Compared) (op : Comparison) (a : PlacedExpr) (q : PlacedSelect) → ReadsCond P (compared_with k op a q) → ReadsSelect P q
-  compared_reads Scalar op a q h = h
-  compared_reads All op a q h = h
-  compared_reads Any op a q h = h
-
-  predicate_reads : (p : Predicate) (s : BoundSpecification) → IsSubqueryOf p s → ReadsCond P (predicate_of [] p) → ReadsSelect P (select_of s)
-  predicate_reads p s (inl (op, k, e, is)) h = compared_reads k op (expr_of [] e) (select_of s) (subst (ReadsCond P) (ap (predicate_of []) is ∙ predicate_of-CompareQuery [] op k e s) h)
-  predicate_reads p s (inr (inl (n, e, is))) h = unnegated n (in_subquery (expr_of [] e) (select_of s)) (subst (ReadsCond P) (ap (predicate_of []) is ∙ predicate_of-InQuery [] n e s) h)
-  predicate_reads p s (inr (inr is)) h = subst (ReadsCond P) (ap (predicate_of []) is ∙ predicate_of-Exists [] s) h
-
-  -- the tables of a test are those of its predicate
-  pub test_reads : (t : BoundTest) → ReadsCond P (predicate_of [] t.predicate) → ReadsCond P (test_of [] t)
-  test_reads t h = subst (ReadsCond P) (sym (test_of-out [] t)) (negated_reads t.negated (predicate_of [] t.predicate) h)
-
-  pub subquery_reads : (t : BoundTest) (s : BoundSpecification) → IsSubqueryOf t.predicate s → ReadsCond P (test_of [] t) → ReadsSelect P (select_of s)
-  subquery_reads t s is h = predicate_reads t.predicate s is (unnegated t.negated (predicate_of [] t.predicate) (subst (ReadsCond P) (test_of-out [] t) h))
-
-  each_reads : (tests : List BoundTest) → ReadsConds P (conds (map (test_of []) tests)) → AllByRecursion (λ t. ReadsCond P (test_of [] t)) tests
-  each_reads [] h = tt
-  each_reads (t ∷ tests) h = (h.0, each_reads tests h.1)
-
-  pub tests_read : (c : BoundCond) (term : BoundConj) → (out-BoundCond c).terms ≡ term ∷ [] → ReadsCond P (cond_of [] c) → AllByRecursion (λ t. ReadsCond P (test_of [] t)) (out-BoundConj term).tests
-  tests_read c term only h = each_reads (out-BoundConj term).tests (subst (ReadsCond P) (term_tree c term only) h).0
-
-  -- the tables of a WHERE clause
-  pub where_reads : (q : BoundSpecification) (c : BoundCond) → IsWhere q c → ReadsSelect P (select_of q) → ReadsCond P (cond_of [] c)
-  where_reads q c is h = subst (λ (o : Option BoundCond). ReadsClause P (clause_of [] o)) is (subst (ReadsSelect P) (select_of-out q) h).1
+use Rattle.sq_query.proofs.NeededViews.{cond_reads_weaker}
 
 -- ---- what stands elsewhere
 
-around_more : (before after : Needed) → NeedsMore before after → (q : PlacedSelect) → ReadsAround (IsNeeded before) q → ReadsAround (IsNeeded after) q
-around_more before after more (select distinct list from filter by having) h =
-    (all_weaker (IsNeeded before) (IsNeeded after) more from h.0, clause_weaker (IsNeeded before) (IsNeeded after) more having h.1)
+each_reads : {A : Type 0} (P : TablePlace → Type 0) (tree : A → PlacedCond) (parts : List A) → ReadsConds P (conds (map tree parts)) → AllByRecursion (λ x. ReadsCond P (tree x)) parts
+each_reads P tree [] h = tt
+each_reads P tree (x ∷ parts) h = (h.0, each_reads P tree parts h.1)
 
-besides_more : (before after : Needed) → NeedsMore before after → (q : Option BoundSpecification) → ReadsBesides q before → ReadsBesides q after
-besides_more before after more None h = tt
-besides_more before after more (Some q) h = around_more before after more (select_of q) h
+pub copied_more : (tables copy : Needed) → places_in copy ≡ places_in tables → NeedsMore tables copy
+copied_more tables copy same = needs_more tables copy [] same
 
-pub tests_more : (before after : Needed) → NeedsMore before after → (tests : List BoundTest) → AllByRecursion (λ t. ReadsCond (IsNeeded before) (test_of [] t)) tests → AllByRecursion (λ t. ReadsCond (IsNeeded after) (test_of [] t)) tests
-tests_more before after more =
-    all_weaker (λ t. ReadsCond (IsNeeded before) (test_of [] t)) (λ t. ReadsCond (IsNeeded after) (test_of [] t)) (λ t h. cond_reads_weaker (IsNeeded before) (IsNeeded after) more (test_of [] t) h)
-
-besides_read : (before after : Needed) (q : Option BoundSpecification) → Adds before (tables_besides q) after → ReadsBesides q after
-besides_read before after None adds = tt
-besides_read before after (Some q) adds = around_needed before after (select_of q) adds
-
-tests_needed : (before after : Needed) (tests : List BoundTest) → Adds before (tests_tables tests) after → AllByRecursion (λ t. ReadsCond (IsNeeded after) (test_of [] t)) tests
-tests_needed before after tests adds = each_reads (IsNeeded after) tests (conds_needed before after (conds (map (test_of []) tests)) adds)
+pub added_to_copy : (tables copy all : Needed) (ts : List TablePlace) → places_in copy ≡ places_in tables → Adds copy ts all → Adds tables ts all
+added_to_copy tables copy all ts same adds = adds ∙ ap (λ ps. fold with_table ps ts) same
 
 nothing_taken : {A : Type 0} (n : ℕ) → take n (let none : List A = [] in none) ≡ []
 nothing_taken zero = refl
@@ -112,15 +64,15 @@ all_behind (x ∷ xs) (suc n) =
     let same : length (x ∷ xs) - suc n ≡ length xs - n = omega arith in
     subst (λ k. take k (drop n xs) ≡ drop n xs) (sym same) (all_behind xs n)
 
-pub others_so : (tests : List BoundTest) (number : ℕ) (q : Option BoundSpecification) (s : BoundSpecification) (first some more all : Needed) → ReadsInside (IsNeeded first) (select_of s) → Adds first (tables_besides q) some
-    → (before behind : List BoundTest) → before ≡ take number tests → behind ≡ drop (number + 1) tests → Adds some (tests_tables before) more → Adds more (tests_tables behind) all → AreOthers tests number q s all
-others_so tests number q s first some more all inside to_some before behind before_is behind_is to_more to_all =
-    let some_more = needs_more some more (tests_tables before) to_more in
-    let more_all = needs_more more all (tests_tables behind) to_all in record {
-      inside = inside_weaker (IsNeeded first) (IsNeeded all) (λ t h. more_all t (some_more t (needs_more first some (tables_besides q) to_some t h))) (select_of s) inside;
-      besides = besides_more some all (λ t h. more_all t (some_more t h)) q (besides_read first some q to_some);
-      before = subst (AllByRecursion (λ t. ReadsCond (IsNeeded all) (test_of [] t))) before_is (tests_more more all more_all before (tests_needed some more before to_more));
-      behind = subst (AllByRecursion (λ t. ReadsCond (IsNeeded all) (test_of [] t))) behind_is (tests_needed more all behind to_all);
+pub beside_so : {A : Type 0} (tree : A → PlacedCond) (parts : List A) (number : ℕ) (tables copy some all : Needed) → places_in copy ≡ places_in tables → (before behind : List A) → before ≡ take number parts → behind ≡ drop (number + 1) parts
+    → Adds copy (conds_tables (conds (map tree before))) some → Adds some (conds_tables (conds (map tree behind))) all → AreOfOtherParts tree parts number tables all
+beside_so {A} tree parts number tables copy some all same before behind before_is behind_is to_some to_all =
+    let later = needs_more some all (conds_tables (conds (map tree behind))) to_all in record {
+      more = λ t h. later t (needs_more copy some (conds_tables (conds (map tree before))) to_some t (copied_more tables copy same t h));
+      before = subst (AllByRecursion (λ x. ReadsCond (IsNeeded all) (tree x))) before_is
+          (all_weaker (λ x. ReadsCond (IsNeeded some) (tree x)) (λ x. ReadsCond (IsNeeded all) (tree x)) (λ x h. cond_reads_weaker (IsNeeded some) (IsNeeded all) later (tree x) h) before
+          (each_reads (IsNeeded some) tree before (conds_needed copy some (conds (map tree before)) to_some)));
+      behind = subst (AllByRecursion (λ x. ReadsCond (IsNeeded all) (tree x))) behind_is (each_reads (IsNeeded all) tree behind (conds_needed some all (conds (map tree behind)) to_all));
     }
 
 -- ---- lines of which there is one
@@ -140,9 +92,22 @@ only_so found (t ∷ ts) [] other h k = absurd h
 only_so found (t ∷ ts) (b ∷ line) [] h k = absurd k
 only_so found (t ∷ ts) (b ∷ line) (x ∷ other) h k = λ i. h.0 x k.0 i ∷ only_so found ts line other h.1 k.1 i
 
-pub only_around : (found : List BaseRows) (ts : List TablePlace) (line : List (Bor Row)) (a : Around) → a.standing ≡ OnLine → a.line.now ≡ line → AreOnlyRows found ts line → (other : Line) → IsLineAmong found ts other → IsAround a (alone [] other ∷ [])
-only_around found ts line a on is h other among =
-    subst (λ (b : Standing). IsStanding b a.line.now (alone [] other ∷ [])) (sym on) (λ i. alone [] ((only_so found ts line other h among ∙ ap lent (sym is)) i) ∷ [])
+-- what is known of a line of which one row at most was found of each table
+module _ (q : BoundSpecification) (a : Around) (found : List BaseRows) (ts : List TablePlace) (are : ts ≡ items_of q) where
+  pub nowhere_so : (a.standing ≡ OnNoLine) ⊎ (list_any (is_empty_item found) ts ≡ true) → (line : List (Bor Row)) → IsLineBeneath q a found OnNoLine line
+  nowhere_so (inl on) line scopes other around among = subst (λ (b : Standing). IsStanding b (scopes_beyond a.lines) scopes) on around
+  nowhere_so (inr none) line scopes other around among = no_line_among found ts other none (subst (λ (us : List TablePlace). IsLineAmong found us other) (sym are) among)
+
+  pub line_so : (only : Option (Vec (Bor Row) Global)) → IfSome only (λ l. AreOnlyRows found ts l.items) → (standing : Standing) (line : List (Bor Row)) → (standing ≡ OnNoLine → ⊥)
+      → (standing ≡ Within → (a.standing ≡ Within) × IsSomeAnd only (λ rows. line ≡ rows.items)) → IsLineBeneath q a found standing line
+  line_so only rows OnSomeLine line there within scopes other around among = tt
+  line_so only rows OnNoLine line there within scopes other around among = absurd (there refl)
+  line_so None rows Within line there within scopes other around among = absurd (within refl).1
+  line_so (Some l) rows Within line there within scopes other around among =
+      let w = within refl in
+      let beyond : scopes ≡ scopes_beyond a.lines = subst (λ (b : Standing). IsStanding b (scopes_beyond a.lines) scopes) w.0 around in
+      let same : other ≡ lent line = only_so found ts l.items other rows (subst (λ (us : List TablePlace). IsLineAmong found us other) (sym are) among) ∙ ap lent (sym w.1) in
+      λ i. alone [] (same i) ∷ beyond i
 
 -- ---- what was not found
 

@@ -1,10 +1,9 @@
-pub mod InnerFound
 pub mod RowTables
 pub mod InnerSearch
 pub mod AroundValues
 pub mod Grown
-pub mod InnerRows
-pub mod UnderLines
+pub mod Served
+pub mod ServedWhere
 pub mod Added
 pub mod AnyTables
 pub mod Bases

@@ -1,6 +1,7 @@
 -- What is read for a condition on a row, where some base tables in its subqueries were found by keys.
 use Rattle.std.proofs.Common.{◌≡◌, ◌∙◌, ℕ, Bool, true, false, List, [], ◌∷◌, ◌++◌, None, Result, refl, sym, ap, subst, Ok, Err}
-use Rattle.std.specs.Prelude.{IfErr, IfOk, IsErrAnd}
+use Rattle.std.specs.Prelude.{IfErr, IfOk, IsErrAnd, Vec}
+use Rattle.std.specs.declared.alloc.Global.{Global}
 use Rattle.sq_lex.specs.declared.name.Name.{Name}
 use Rattle.sq_value.specs.declared.domain.Kind.{Kind}
 use Rattle.sq_value.specs.declared.truth.Truth.{Truth}
@@ -11,27 +12,30 @@ use Rattle.sq_meaning.specs.Environment.{Line, Row, Scope, alone}
 use Rattle.sq_meaning.specs.Placed.{by_place}
 use Rattle.sq_meaning.specs.Query.{truth}
 use Rattle.sq_meaning.specs.Status.{Outcome}
-use Rattle.sq_meaning.specs.WellFormed.{IsDeclaredAt, IsRowOf, WellFormedCond, kinds_by_place}
+use Rattle.sq_meaning.specs.WellFormed.{AreRowsOf, Fits, IsDeclaredAt, IsRowOf, WellFormedCond, kinds_by_place}
 use Rattle.sq_bound.specs.Condition.{PlacedCond, cond_of}
+use Rattle.sq_bound.specs.Noted.{CondIsNoted}
 use Rattle.sq_bound.specs.WellFormed.{BasesAreThere, TableKinds, of_base_at}
 use Rattle.sq_bound.specs.declared.condition.BoundCond.{BoundCond}
 use Rattle.sq_bound.specs.declared.condition.TablePlace.{TablePlace}
 use Rattle.sq_bound.specs.declared.names.BaseTable.{BaseTable}
 use Rattle.sq_expression.specs.Fault.{Meets, MeetsAs}
+use Rattle.sq_expression.specs.Frame.{scopes_beyond}
 use Rattle.sq_expression.specs.declared.fault.Fault.{Fault}
 use Rattle.sq_expression.specs.declared.fault.Fault.TheVariants as fault
 use Rattle.sq_expression.specs.declared.table.BaseRows.{BaseRows}
-use Rattle.sq_query.specs.Inner.{AreBeneath, HasKeys, IsReadOnRow}
+use Rattle.sq_query.specs.Inner.{AreBeneath, HasKeys, IsInStore, IsReadOnRow, ServesCond, ServesLine}
+use Rattle.sq_query.specs.Around.{IsStanding}
 use Rattle.sq_query.specs.Items.{is_left, over}
 use Rattle.sq_query.specs.Needed.{IsNeeded, ReadsCond}
 use Rattle.sq_query.specs.Row.{HasTruthOn, IsOnRow, outside, truth_on_row}
 use Rattle.sq_query.specs.Table.{AreOfStore, ReadsAsMeant, bases_of, rows_among, rows_read}
 use Rattle.sq_query.specs.Union.{AreFitting}
+use Rattle.sq_query.specs.declared.around.Standing.{Standing}
+use Rattle.sq_query.specs.declared.around.Standing.TheVariants.{Within}
 use Rattle.sq_query.specs.declared.needed.Needed.{Needed}
 use Rattle.sq_query.specs.declared.view.Tables.{Tables}
 use Rattle.sq_query.proofs.FoundRead.{rows_over}
-use Rattle.sq_query.proofs.FoundRows.{all_sure}
-use Rattle.sq_query.proofs.InnerRows.{same_inside}
 use Rattle.sq_query.proofs.ItemRows.{over_none}
 use Rattle.sq_query.proofs.NeededViews.{cond_reads_weaker}
 
@@ -45,8 +49,9 @@ module _ (bases : List BaseTable) (columns : TableKinds) (content : Content) (ke
 
   same_beneath : HasKeys bases content keys → (found : List BaseRows) → AreBeneath c row content keys values caller found → IsSameOver found
   same_beneath has found b =
-      (same_inside bases columns content keys has.0 has.1 keyed bases_there parameters values caller given tables (all_sure content tables stored) c (of_base_at on.place) stands on.well.notes None
-      (λ others besides n free. stored n) b.a (alone [] (row ∷ []) ∷ []) b.is_around (λ f. (record { line = (on.fits, tt); group = tt }, tt)) fitting found b.inside).0
+      let in_store : IsInStore columns parameters content keys values tables = record { bases = bases; keys_are = has.0; not_null = has.1; keyed = keyed; there = bases_there; inputs = given; stored = stored } in
+      let served = b.inside columns parameters (of_base_at on.place) tables in_store (stands, on.well.notes) (λ t. subst (Fits AreRowsOf (columns t)) (over_none tables t) (fitting t)) in
+      (λ i. truth_on_row (λ t. over_none tables t i) values caller row c) ∙ served.same (alone [] (row ∷ []) ∷ []) b.is_around (λ f. (record { line = (on.fits, tt); group = tt }, tt))
 
   pub same_on_row : (by_keys : Bool) → (by_keys ≡ true → HasKeys bases content keys) → (found : List BaseRows) → (by_keys ≡ true → AreBeneath c row content keys values caller found) → (by_keys ≡ false → found ≡ []) → IsSameOver found
   same_on_row true has found b none = same_beneath (has refl) found (b refl)
@@ -73,3 +78,14 @@ only_memory (fault.Status s) read h = absurd cc
 pub handed_fault : {A : Type 0} (r : Result A Fault) (e : Fault) → IsErrAnd r (λ g. g ≡ e) → e ≡ fault.NoMemory → IfErr r (λ g. g ≡ fault.NoMemory)
 handed_fault (Ok a) e is memory = tt
 handed_fault (Err g) e is memory = is ∙ memory
+
+-- what was found beneath a row
+pub beneath_so : (c : BoundCond) (row : Row) (content : Content) (keys : List Keys) (values : List Value) (caller : Name) (elsewhere : Needed) (scopes : List (Scope (Unit {0}))) → scopes ≡ alone [] (row ∷ []) ∷ [] → (none : List BaseRows) → none ≡ []
+    → (r : Result (Vec BaseRows Global) Fault) → IfOk r (λ found. ServesLine c elsewhere Within scopes content keys values caller none found.items) → IfOk r (λ found. AreBeneath c row content keys values caller found.items)
+beneath_so c row content keys values caller elsewhere scopes are none is (Err e) h = tt
+beneath_so c row content keys values caller elsewhere scopes are none is (Ok found) h = record {
+  a = h.a;
+  is_around = subst (λ (b : Standing). IsStanding b (scopes_beyond h.a.lines) (alone [] (row ∷ []) ∷ [])) (sym h.stands) (sym (h.lines ∙ are));
+  elsewhere = elsewhere;
+  inside = subst (λ (l : List BaseRows). ServesCond (cond_of [] c) (CondIsNoted c) elsewhere h.a content keys values caller l found.items) is h.serves;
+}

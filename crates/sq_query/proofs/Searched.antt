@@ -268,17 +268,6 @@ read_with_view view found others tables own read (Ok all) at are as_meant bases 
 pub answered_memory : (e : Fault) → e ≡ fault.NoMemory → IsAnswered {A = Tables} (Err e)
 answered_memory e is = subst (λ (f : Fault). IsAnswered {A = Tables} (Err f)) (sym is) tt
 
--- over all rows of its tables
-pub read_whole : (columns : TableKinds) (tables : TablePlace → Outcome (List Row)) (q : BoundSpecification) (values : List Value) (caller : Name) (needed : Needed) (r : Result Tables Fault) → AreFitting columns tables
-    → ReadsSelect (IsNeeded needed) (select_of q) → IfOk r (λ found. ReadsAsMeant needed (rows_read found) tables) → IfOk r (IsReadFor columns tables q values caller)
-read_whole columns tables q values caller needed (Err e) fitting reads as_meant = tt
-read_whole columns tables q values caller needed (Ok found) fitting reads as_meant = record {
-  rows_of = tables;
-  fitting = fitting;
-  read = reads_weaker (IsNeeded needed) (λ t. rows_read found t ≡ tables t) as_meant (select_of q) reads;
-  same = refl;
-}
-
 -- over other rows of its only table, where it has the same rows
 pub read_of_search : (columns : TableKinds) (tables : TablePlace → Outcome (List Row)) (q : BoundSpecification) (values : List Value) (caller : Name) (t : TablePlace) (found : Outcome (List Row)) (own : BoundCond) (others : Needed) (r : Result Tables Fault)
     → IsOver q t → IsWhere q own → AreBeside q t others → AreFitting columns tables → Fits AreRowsOf (columns t) found

@@ -1,50 +1,54 @@
--- What the subqueries of a WHERE clause read: of a base table that stands in one of them alone, one row at most, where the first tests of
--- the subquery name it by a key (ISO/IEC 9075:1992, 7.6, 7.11 and 8.4 to 8.8; own rule).
-use Rattle.std.specs.Prelude.{◌≡◌, ◌<◌, ◌+◌, ◌++◌, ◌⊎◌, ⊤, ℕ, Bool, true, List, [], ◌∷◌, drop, length, map, slice_get, take, Option, None, Some}
+-- What a condition reads in its subqueries, and in theirs: of a base table that stands in one of them alone, one row at most, where the
+-- first tests of the subquery name it by a key (ISO/IEC 9075:1992, 7.6, 7.11 and 8.4 to 8.8; own rule).
+use Rattle.std.specs.Prelude.{◌≡◌, ◌+◌, ◌++◌, ◌⊎◌, ℕ, Bool, true, List, [], ◌∷◌, drop, map, take}
 use Rattle.std.specs.Borrow.{Bor}
 use Rattle.std.specs.List.{AllByRecursion, AllZip}
 use Rattle.sq_lex.specs.declared.name.Name.{Name}
 use Rattle.sq_tree.specs.declared.cond.Comparison.{Comparison}
+use Rattle.sq_value.specs.declared.domain.Kind.{Kind}
 use Rattle.sq_value.specs.declared.value.Value.{Value}
 use Rattle.sq_store.specs.Content.{Content}
-use Rattle.sq_store.specs.Keys.{Keys}
-use Rattle.sq_meaning.specs.Environment.{Line, Row, alone}
+use Rattle.sq_store.specs.Keys.{Keys, are_keyed}
+use Rattle.sq_meaning.specs.Environment.{Env, Line, Row, Scope, alone}
+use Rattle.sq_meaning.specs.Placed.{by_place}
+use Rattle.sq_meaning.specs.Query.{rows, truth}
 use Rattle.sq_meaning.specs.Status.{Outcome}
 use Rattle.sq_meaning.specs.Syntax.{conds, select}
-use Rattle.sq_bound.specs.Condition.{PlacedSelect, cond_of, select_of, test_of}
+use Rattle.sq_meaning.specs.WellFormed.{IsDeclaredAt, IsRowOf, WellFormedCond, WellFormedSelect, kinds_by_place, of_lines}
+use Rattle.sq_bound.specs.Condition.{PlacedCond, PlacedSelect, cond_of, conj_of, select_of, test_of}
 use Rattle.sq_bound.specs.Fits.{keys_of_bases, not_nulls_hold}
-use Rattle.sq_bound.specs.declared.condition.BoundCond.{BoundCond, out-BoundCond}
-use Rattle.sq_bound.specs.declared.condition.BoundConj.{BoundConj, out-BoundConj}
+use Rattle.sq_bound.specs.Noted.{CondIsNoted, SelectIsNoted}
+use Rattle.sq_bound.specs.WellFormed.{BasesAreThere, Levels, TableKinds}
+use Rattle.sq_bound.specs.declared.condition.BoundCond.{BoundCond}
+use Rattle.sq_bound.specs.declared.condition.BoundConj.{BoundConj}
 use Rattle.sq_bound.specs.declared.condition.BoundSpecification.{BoundSpecification}
 use Rattle.sq_bound.specs.declared.condition.BoundTest.{BoundTest}
 use Rattle.sq_bound.specs.declared.condition.Compared.{Compared}
 use Rattle.sq_bound.specs.declared.condition.Predicate.{Predicate}
 use Rattle.sq_bound.specs.declared.condition.Predicate.TheVariants as bound
 use Rattle.sq_bound.specs.declared.condition.TablePlace.{TablePlace}
-use Rattle.sq_bound.specs.declared.condition.TablePlace.TheVariants.{Base, View}
 use Rattle.sq_bound.specs.declared.expression.BoundExpr.{BoundExpr}
 use Rattle.sq_bound.specs.declared.names.BaseTable.{BaseTable}
+use Rattle.sq_expression.specs.Frame.{inputs_of, lent, scopes_beyond}
 use Rattle.sq_expression.specs.declared.table.BaseRows.{BaseRows}
-use Rattle.sq_query.specs.Around.{IsAround}
-use Rattle.sq_query.specs.Items.{AreFound, IsLineAmong, IsReadOf, IsRowAmong, items_of}
-use Rattle.sq_query.specs.Needed.{IsNeeded, ReadsClause, ReadsCond, ReadsInside, clause_tables, conds_tables}
+use Rattle.sq_query.specs.Around.{AreRowsAround, IsAround, IsStanding}
+use Rattle.sq_query.specs.Items.{IsLineAmong, IsRowAmong, items_of, over}
+use Rattle.sq_query.specs.Needed.{IsNeeded, NeedsMore, ReadsClause, ReadsCond, clause_tables, conds_tables}
 use Rattle.sq_query.specs.Row.{truth_on_row}
-use Rattle.sq_query.specs.Search.{IsWhere}
-use Rattle.sq_query.specs.Table.{rows_read}
+use Rattle.sq_query.specs.Table.{AreOfStore, rows_read}
+use Rattle.sq_query.specs.Union.{AreFitting}
 use Rattle.sq_query.specs.declared.around.Around.{Around}
+use Rattle.sq_query.specs.declared.around.Standing.{Standing}
 use Rattle.sq_query.specs.declared.needed.Needed.{Needed}
 use Rattle.sq_query.specs.declared.view.Tables.{Tables}
-
--- a base table is in the store
-abbrev pub IsStoredTable : Content → TablePlace → Type 0
-IsStoredTable content (Base n) = n < length content
-IsStoredTable content (View n) = ⊤
 
 -- the subquery of a predicate
 abbrev pub IsSubqueryOf : Predicate → BoundSpecification → Type 0
 IsSubqueryOf p s =
     ((op : Comparison) × (k : Compared) × (e : BoundExpr) × (p ≡ bound.CompareQuery op k e s)) ⊎
     (((n : Bool) × (e : BoundExpr) × (p ≡ bound.InQuery n e s)) ⊎ (p ≡ bound.Exists s))
+
+-- ---- what stands elsewhere
 
 -- of each table of a query specification but those of the subqueries of its WHERE clause P holds
 abbrev pub ReadsAround : (TablePlace → Type 0) → PlacedSelect → Type 0
@@ -54,65 +58,79 @@ ReadsAround P (select distinct list from filter by having) = AllByRecursion P fr
 abbrev pub around_tables : PlacedSelect → List TablePlace
 around_tables (select distinct list from filter by having) = from ++ clause_tables having
 
-abbrev pub tables_besides : Option BoundSpecification → List TablePlace
-tables_besides None = []
-tables_besides (Some q) = around_tables (select_of q)
-
--- those of tests
+-- those of tests, and of terms
 abbrev pub tests_tables : List BoundTest → List TablePlace
 tests_tables tests = conds_tables (conds (map (test_of []) tests))
 
-abbrev pub ReadsBesides : Option BoundSpecification → Needed → Type 0
-ReadsBesides None others = ⊤
-ReadsBesides (Some q) others = ReadsAround (IsNeeded others) (select_of q)
+abbrev pub terms_tables : List BoundConj → List TablePlace
+terms_tables terms = conds_tables (conds (map (conj_of []) terms))
 
--- the tables that stand elsewhere than in the FROM clause of this subquery of a test
-pub record AreOthers (tests : List BoundTest) (number : ℕ) (q : Option BoundSpecification)
-    (s : BoundSpecification) (others : Needed) : Type 0 where
-  pub inside : ReadsInside (IsNeeded others) (select_of s)
-  pub besides : ReadsBesides q others
-  pub before : AllByRecursion (λ t. ReadsCond (IsNeeded others) (test_of [] t)) (take number tests)
-  pub behind : AllByRecursion (λ t. ReadsCond (IsNeeded others) (test_of [] t)) (drop (number + 1) tests)
+-- all these tables are needed, and those of all terms, or tests, but one
+pub record AreOfOtherParts {A : Type 0} (tree : A → PlacedCond) (parts : List A) (number : ℕ)
+    (tables all : Needed) : Type 0 where
+  pub more : NeedsMore tables all
+  pub before : AllByRecursion (λ x. ReadsCond (IsNeeded all) (tree x)) (take number parts)
+  pub behind : AllByRecursion (λ x. ReadsCond (IsNeeded all) (tree x)) (drop (number + 1) parts)
 
--- the base table of an item of a test's subquery, of which no more is read
-pub record IsReadInside (tests : List BoundTest) (q : Option BoundSpecification) (content : Content)
-    (keys : List Keys) (a : Around) (parameters : List Value) (user : Name) (found : List BaseRows)
-    (own : BaseRows) : Type 0 where
-  pub number : ℕ
-  pub test : BoundTest
-  pub at : slice_get tests number ≡ Some test
-  pub subquery : BoundSpecification
-  pub is : IsSubqueryOf test.predicate subquery
-  pub others : Needed
-  pub are_others : AreOthers tests number q subquery others
-  pub read : IsReadOf subquery others content keys a parameters user found own
+-- ---- rows that serve in the place of all
 
--- what was found in the subqueries of the tests of a condition that is one AND
-pub record AreInTests (c : BoundCond) (q : Option BoundSpecification) (content : Content) (keys : List Keys)
-    (a : Around) (parameters : List Value) (user : Name) (found : List BaseRows) : Type 0 where
-  pub term : BoundConj
-  pub only_term : (out-BoundCond c).terms ≡ term ∷ []
-  pub are : AreFound (IsReadInside (out-BoundConj term).tests q content keys a parameters user) found
+-- What is read for a call: the base tables of a store that has their keys, and no null in a column with NOT NULL; and the parameters
+-- have values of their kinds.
+pub record IsInStore (columns : TableKinds) (parameters : List Kind) (content : Content) (keys : List Keys)
+    (values : List Value) (tables : TablePlace → Outcome (List Row)) : Type 0 where
+  pub bases : List BaseTable
+  pub keys_are : keys ≡ keys_of_bases bases
+  pub not_null : not_nulls_hold bases content ≡ true
+  pub keyed : are_keyed keys content ≡ true
+  pub there : BasesAreThere bases columns
+  pub inputs : IsRowOf parameters values
+  pub stored : AreOfStore content tables
 
-abbrev pub AreInside : BoundCond → Option BoundSpecification → Content → List Keys → Around → List Value
-    → Name → List BaseRows → Type 0
-AreInside c q content keys a parameters user found =
-    (found ≡ []) ⊎ AreInTests c q content keys a parameters user found
+-- Tables serve in the place of others: they are of the kinds of their columns, those that stand elsewhere are the same, and so is what is
+-- evaluated within what is around.
+pub record ServeAs (Same : (before after : TablePlace → Outcome (List Row)) → Env (Unit {0}) → Type 0)
+    (columns : TableKinds) (parameters : List Kind) (levels : Levels) (elsewhere : Needed) (a : Around)
+    (values : List Value) (user : Name) (before after : TablePlace → Outcome (List Row)) : Type 0 where
+  pub fit : AreFitting columns after
+  pub apart : (t : TablePlace) → IsNeeded elsewhere t → before t ≡ after t
+  pub same : (scopes : List (Scope (Unit {0}))) → IsAround a scopes
+      → AreRowsAround columns parameters levels scopes
+      → Same before after (record { scopes = scopes; inputs = inputs_of values; user = user })
 
--- in the subqueries of WHERE, where these rows were found of the items of FROM
-pub record AreUnder (q : BoundSpecification) (c : BoundCond) (own : List BaseRows) (content : Content)
-    (keys : List Keys) (parameters : List Value) (user : Name) (found : List BaseRows) : Type 0 where
-  pub a : Around
-  pub lines : (line : Line) → IsLineAmong own (items_of q) line → IsAround a (alone [] line ∷ [])
-  pub inside : AreInside c (Some q) content keys a parameters user found
+-- With more rows that were found the tables serve in the place of those with the rows that were found before, wherever this stands.
+abbrev pub Serves : (Stands : TableKinds → List Kind → Levels → Type 0)
+    → (Same : (before after : TablePlace → Outcome (List Row)) → Env (Unit {0}) → Type 0) → Needed → Around
+    → Content → List Keys → List Value → Name → (before after : List BaseRows) → Type 0
+Serves Stands Same elsewhere a content keys values user before after =
+    (columns : TableKinds) (parameters : List Kind) (levels : Levels)
+    (tables : TablePlace → Outcome (List Row)) → IsInStore columns parameters content keys values tables
+    → Stands columns parameters levels → AreFitting columns (over before tables)
+    → ServeAs Same columns parameters levels elsewhere a values user (over before tables) (over after tables)
 
--- before the rows of its own items
-pub record AreJoined (q : BoundSpecification) (own : List BaseRows) (content : Content) (keys : List Keys)
-    (parameters : List Value) (user : Name) (all : List BaseRows) : Type 0 where
-  pub found : List BaseRows
-  pub is : all ≡ found ++ own
-  pub under : (found ≡ []) ⊎
-      ((c : BoundCond) × IsWhere q c × AreUnder q c own content keys parameters user found)
+-- a condition, which may stand there, has the same truth
+abbrev pub StandsCond : PlacedCond → Type 0 → TableKinds → List Kind → Levels → Type 0
+StandsCond c Notes columns parameters levels =
+    ((now : TablePlace → Outcome (List Row))
+    → WellFormedCond (by_place now) (kinds_by_place columns parameters) (IsDeclaredAt parameters) levels c)
+    × Notes
+
+abbrev pub ServesCond : PlacedCond → Type 0 → Needed → Around → Content → List Keys → List Value → Name
+    → (before after : List BaseRows) → Type 0
+ServesCond c Notes =
+    Serves (StandsCond c Notes) (λ f g env. truth (by_place f) c env ≡ truth (by_place g) c env)
+
+-- a query specification has the same rows
+abbrev pub StandsSelect : BoundSpecification → TableKinds → List Kind → Levels → Type 0
+StandsSelect q columns parameters levels =
+    ((now : TablePlace → Outcome (List Row))
+    → WellFormedSelect (by_place now) (kinds_by_place columns parameters) (IsDeclaredAt parameters) levels
+    (select_of q)) × SelectIsNoted q
+
+abbrev pub ServesSelect : BoundSpecification → Needed → Around → Content → List Keys → List Value → Name
+    → (before after : List BaseRows) → Type 0
+ServesSelect q =
+    Serves (StandsSelect q)
+    (λ f g env. rows (by_place f) (select_of q) env ≡ rows (by_place g) (select_of q) env)
 
 -- ---- lines of which there is one
 
@@ -122,6 +140,22 @@ IsOnlyRow found t row = (other : Row) → IsRowAmong found t other → other ≡
 
 abbrev pub AreOnlyRows : List BaseRows → List TablePlace → List (Bor Row) → Type 0
 AreOnlyRows found = AllZip (λ t row. IsOnlyRow found t row.now)
+
+-- this is known of each line of a query specification, within what is around
+abbrev pub IsLineBeneath : BoundSpecification → Around → List BaseRows → Standing → List (Bor Row) → Type 0
+IsLineBeneath q a found standing line =
+    (scopes : List (Scope (Unit {0}))) (other : Line) → IsAround a scopes
+    → IsLineAmong found (items_of q) other
+    → IsStanding standing (alone [] (lent line) ∷ scopes_beyond a.lines) (alone [] other ∷ scopes)
+
+-- what was found in the subqueries of a condition, where this is known of the line, and these may be the scopes
+pub record ServesLine (c : BoundCond) (elsewhere : Needed) (standing : Standing)
+    (scopes : List (Scope (Unit {0}))) (content : Content) (keys : List Keys) (values : List Value)
+    (user : Name) (before after : List BaseRows) : Type 0 where
+  pub a : Around
+  pub stands : a.standing ≡ standing
+  pub lines : scopes_beyond a.lines ≡ scopes
+  pub serves : ServesCond (cond_of [] c) (CondIsNoted c) elsewhere a content keys values user before after
 
 -- ---- on a row
 
@@ -135,7 +169,8 @@ pub record AreBeneath (c : BoundCond) (row : Row) (content : Content) (keys : Li
     (user : Name) (found : List BaseRows) : Type 0 where
   pub a : Around
   pub is_around : IsAround a (alone [] (row ∷ []) ∷ [])
-  pub inside : AreInside c None content keys a parameters user found
+  pub elsewhere : Needed
+  pub inside : ServesCond (cond_of [] c) (CondIsNoted c) elsewhere a content keys parameters user [] found
 
 -- What was read are tables over which a condition has the truth on a row that it has over these.
 pub record IsReadOnRow (tables : TablePlace → Outcome (List Row)) (c : BoundCond) (row : Row)

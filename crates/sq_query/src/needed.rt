@@ -9,7 +9,7 @@ ghost use Rattle.sq_bound.specs.Joined.{specifications_of, term_specifications};
 ghost use Rattle.sq_bound.specs.WellFormed.{BasesAreThere, TableKinds};
 ghost use Rattle.sq_meaning.specs.Target.{has_subquery, clause_has_subquery};
 ghost use Rattle.sq_query.specs.Needed.{Adds, AddsBefore, AreKnown, IsClosed, IsClosedAt, IsNeeded, NeedsMore, ReadsCond, ReadsInside, ReadsSelect, NeedsNone, clause_tables, cond_tables, inside_tables, places_in, specification_tables, specifications_tables, with_place, with_table};
-ghost use Rattle.sq_query.specs.Inner.{around_tables, tests_tables};
+ghost use Rattle.sq_query.specs.Inner.{around_tables, terms_tables, tests_tables};
 ghost use Rattle.sq_query.specs.Items.{is_left};
 ghost use Rattle.sq_query.specs.Table.{IsViewAt};
 ghost use Rattle.sq_bound.specs.declared.condition.TablePlace.{TablePlace as AnyPlace};
@@ -96,6 +96,14 @@ impl Needed {
         let mut needed = Needed::new(alloc);
         needed.add_of_condition(condition)?;
         Ok(needed)
+    }
+
+    pub(crate) fn copied(&self, alloc: Global) -> Result<Needed, AllocError>
+        ensures { IfOk result (λ copy. places_in copy ≡ places_in self.now) }
+    {
+        let bases = self.bases.as_slice().to_vec(alloc)?;
+        let views = self.views.as_slice().to_vec(alloc)?;
+        Ok(Needed { bases, views })
     }
 
     /// Whether a table is among them.
@@ -194,6 +202,16 @@ impl Needed {
         Ok(())
     }
 
+    /// Adds the tables of the subqueries of terms.
+    pub(crate) fn add_of_terms(&mut self, terms: &[BoundConj]) -> Result<(), AllocError>
+        ensures { OnOk result (Adds self.old (terms_tables terms.now) self.new) }
+    {
+        for term in terms {
+            self.add_of_tests(term)?;
+        }
+        Ok(())
+    }
+
     /// Adds the tables of the subqueries of tests.
     pub(crate) fn add_of_each(&mut self, tests: &[BoundTest]) -> Result<(), AllocError>
         ensures { OnOk result (Adds self.old (tests_tables tests.now) self.new) }
@@ -249,7 +267,7 @@ impl Needed {
     }
 
     #[cycle(needed_of_cond)]
-    fn add_of_subqueries(&mut self, query: &BoundSpecification) -> Result<(), AllocError>
+    pub(crate) fn add_of_subqueries(&mut self, query: &BoundSpecification) -> Result<(), AllocError>
         ensures { OnOk result (Adds self.old (inside_tables (select_of query.now)) self.new) }
     {
         self.add_of_optional(&query.condition)?;

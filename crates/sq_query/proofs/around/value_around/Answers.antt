@@ -1,10 +1,10 @@
-use Rattle.sq_query.proofs.AroundValues.{anywhere_so, beneath_so}
+use Rattle.sq_query.proofs.AroundValues.{anywhere_so, within_so}
 use Rattle.sq_query.proofs.around.value_around.Goals as goal
 
-pub returns-in-OnLine-clause-known : goal.returns-in-OnLine-clause-known
-returns-in-OnLine-clause-known c =
-    beneath_so c.args.around.now c.in-OnLine.is c.args.call.now.parameters.now c.args.call.now.user c.args.expr.now c.value_beneath.result c.value_beneath.ensures.known
+pub returns-in-Within-clause-known : goal.returns-in-Within-clause-known
+returns-in-Within-clause-known c =
+    within_so c.args.around.now c.args.call.now.parameters.now c.args.call.now.user c.args.expr.now c.in-Within.is c.value_beneath.result c.value_beneath.ensures.known
 
 pub returns-in_default-clause-known : goal.returns-in_default-clause-known
 returns-in_default-clause-known c =
-    anywhere_so c.args.around.now c.args.call.now.parameters.now c.args.call.now.user c.args.expr.now c.value_on.result c.if_known.result c.value_on.ensures c.if_known.ensures.known
+    anywhere_so c.args.around.now c.args.call.now.parameters.now c.args.call.now.user c.args.expr.now c.value_beneath-in_default.result c.value_beneath-in_default.ensures.known

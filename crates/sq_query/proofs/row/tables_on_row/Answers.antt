@@ -1,21 +1,12 @@
 use Rattle.std.proofs.Common.{◌≡◌, ◌∙◌, [], List, sym, subst, true}
-use Rattle.sq_bound.specs.Condition.{cond_of}
 use Rattle.sq_expression.specs.declared.table.BaseRows.{BaseRows}
 use Rattle.sq_query.specs.Items.{is_left}
 use Rattle.sq_query.specs.declared.view.Tables.{Tables}
-use Rattle.sq_query.proofs.FoundRead.{left_known, stored_cond}
+use Rattle.sq_query.proofs.FoundRead.{left_known}
 use Rattle.sq_query.proofs.ReadTables.{handed}
 use Rattle.sq_query.proofs.RowTables.{handed_fault, only_memory, read_on_row, same_on_row}
 use Rattle.sq_query.proofs.TablesMeant.{tables_fit}
 use Rattle.sq_query.proofs.row.tables_on_row.Goals as goal
-
-pub rows_beneath-requires : goal.rows_beneath-requires
-rows_beneath-requires g c =
-    let names = c.args.names.now in
-    let store = c.args.store.now in record {
-      there = λ by. stored_cond (g.N.Names.base_tables names) (g.S.Store.key_columns store) (c.requires.keys (c.is_sought.ensures.may by)).0 (g.S.Store.content_now store) (g.met.S.Store.keyed store) (g.N.Names.column_kinds names) c.requires.finds.0
-          (cond_of [] c.args.condition.now) c.requires.finds.1;
-    }
 
 pub tables_of-requires-clause-known : goal.tables_of-requires-clause-known
 tables_of-requires-clause-known g c =

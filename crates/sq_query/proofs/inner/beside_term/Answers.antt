@@ -1,0 +1,11 @@
+use Rattle.std.proofs.Common.{◌+◌, ◌-◌, [], drop, length, refl, take}
+use Rattle.sq_bound.specs.Condition.{conj_of}
+use Rattle.sq_query.proofs.InnerSearch.{all_behind, beside_so}
+use Rattle.sq_query.proofs.inner.beside_term.Goals as goal
+
+pub returns : goal.returns
+returns c =
+    let terms = c.args.terms.now in
+    let number = c.args.number in
+    beside_so (conj_of []) terms number c.args.tables.now c.in_ok-all.all c.add_of_terms.new.self c.add_of_terms-2.new.self c.in_ok-all.ensures (take number terms) (take (length terms - (number + 1)) (drop (number + 1) terms)) refl (all_behind terms (number + 1)) c.in_ok-add_of_terms.ensures
+    c.in_ok-add_of_terms-2.ensures

@@ -1,0 +1,17 @@
+use Rattle.std.proofs.Common.{[], fold, refl}
+use Rattle.sq_bound.specs.Condition.{conj_of}
+use Rattle.sq_query.specs.Inner.{terms_tables}
+use Rattle.sq_query.specs.Needed.{cond_tables, places_in, with_table}
+use Rattle.sq_query.proofs.Added.{added_all, added_more}
+use Rattle.sq_query.proofs.needed.Needed.add_of_terms.Goals as goal
+
+pub loop-term-preserved : goal.loop-term-preserved
+loop-term-preserved c =
+    added_more terms_tables (λ x. cond_tables (conj_of [] x)) (λ x xs. refl) (places_in c.loop-term.self) (places_in c.add_of_tests.new.self) (fold with_table (places_in c.args.self.now) (terms_tables c.args.terms.now))
+    c.args.terms.now c.loop-term.term-index c.term-item.result c.loop-term-test.true c.term-item.is
+    (c.in_ok-add_of_tests.ensures.adds []) c.loop-term.invariant
+
+pub returns : goal.returns
+returns c =
+    added_all terms_tables (λ x. cond_tables (conj_of [] x)) (λ x xs. refl) (places_in c.loop-term.self) (fold with_table (places_in c.args.self.now) (terms_tables c.args.terms.now)) c.args.terms.now c.loop-term.term-index refl
+    c.loop-term-test.false c.loop-term.invariant
