@@ -116,11 +116,11 @@ AreThoseWith columns values all few = few ≡ filter (may_have columns values) a
 -- a row that may not have the values is null in none of the columns
 pub null_in_none : (columns : List ℕ) (row : Row) → list_any is_null (in_columns row columns) ≡ false → IsKnownIn columns row
 null_in_none [] row none n among = absurd (omega (arith, among.1))
-null_in_none (c ∷ columns) row none n among = by among.0 among.1 among.2
+null_in_none (c ∷ columns) row none n among = by (null_in_none columns row (neither_right (is_null (slice_index_or row c Null)) (list_any is_null (in_columns row columns)) none)) among.0 among.1 among.2
   where
-    by : (k : ℕ) → k < length (c ∷ columns) → slice_index_or (c ∷ columns) k n ≡ n → is_null (slice_index_or row n Null) ≡ false
-    by zero within at = subst (λ m. is_null (slice_index_or row m Null) ≡ false) at (neither_left (is_null (slice_index_or row c Null)) (list_any is_null (in_columns row columns)) none)
-    by (suc k) within at = null_in_none columns row (neither_right (is_null (slice_index_or row c Null)) (list_any is_null (in_columns row columns)) none) n (k, omega (arith, within), at)
+    by : IsKnownIn columns row → (k : ℕ) → k < length (c ∷ columns) → slice_index_or (c ∷ columns) k n ≡ n → is_null (slice_index_or row n Null) ≡ false
+    by later zero within at = subst (λ m. is_null (slice_index_or row m Null) ≡ false) at (neither_left (is_null (slice_index_or row c Null)) (list_any is_null (in_columns row columns)) none)
+    by later (suc k) within at = later n (k, omega (arith, within), at)
 
 -- where a row is null in none of the columns it has the values, if it may have them
 none_null : (columns : List ℕ) (row : Row) → IsKnownIn columns row → list_any is_null (in_columns row columns) ≡ false

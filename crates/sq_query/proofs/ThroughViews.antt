@@ -86,7 +86,7 @@ each_fits (Ok kinds) found h = h
 each_fits (Err status) found h = tt
 
 module _ (tables : TablePlace → Outcome (List Row)) (columns : TableKinds) (caller : Name) (queries : List BoundSpecification) (content : Content) (base : ℕ) (there : base < length content) (own_columns : List ℕ) (wanted : List Value) (few_rows : List Row)
-    (those : AreThoseWith own_columns wanted (rows_in (table_at content base)) few_rows) (meant : AreMeant queries content caller tables) (fitting : AreFitting columns tables) where
+    (narrowed : AreThoseWith own_columns wanted (rows_in (table_at content base)) few_rows) (meant : AreMeant queries content caller tables) (fitting : AreFitting columns tables) where
   abbrev is_ok : List Row → Outcome (List Row)
   is_ok found = Ok found
 
@@ -145,7 +145,7 @@ module _ (tables : TablePlace → Outcome (List Row)) (columns : TableKinds) (ca
     few = few_rows;
     all_are = meant.bases base ∙ ap (λ (o : Outcome Table). and_then o (λ t. Ok (rows_in t))) (there_within content base there);
     few_are = refl;
-    those = subst (λ (cs : List ℕ). AreThoseWith cs wanted (rows_in (table_at content base)) few_rows) same those;
+    those = subst (λ (cs : List ℕ). AreThoseWith cs wanted (rows_in (table_at content base)) few_rows) same narrowed;
   }
   thinned (view ∷ views) shown path are =
       thinned_more view views are.0 shown path.0 (thinned views are.0 path.1 are.1)

@@ -1,25 +1,17 @@
-use Rattle.std.proofs.Common.{◌≡◌, ◌∙◌, ◌∷◌, ℕ, List, subst, sym}
+use Rattle.std.proofs.Common.{◌≡◌, List}
 use Rattle.std.specs.Prelude.{IfOk}
 use Rattle.sq_meaning.specs.Environment.{Row}
+use Rattle.sq_meaning.specs.Status.{Outcome}
 use Rattle.sq_expression.specs.Frame.{lent, view_outcome}
 use Rattle.sq_query.specs.Search.{rows_by_key}
-use Rattle.sq_query.specs.Shown.{AreRight, IsPath, shown_of}
+use Rattle.sq_query.proofs.ViewPaths.{shown_alike}
 use Rattle.sq_query.proofs.shown.rows_by_key.Goals as goal
 
 pub returns-clause-rows : goal.returns-clause-rows
-returns-clause-rows g c = λ tables views path right.
-    let columns = g.N.Names.column_kinds c.args.names.now in
-    let queries = g.N.Names.view_queries c.args.names.now in
-    let user = c.args.call.now.user in
-    let view = c.args.view in
-    let base = c.args.base in
+returns-clause-rows g c = λ tables.
+    let names = c.args.names.now in
+    let store = c.args.store.now in
     let own = c.in_ok-own.own in
-    let found = rows_by_key (g.S.Store.content_now c.args.store.now) (g.S.Store.key_columns c.args.store.now) base c.args.key.now in
-    let place : own.place ≡ base = c.in_ok-own.ensures.place in
-    let rows : lent own.rows.items ≡ found = c.in_ok-own.ensures.rows in
-    let along = subst (λ (p : ℕ). IsPath columns queries (view ∷ views) p) (sym place) path in
-    let answer = subst (λ (p : ℕ). AreRight (lent own.rows.items) tables user queries p (view ∷ views)) (sym place)
-    (subst (λ (rs : List Row). AreRight rs tables user queries base (view ∷ views)) (sym rows) right) in
-    subst (λ (p : ℕ). IfOk c.rows_through-shown.result (λ r. view_outcome r.rows.items r.failure ≡ shown_of found tables user queries p (view ∷ views))) place
-    (subst (λ (rs : List Row). IfOk c.rows_through-shown.result (λ r. view_outcome r.rows.items r.failure ≡ shown_of rs tables user queries own.place (view ∷ views))) rows
-    (c.rows_through-shown.ensures.rows tables views along answer))
+    let shown = c.rows_through-shown.result in
+    shown_alike tables c.args.call.now.user (g.N.Names.column_kinds names) (g.N.Names.view_queries names) c.args.view (lent own.rows.items) (rows_by_key (g.S.Store.content_now store) (g.S.Store.key_columns store) c.args.base c.args.key.now)
+    own.place c.args.base (λ (o : Outcome (List Row)). IfOk shown (λ r. view_outcome r.rows.items r.failure ≡ o)) c.in_ok-own.ensures.place c.in_ok-own.ensures.rows (c.rows_through-shown.ensures.rows tables)

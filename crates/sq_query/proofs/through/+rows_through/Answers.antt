@@ -21,8 +21,8 @@ rows_through-requires g t c κs within =
     let known = under_known columns c.args.view query (View c.in-Some.under) c.view_at.ensures.is.0 over in
     (omega (arith, earlier, c.decreases), (search rules, (c.requires.there, known)))
 
-pub returns-in_ok-between-clause-rows : goal.returns-in_ok-between-clause-rows
-returns-in_ok-between-clause-rows g t c = λ tables views path right.
+pub returns-in_ok-between-in-Some-clause-rows : goal.returns-in_ok-between-in-Some-clause-rows
+returns-in_ok-between-in-Some-clause-rows g t c = λ tables views path right.
     let columns = g.N.Names.column_kinds c.args.names.now in
     let queries = g.N.Names.view_queries c.args.names.now in
     let user = c.args.call.now.user in
@@ -39,7 +39,7 @@ returns-in_ok-between-clause-rows g t c = λ tables views path right.
     let shown = shown_of own tables user queries base (under ∷ others) in
     let few = few_of own tables user columns queries base (under ∷ others) in
     let at : rows_among [] c.from_ref.result.now (View under) ≡ few (View under) =
-    (λ i. rows_among [] (c.from_ref.ensures.value i) (View under)) ∙ view_first c.in_ok-between.between [] [] under shown c.in_ok-between.ensures.place (c.in_ok-between.ensures.rows tables others along.1 answer.1)
+    (λ i. rows_among [] (c.from_ref.ensures.value i) (View under)) ∙ view_first c.in_ok-between-in-Some.between [] [] under shown c.in_ok-between-in-Some.ensures.place (c.in_ok-between-in-Some.ensures.rows tables others along.1 answer.1)
     ∙ sym (with_own (View under) shown tables) in
     subst (λ (vs : List ℕ). IsShownOf own tables user columns queries base c.rows_over-shown.result (shown_of own tables user queries base (view ∷ vs))) (sym next.1)
     (rows_shown_of own tables user columns queries base view (under ∷ others) c.rows_over-shown.result along answer (λ q is plain well. c.rows_over-shown.ensures.rows few (View under) at q is plain well))

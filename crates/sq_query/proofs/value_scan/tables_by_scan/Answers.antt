@@ -25,7 +25,7 @@ tables_of_scan-requires g c =
     let queries = g.N.Names.view_queries names in
     let query = c.args.query.now in
     let scan = c.in-Some.scan in
-    let s = if_some (IsValueScan query columns queries c.args.call.now.parameters.now c.args.call.now.user) c.in_ok-value_scan.field-0 scan c.in_ok-value_scan.ensures.found c.in-Some.is in
+    let s = if_some (IsValueScan query columns queries c.args.call.now.parameters.now c.args.call.now.user) c.in_ok-scan.field-0 scan c.in_ok-scan.ensures.found c.in-Some.is in
     let known = only_read (λ t. HasValue (columns t)) query scan.table s.over c.requires.finds.1 in
     let known_base = base_known columns queries scan.table scan.base s.scans.views s.scans.table s.scans.path known in record {
       there = c.requires.finds.0;
@@ -45,7 +45,7 @@ returns-in-Some g c = λ parameters tables may well.
     let user = c.args.call.now.user in
     let values = c.args.call.now.parameters.now in
     let scan = c.in-Some.scan in
-    let s = if_some (IsValueScan query columns queries values user) c.in_ok-value_scan.field-0 scan c.in_ok-value_scan.ensures.found c.in-Some.is in
+    let s = if_some (IsValueScan query columns queries values user) c.in_ok-scan.field-0 scan c.in_ok-scan.ensures.found c.in-Some.is in
     let k = s.scans in
     let known = only_read (λ t. HasValue (columns t)) query scan.table s.over c.requires.finds.1 in
     let known_base = base_known columns queries scan.table scan.base k.views k.table k.path known in
@@ -62,7 +62,7 @@ returns-in-Some g c = λ parameters tables may well.
           scan.table k.table known stands query s.inner c.tables_of_scan.result s.over s.is_where s.none s.reads read.1,
     )
 
-pub returns-in_err-value_scan : goal.returns-in_err-value_scan
-returns-in_err-value_scan g c = λ parameters tables may well.
-    let e = c.in_err-value_scan.field-0.0 in
-    handed Tables c.from_residual.result e _ c.from_residual.ensures.1 (answered_memory e (c.in_err-value_scan.ensures.memory parameters well may.inputs))
+pub returns-in_err-scan : goal.returns-in_err-scan
+returns-in_err-scan g c = λ parameters tables may well.
+    let e = c.in_err-scan.field-0.0 in
+    handed Tables c.from_residual.result e _ c.from_residual.ensures.1 (answered_memory e (c.in_err-scan.ensures.memory parameters well may.inputs))
