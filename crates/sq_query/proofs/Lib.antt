@@ -57,7 +57,6 @@ pub mod ShownRows
 pub mod ShortestKnown
 pub mod Sorting
 pub mod StableSort
-pub mod Tables
 pub mod TablesMeant
 pub mod TargetKeys
 pub mod TargetRows
@@ -67,3 +66,4 @@ pub mod UnionRows
 pub mod Unions
 pub mod ViewsThere
 pub mod WalkedRows
+pub mod ValueScans

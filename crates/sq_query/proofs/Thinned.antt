@@ -1,6 +1,6 @@
--- The rows of a table that have some values in some columns, and what a plain view shows of them: those of its rows that have these values
--- in columns that show the others (ISO/IEC 9075:1992, 7.6, 7.9 and 11.19).
-use Rattle.std.proofs.Common.{◌≡◌, ◌∙◌, ℕ, zero, suc, ◌<◌, Bool, true, false, List, [], ◌∷◌, Some, cond, filter, find, length, map, refl, sym, ap, subst, arith, Ok}
+-- The rows of a table that have some values in some columns, or are null there, and what a plain view shows of them: those of its rows of
+-- which the same is true in columns that show the others (ISO/IEC 9075:1992, 7.6, 7.9 and 11.19).
+use Rattle.std.proofs.Common.{◌≡◌, ◌∙◌, ℕ, zero, suc, ◌<◌, Bool, true, false, ◌||◌, List, [], ◌∷◌, Some, cond, filter, find, length, map, refl, sym, ap, subst, arith, Ok}
 use Rattle.std.specs.Prelude.{if◌then◌else◌, option_to_list, slice_get, slice_index_or}
 use Rattle.std.specs.Cmp.Lexicographic.{pointwise}
 use Rattle.std.specs.List.{AllByRecursion, AllZip, Contains, list_any, zip}
@@ -17,6 +17,7 @@ use Rattle.sq_meaning.specs.Environment.{Row}
 use Rattle.sq_meaning.specs.Status.{Outcome, and_then, kept}
 use Rattle.sq_meaning.specs.Tables.{rows_in}
 use Rattle.sq_meaning.specs.WellFormed.{IsRowOf}
+use Rattle.sq_meaning.proofs.AnswerLaws.{all_weaker}
 use Rattle.sq_bound.specs.Fits.{has_its_values, keys_of_bases, lacks_value, not_nulls_hold}
 use Rattle.sq_bound.specs.NotNull.{is_not_null}
 use Rattle.sq_bound.specs.WellFormed.{base_kinds}
@@ -26,6 +27,7 @@ use Rattle.sq_bound.specs.declared.names.BaseTable.{BaseTable}
 use Rattle.sq_condition.proofs.Conditions.{neither_left, neither_right}
 use Rattle.sq_query.specs.Search.{rows_by_key}
 use Rattle.sq_query.specs.Shown.{Shows}
+use Rattle.sq_query.specs.ValueScan.{may_have}
 use Rattle.sq_query.specs.declared.key.KnownKey.{KnownKey}
 use Rattle.sq_query.proofs.KeyColumns.{flags, is_not, key_not_null, rows_have_values}
 use Rattle.sq_query.proofs.KeyLacked.{unnull}
@@ -33,7 +35,7 @@ use Rattle.sq_query.proofs.KeyOut.{all_both}
 use Rattle.sq_query.proofs.KeySearch.{itself}
 use Rattle.sq_query.proofs.KeyTests.{test_at}
 use Rattle.sq_query.proofs.OnlyOne.{AtMostOne, at_most_one, distinct_at}
-use Rattle.sq_query.proofs.ShownRows.{cell, left_shown, shown_all, shown_by, shows}
+use Rattle.sq_query.proofs.ShownRows.{cell, left_shown, shown_by, shows}
 
 -- ---- lists
 
@@ -97,44 +99,54 @@ in_shown list row [] (p ∷ ps) h = absurd h
 in_shown list row (c ∷ cs) [] h = absurd h
 in_shown list row (c ∷ cs) (p ∷ ps) h = λ i. cell_there list row p c h.0 i ∷ in_shown list row cs ps h.1 i
 
--- the one of a pair by the other
-paired : {A B : Type 0} (R : A → B → Type 0) (xs : List A) (ys : List B) (y : B) (k : ℕ) → AllZip R xs ys → k < length ys → slice_index_or ys k y ≡ y → (x : A) × Contains xs x × R x y
-paired R xs [] y k h within at = absurd (omega arith)
-paired R [] (v ∷ ys) y k h within at = absurd h
-paired {A} R (x ∷ xs) (v ∷ ys) y zero h within at = (x, (0, omega arith, refl), subst (R x) at h.0)
-paired R (x ∷ xs) (v ∷ ys) y (suc k) h within at =
-    let later = paired R xs ys y k h.1 (omega arith) at in
-    (later.0, (suc later.1.0, omega arith, later.1.2), later.2)
-
 -- ---- those with some values
 
 -- a row has these values in these columns
-abbrev pub has_values : List ℕ → List Value → Row → Bool
+abbrev has_values : List ℕ → List Value → Row → Bool
 has_values columns values row = pointwise is_same values (in_columns row columns)
 
 -- a row is null in none of these columns
 abbrev pub IsKnownIn : List ℕ → Row → Type 0
 IsKnownIn columns row = (n : ℕ) → Contains columns n → is_null (slice_index_or row n Null) ≡ false
 
--- a few rows are those of all that have these values in these columns, and no row is null in one of the columns
-pub record AreThoseWith (columns : List ℕ) (values : List Value) (all few : List Row) : Type 0 where
-  pub few_are : few ≡ filter (has_values columns values) all
-  pub known : AllByRecursion (IsKnownIn columns) all
+-- a few rows are those of all that have these values in these columns, or are null in one of them
+abbrev pub AreThoseWith : List ℕ → List Value → List Row → List Row → Type 0
+AreThoseWith columns values all few = few ≡ filter (may_have columns values) all
+
+-- a row that may not have the values is null in none of the columns
+pub null_in_none : (columns : List ℕ) (row : Row) → list_any is_null (in_columns row columns) ≡ false → IsKnownIn columns row
+null_in_none [] row none n among = absurd (omega (arith, among.1))
+null_in_none (c ∷ columns) row none n among = by (null_in_none columns row (neither_right (is_null (slice_index_or row c Null)) (list_any is_null (in_columns row columns)) none)) among.0 among.1 among.2
+  where
+    by : IsKnownIn columns row → (k : ℕ) → k < length (c ∷ columns) → slice_index_or (c ∷ columns) k n ≡ n → is_null (slice_index_or row n Null) ≡ false
+    by later zero within at = subst (λ m. is_null (slice_index_or row m Null) ≡ false) at (neither_left (is_null (slice_index_or row c Null)) (list_any is_null (in_columns row columns)) none)
+    by later (suc k) within at = later n (k, omega (arith, within), at)
+
+-- where a row is null in none of the columns it has the values, if it may have them
+none_null : (columns : List ℕ) (row : Row) → IsKnownIn columns row → list_any is_null (in_columns row columns) ≡ false
+none_null [] row known = refl
+none_null (c ∷ columns) row known =
+    ap (λ b. b || list_any is_null (in_columns row columns)) (known c (0, omega arith, refl)) ∙ none_null columns row (λ n among. known n (suc among.0, omega (arith, among.1), among.2))
+
+or_none : (b : Bool) → (b || false) ≡ b
+or_none true = refl
+or_none false = refl
+
+may_known : (columns : List ℕ) (values : List Value) (row : Row) → IsKnownIn columns row → has_values columns values row ≡ may_have columns values row
+may_known columns values row known = sym (ap (λ b. has_values columns values row || b) (none_null columns row known) ∙ or_none (has_values columns values row))
+
+filter_alike : (test other : Row → Bool) (rows : List Row) → AllByRecursion (λ row. test row ≡ other row) rows → filter test rows ≡ filter other rows
+filter_alike test other [] same = refl
+filter_alike test other (row ∷ rows) same = λ i. cond (same.0 i) (row ∷ filter_alike test other rows same.1 i) (filter_alike test other rows same.1 i)
 
 -- ---- what a plain view shows of them
 
-module _ (list : List BoundExpr) (own columns : List ℕ) (zipped : AllZip (Shows list) own columns) where
-  known_shown : (row : Row) → IsKnownIn own row → IsKnownIn columns (shows list row)
-  known_shown row known n among =
-      let pair = paired (Shows list) own columns n among.0 zipped among.1 among.2 in
-      subst (λ (v : Value). is_null v ≡ false) (sym (cell_there list row n pair.0 pair.2)) (known pair.0 pair.1)
-
-  pub those_shown : (keep : Row → Bool) (values : List Value) (all few : List Row) → AreThoseWith own values all few → AreThoseWith columns values (shown_by (shows list) keep all) (shown_by (shows list) keep few)
-  those_shown keep values all few those = record {
-    few_are = ap (shown_by (shows list) keep) those.few_are
-        ∙ left_shown (shows list) keep (has_values own values) (has_values columns values) (λ row. ap (pointwise is_same values) (in_shown list row own columns zipped)) all;
-    known = shown_all (shows list) keep (IsKnownIn own) (IsKnownIn columns) known_shown all those.known;
-  }
+pub those_shown : (list : List BoundExpr) (own columns : List ℕ) → AllZip (Shows list) own columns → (keep : Row → Bool) (values : List Value) (all few : List Row) → AreThoseWith own values all few
+    → AreThoseWith columns values (shown_by (shows list) keep all) (shown_by (shows list) keep few)
+those_shown list own columns zipped keep values all few those =
+    ap (shown_by (shows list) keep) those
+    ∙ left_shown (shows list) keep (may_have own values) (may_have columns values)
+    (λ row. ap (λ cells. pointwise is_same values cells || list_any is_null cells) (in_shown list row own columns zipped)) all
 
 -- ---- a key of a base table
 
@@ -160,12 +172,16 @@ module _ (bases : List BaseTable) (content : Content) (keys : List Keys) (base :
       subst (λ m. is_not_null (flags b) m ≡ true) among.2 (test_at (is_not_null (flags b)) own_columns among.0 n (key_not_null bases keys base b known.key keys_are at is_key) among.1) in
       cell_known b.columns row n is_row written (is_not (list_any lacks_value (zip b.columns row)) has_values)
 
-  -- the row with the key is all that have its values
+  rows_known : AllByRecursion (IsKnownIn own_columns) (rows_in (table_at content base))
+  rows_known =
+      unnumbered_all (IsKnownIn own_columns) all_rows
+      (all_both (λ (r : Numbered). IsRowOf (base_kinds b) r.row) (λ (r : Numbered). has_its_values b r.row ≡ true) (λ (r : Numbered). IsKnownIn own_columns r.row)
+      (λ r is_row has_values. row_known r.row is_row has_values) all_rows rows_are (rows_have_values content bases base b nulls at))
+
+  -- the row with the key is all that have its values, and none is null there
   pub those_stored : AreThoseWith own_columns known.values (rows_in (table_at content base)) (rows_by_key content keys base known)
-  those_stored = record {
-    few_are = sym (unnumbered_left (has_values own_columns known.values) all_rows
-        ∙ ap (map (λ (r : Numbered). r.row)) (only_found (has_key own_columns known.values) all_rows (at_most_one own_columns known.values all_rows (distinct_at keys content base known.key keyed there is_key))));
-    known = unnumbered_all (IsKnownIn own_columns) all_rows
-        (all_both (λ (r : Numbered). IsRowOf (base_kinds b) r.row) (λ (r : Numbered). has_its_values b r.row ≡ true) (λ (r : Numbered). IsKnownIn own_columns r.row)
-        (λ r is_row has_values. row_known r.row is_row has_values) all_rows rows_are (rows_have_values content bases base b nulls at));
-  }
+  those_stored =
+      sym (unnumbered_left (has_values own_columns known.values) all_rows
+      ∙ ap (map (λ (r : Numbered). r.row)) (only_found (has_key own_columns known.values) all_rows (at_most_one own_columns known.values all_rows (distinct_at keys content base known.key keyed there is_key))))
+      ∙ filter_alike (has_values own_columns known.values) (may_have own_columns known.values) (rows_in (table_at content base))
+      (all_weaker (IsKnownIn own_columns) (λ row. has_values own_columns known.values row ≡ may_have own_columns known.values row) (may_known own_columns known.values) (rows_in (table_at content base)) rows_known)

@@ -4,7 +4,6 @@ use Rattle.std.specs.Prelude.{IfOk, IfSome, IsSomeAnd, slice_get}
 use Rattle.std.specs.List.{AllZip}
 use Rattle.std.specs.declared.alloc.AllocError.{AllocError}
 use Rattle.sq_lex.specs.declared.name.Name.{Name}
-use Rattle.sq_store.specs.Content.{Content}
 use Rattle.sq_value.specs.declared.value.Value.{Value}
 use Rattle.sq_store.specs.Keys.{Keys, key_at, keys_at}
 use Rattle.sq_meaning.specs.Environment.{Row}
@@ -81,10 +80,26 @@ module _ (columns : TableKinds) (queries : List BoundSpecification) (view base :
   no_view_next none [] path = refl
   no_view_next none (v ∷ views) path = absurd (none v (over_same (View v) path.0))
 
+-- ---- one column through views
+
+-- one view more
+pub column_more : (columns : TableKinds) (queries : List BoundSpecification) (view under between column : ℕ) (o : Option (ℕ × ℕ)) → IsPlainView columns queries view (View under) → ShowsAt queries view (between ∷ []) (column ∷ [])
+    → IfSome o (λ found. (views : List ℕ) × IsPath columns queries (under ∷ views) found.0 × AreShown queries (under ∷ views) (found.1 ∷ []) (between ∷ []))
+    → IfSome o (λ found. (views : List ℕ) × IsPath columns queries (view ∷ views) found.0 × AreShown queries (view ∷ views) (found.1 ∷ []) (column ∷ []))
+column_more columns queries view under between column None v at below = tt
+column_more columns queries view under between column (Some found) v at below = (under ∷ below.0, (v, below.1), (between ∷ [], below.2, at))
+
+-- the views of a path, as those between a table and the base table under it
+pub column_from : (columns : TableKinds) (queries : List BoundSpecification) (table : TablePlace) (view column : ℕ) (o : Option (ℕ × ℕ)) → table ≡ View view
+    → IfSome o (λ found. (views : List ℕ) × IsPath columns queries (view ∷ views) found.0 × AreShown queries (view ∷ views) (found.1 ∷ []) (column ∷ []))
+    → IfSome o (λ found. (views : List ℕ) × (table ≡ first_of views found.0) × IsPath columns queries views found.0 × AreShown queries views (found.1 ∷ []) (column ∷ []))
+column_from columns queries table view column None is below = tt
+column_from columns queries table view column (Some found) is below = (view ∷ below.0, is, below.1, below.2)
+
 -- ---- columns that are shown
 
 module _ (queries : List BoundSpecification) (view : ℕ) (q : BoundSpecification) (among : slice_get queries view ≡ Some q) (own : List ℕ) where
-  shows_at : (between columns : List ℕ) → AllZip (Shows (out-BoundSpecification q).list) between columns → ShowsAt queries view between columns
+  pub shows_at : (between columns : List ℕ) → AllZip (Shows (out-BoundSpecification q).list) between columns → ShowsAt queries view between columns
   shows_at between columns zipped = subst (λ (o : Option BoundSpecification). IfSome o (λ s. AllZip (Shows (out-BoundSpecification s).list) between columns)) (sym among) zipped
 
   pub shown_first : (r : Result (Option (List ℕ)) AllocError) → IfOk r (λ found. IfSome found (AllZip (Shows (out-BoundSpecification q).list) own)) → IfOk r (λ found. IfSome found (AreShown queries (view ∷ []) own))
@@ -121,18 +136,26 @@ key_shown queries views base own keys parameters user number columns (Ok (Some k
 
 -- ---- rows that are shown
 
-module _ (content : Content) (keys : List Keys) (tables : TablePlace → Outcome (List Row)) (user : Name) (columns : TableKinds) (queries : List BoundSpecification) (base : ℕ) (known : KnownKey) where
+module _ (own : List Row) (tables : TablePlace → Outcome (List Row)) (user : Name) (columns : TableKinds) (queries : List BoundSpecification) (base : ℕ) where
   abbrev pub few_of : List ℕ → TablePlace → Outcome (List Row)
-  few_of views = with_rows (first_of views base) (shown_of content keys tables user queries base known views) tables
+  few_of views = with_rows (first_of views base) (shown_of own tables user queries base views) tables
 
   abbrev pub IsShownOf : Result ViewRows Fault → Outcome (List Row) → Type 0
   IsShownOf r o = IfOk r (λ found. view_outcome found.rows.items found.failure ≡ o)
 
   -- what a view's query has over what the next view shows is what the view shows
-  pub rows_shown_of : (view : ℕ) (views : List ℕ) (r : Result ViewRows Fault) → IsPath columns queries (view ∷ views) base → AreRight content keys tables user queries base known (view ∷ views)
+  pub rows_shown_of : (view : ℕ) (views : List ℕ) (r : Result ViewRows Fault) → IsPath columns queries (view ∷ views) base → AreRight own tables user queries base (view ∷ views)
       → ((q : BoundSpecification) → slice_get queries view ≡ Some q → IsPlainOver q (first_of views base) → IsRight (rows_of_view (few_of views) user q) → IsShownOf r (rows_of_view (few_of views) user q))
-      → IsShownOf r (shown_of content keys tables user queries base known (view ∷ views))
+      → IsShownOf r (shown_of own tables user queries base (view ∷ views))
   rows_shown_of view views r path right shows =
       let v = path.0 in
       let same = ap (λ (o : Option BoundSpecification). and_then (well_formed o) (rows_of_view (few_of views) user)) v.is_query in
       subst (IsShownOf r) (sym same) (shows v.query v.is_query v.plain (subst (λ (o : Outcome (List Row)). IsRight o) same right.0))
+
+-- the same of rows that are told otherwise
+pub shown_alike : (tables : TablePlace → Outcome (List Row)) (user : Name) (columns : TableKinds) (queries : List BoundSpecification) (view : ℕ) (own found : List Row) (place base : ℕ) (P : Outcome (List Row) → Type 0) → place ≡ base → own ≡ found
+    → ((views : List ℕ) → IsPath columns queries (view ∷ views) place → AreRight own tables user queries place (view ∷ views) → P (shown_of own tables user queries place (view ∷ views)))
+    → (views : List ℕ) → IsPath columns queries (view ∷ views) base → AreRight found tables user queries base (view ∷ views) → P (shown_of found tables user queries base (view ∷ views))
+shown_alike tables user columns queries view own found place base P at are shows =
+    subst (λ (n : ℕ). (views : List ℕ) → IsPath columns queries (view ∷ views) n → AreRight found tables user queries n (view ∷ views) → P (shown_of found tables user queries n (view ∷ views))) at
+    (subst (λ (rows : List Row). (views : List ℕ) → IsPath columns queries (view ∷ views) place → AreRight rows tables user queries place (view ∷ views) → P (shown_of rows tables user queries place (view ∷ views))) are shows)

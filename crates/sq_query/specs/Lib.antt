@@ -13,3 +13,4 @@ pub mod Shown
 pub mod Table
 pub mod Target
 pub mod Union
+pub mod ValueScan

@@ -5,7 +5,6 @@ use Rattle.std.specs.List.{AllZip, list_all}
 use Rattle.std.specs.Option.{option_and_then}
 use Rattle.sq_lex.specs.declared.name.Name.{Name}
 use Rattle.sq_value.specs.declared.value.Value.{Value}
-use Rattle.sq_store.specs.Content.{Content}
 use Rattle.sq_store.specs.Keys.{Keys, key_at, keys_at}
 use Rattle.sq_meaning.specs.Environment.{Row}
 use Rattle.sq_meaning.specs.Status.{Outcome, ◌>>=◌, well_formed}
@@ -21,7 +20,7 @@ use Rattle.sq_bound.specs.declared.condition.TablePlace.TheVariants.{Base, View}
 use Rattle.sq_bound.specs.declared.expression.BoundExpr.{BoundExpr}
 use Rattle.sq_expression.specs.Fault.{IsRight}
 use Rattle.sq_query.specs.Key.{IsNamedBy}
-use Rattle.sq_query.specs.Search.{AreBeside, IsOver, IsWhere, rows_by_key, with_rows}
+use Rattle.sq_query.specs.Search.{AreBeside, IsOver, IsWhere, with_rows}
 use Rattle.sq_query.specs.Table.{rows_of_view}
 use Rattle.sq_query.specs.declared.key.KnownKey.{KnownKey}
 use Rattle.sq_query.specs.declared.shown.ViewSearch.{ViewSearch}
@@ -98,16 +97,16 @@ pub record IsViewSearch (q : BoundSpecification) (columns : TableKinds) (queries
   pub key : IsShownKey queries (search.view ∷ views) search.base own keys parameters user search.key
   pub beside : AreBeside q (View search.view) search.others
 
-module _ (content : Content) (keys : List Keys) (tables : TablePlace → Outcome (List Row)) (user : Name)
-    (queries : List BoundSpecification) (base : ℕ) (known : KnownKey) where
-  -- what the first of these views shows, through the others, of the row of the base table with a key
+module _ (own : List Row) (tables : TablePlace → Outcome (List Row)) (user : Name)
+    (queries : List BoundSpecification) (base : ℕ) where
+  -- what the first of these views shows, through the others, of these rows of the base table
   abbrev pub shown_of : List ℕ → Outcome (List Row)
-  shown_of [] = Ok (rows_by_key content keys base known)
+  shown_of [] = Ok own
   shown_of (view ∷ views) =
       well_formed (slice_get queries view)
       >>= rows_of_view (with_rows (first_of views base) (shown_of views) tables) user
 
-  -- what each of these views shows of the row with the key does not end with 42000
+  -- what each of these views shows of the rows does not end with 42000
   abbrev pub AreRight : List ℕ → Type 0
   AreRight [] = ⊤
   AreRight (view ∷ views) = IsRight (shown_of (view ∷ views)) × AreRight views

@@ -22,7 +22,9 @@ mod search;
 mod shown;
 mod table;
 mod target;
+mod through;
 mod union;
+mod value_scan;
 mod view;
 mod view_key;
 

@@ -1,6 +1,6 @@
 //! Plain views: the base table under one, through views between.
 
-ghost use Rattle.std.specs.Prelude.{◌≡◌, ◌∷◌, ℕ, List, IfSome, IsSome, true};
+ghost use Rattle.std.specs.Prelude.{◌≡◌, ◌∷◌, [], ℕ, List, IfSome, IsSome, true};
 ghost use Rattle.std.specs.List.{list_all};
 ghost use Rattle.sq_meaning.specs.WellFormed.{HasValue};
 ghost use Rattle.sq_bound.specs.Names.{option_all};
@@ -9,7 +9,7 @@ ghost use Rattle.sq_bound.specs.WellFormed.{BasesAreThere};
 ghost use Rattle.sq_bound.specs.declared.condition.BoundSpecification.{out-BoundSpecification};
 ghost use Rattle.sq_bound.specs.declared.condition.TablePlace.TheVariants as at_place;
 ghost use Rattle.sq_query.specs.Search.{IsOver};
-ghost use Rattle.sq_query.specs.Shown.{IsPath, IsPlainOver, is_column};
+ghost use Rattle.sq_query.specs.Shown.{AreShown, IsPath, IsPlainOver, Shows, first_of, is_column};
 
 use crate::needed::view_at;
 use crate::search::only_table;
@@ -29,6 +29,49 @@ pub(crate) fn base_under<N: Names>(names: &N, view: usize) -> Option<usize>
         TablePlace::Base(base) => Some(base),
         TablePlace::View(under) => base_under(names, under),
     }
+}
+
+/// The base table under a table, itself or a plain view, and the column of it that a column of the table is.
+pub(crate) fn column_of_base<N: Names>(
+    names: &N,
+    table: TablePlace,
+    column: usize,
+) -> Option<(usize, usize)>
+    requires there { BasesAreThere (N.base_tables names.now) (N.column_kinds names.now) }
+    requires known { HasValue (N.column_kinds names.now table) }
+    ensures { IfSome result (λ found. (views : List ℕ) × (table ≡ first_of views found.0)
+        × IsPath (N.column_kinds names.now) (N.view_queries names.now) views found.0
+        × AreShown (N.view_queries names.now) views (found.1 ∷ []) (column ∷ [])) }
+{
+    match table {
+        TablePlace::Base(base) => Some((base, column)),
+        TablePlace::View(view) => column_under(names, view, column),
+    }
+}
+
+/// The base table under a plain view, and the column of it that a column of the view shows.
+fn column_under<N: Names>(names: &N, view: usize, column: usize) -> Option<(usize, usize)>
+    requires there { BasesAreThere (N.base_tables names.now) (N.column_kinds names.now) }
+    requires known { HasValue (N.column_kinds names.now (at_place.View view)) }
+    ensures { IfSome result (λ found. (views : List ℕ)
+        × IsPath (N.column_kinds names.now) (N.view_queries names.now) (view ∷ views) found.0
+        × AreShown (N.view_queries names.now) (view ∷ views) (found.1 ∷ []) (column ∷ [])) }
+{
+    let query = &view_at(names, view).query;
+    let table = plain_over(query)?;
+    let shown = column_shown(query, column)?;
+    match table {
+        TablePlace::Base(base) => Some((base, shown)),
+        TablePlace::View(under) => column_under(names, under, shown),
+    }
+}
+
+/// The column of the only table of a view's query that a column of the view is.
+fn column_shown(query: &BoundSpecification, column: usize) -> Option<usize>
+    ensures { IfSome result (λ own. Shows (out-BoundSpecification query.now).list own column) }
+{
+    let listed = query.list.as_slice().get(column)?;
+    own_column(listed)
 }
 
 /// The table over which alone the query of a plain view is.

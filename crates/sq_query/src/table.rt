@@ -41,10 +41,14 @@ fn base_rows<'a, S: Store>(
 ) -> Result<Vec<&'a Row>, Fault>
     ensures { MeetsAs rows_of_line result (stored_rows (S.content_now store.now) table) }
 {
-    let numbered = numbered_rows(alloc, store, table, meter)?;
+    if table >= store.table_count() {
+        return Err(Fault::NOT_WELL_FORMED);
+    }
     let mut rows = Vec::new(alloc);
-    for found in numbered.as_slice() {
-        rows.push(found.1)?;
+    let mut number = 0;
+    while let Some((found, row)) = store.next_from(table, number, meter) {
+        rows.push(row)?;
+        number = found + 1;
     }
     Ok(rows)
 }

@@ -1,4 +1,5 @@
 use Rattle.std.proofs.Common.{◌∷◌}
+use Rattle.sq_query.specs.Search.{rows_by_key}
 use Rattle.sq_query.specs.Shown.{shown_of}
 use Rattle.sq_query.specs.declared.view.Tables.{Tables}
 use Rattle.sq_query.proofs.ReadTables.{handed}
@@ -15,6 +16,6 @@ returns g c = λ domains tables meant views path right.
     let search = c.args.search in
     let queries = g.N.Names.view_queries c.args.names.now in (
       c.with_view.ensures.answered,
-      read_with_view search.view (shown_of (g.S.Store.content_now store) (g.S.Store.key_columns store) tables c.args.call.now.user queries search.base search.key (search.view ∷ views)) search.others tables c.in_ok-shown.shown
+      read_with_view search.view (shown_of (rows_by_key (g.S.Store.content_now store) (g.S.Store.key_columns store) search.base search.key) tables c.args.call.now.user queries search.base (search.view ∷ views)) search.others tables c.in_ok-shown.shown
           c.in_ok-tables.tables c.with_view.result c.in_ok-shown.ensures.place (c.in_ok-shown.ensures.rows tables views path right) (c.in_ok-tables.ensures.meant domains tables meant).1 c.with_view.ensures.bases c.with_view.ensures.views,
     )

@@ -1,15 +1,18 @@
 use Rattle.std.proofs.Common.{◌∷◌}
+use Rattle.sq_store.specs.Keys.{key_at}
 use Rattle.sq_meaning.specs.WellFormed.{HasValue}
 use Rattle.sq_bound.specs.Condition.{select_of}
 use Rattle.sq_bound.specs.WellFormed.{base_kinds}
 use Rattle.sq_bound.specs.declared.condition.TablePlace.TheVariants.{View}
+use Rattle.sq_query.specs.Search.{rows_by_key}
 use Rattle.sq_query.specs.Shown.{IsViewSearch}
 use Rattle.sq_query.proofs.KeyNames.{element_at, place_there}
 use Rattle.sq_query.proofs.KeyTests.{if_some}
 use Rattle.sq_query.proofs.KnownConditions.{rows_fit}
-use Rattle.sq_query.proofs.Searched.{inside_read, where_stands}
+use Rattle.sq_query.proofs.Searched.{inside_read, only_read, where_stands}
 use Rattle.sq_query.proofs.TablesMeant.{tables_fit}
-use Rattle.sq_query.proofs.ThroughViews.{base_of_path, few_right, read_through_view}
+use Rattle.sq_query.proofs.Thinned.{those_stored}
+use Rattle.sq_query.proofs.ThroughViews.{base_of_path, few_right, read_through}
 use Rattle.sq_query.proofs.shown.tables_through_view.Goals as goal
 
 pub tables_by_shown_key-requires-clause-known : goal.tables_by_shown_key-requires-clause-known
@@ -54,11 +57,14 @@ returns-in-Some g c = λ parameters tables may well.
     let rows_are = rows_fit bases views columns content user values (g.met.N.Names.kinds_of_bases names) (g.met.N.Names.kinds_of_views names) parameters tables may place there (base_kinds table.0) kinds in
     let stands = where_stands columns parameters query (View search.view) s.own s.over s.is_where well in
     let fitting = tables_fit bases views columns content user tables (g.met.N.Names.kinds_of_bases names) may.there may.in_domains may.meant (g.met.N.Names.kinds_of_views names) in
-    let right =
-    few_right tables columns user bases views content keys place table.0 search.key table.1 there s.key.key c.requires.keys c.requires.not_null rows_are (g.met.S.Store.keyed store) may.meant fitting (search.view ∷ s.views) s.key.columns
-    s.path s.key.shown in
+    let known = only_read (λ t. HasValue (columns t)) query (View search.view) s.over c.requires.finds.1 in
+    let few = rows_by_key content keys place search.key in
+    let those = those_stored bases content keys place table.0 search.key table.1 there s.key.key c.requires.keys c.requires.not_null rows_are (g.met.S.Store.keyed store) in
+    let own_columns = key_at keys place search.key.key in
+    let along = search.view ∷ s.views in
+    let right = few_right tables columns user views content place there own_columns search.key.values few those may.meant fitting along s.key.columns s.path s.key.shown in
     let read = c.tables_by_shown_key.ensures may.in_domains tables may.meant s.views s.path right in (
       read.0,
-      read_through_view tables columns user bases views content keys place table.0 search.key table.1 there s.key.key c.requires.keys c.requires.not_null rows_are (g.met.S.Store.keyed store) may.meant fitting parameters values may.inputs
-          search.view s.views s.path s.own s.key stands query search.others c.tables_by_shown_key.result s.over s.is_where s.beside read.1,
+      read_through tables columns user views content place there own_columns search.key.values few those may.meant fitting parameters values may.inputs along s.path s.own s.key.columns s.key.shown s.key.by_columns known stands query
+          search.others c.tables_by_shown_key.result s.over s.is_where s.beside read.1,
     )

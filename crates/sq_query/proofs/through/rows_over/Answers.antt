@@ -8,7 +8,7 @@ use Rattle.sq_query.specs.Needed.{ReadsSelect}
 use Rattle.sq_query.specs.Table.{rows_among, rows_of_view}
 use Rattle.sq_query.proofs.KnownKeys.{same_some}
 use Rattle.sq_query.proofs.ShownRows.{plain_reads}
-use Rattle.sq_query.proofs.shown.rows_over.Goals as goal
+use Rattle.sq_query.proofs.through.rows_over.Goals as goal
 
 pub returns-clause-rows : goal.returns-clause-rows
 returns-clause-rows g c = λ tables table at shown is plain right.
