@@ -4,12 +4,10 @@ use Rattle.std.specs.Prelude.{IfOk, IfSome}
 use Rattle.sq_lex.specs.declared.name.Name.{Name}
 use Rattle.sq_value.specs.SetFunctions.{is_null}
 use Rattle.sq_value.specs.declared.value.Value.{Value}
-use Rattle.sq_meaning.specs.Environment.{Row, Scope}
+use Rattle.sq_meaning.specs.Environment.{Scope}
 use Rattle.sq_meaning.specs.Expression.{value}
 use Rattle.sq_meaning.specs.Placed.{by_place}
-use Rattle.sq_meaning.specs.Status.{Outcome}
 use Rattle.sq_bound.specs.Expression.{expr_of}
-use Rattle.sq_bound.specs.declared.condition.TablePlace.{TablePlace}
 use Rattle.sq_bound.specs.declared.expression.BoundExpr.{BoundExpr}
 use Rattle.sq_expression.specs.Frame.{scopes_beyond}
 use Rattle.sq_expression.specs.declared.fault.Fault.{Fault}

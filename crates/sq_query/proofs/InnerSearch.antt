@@ -1,34 +1,23 @@
 -- What the search in the subqueries of a condition finds.
-use Rattle.std.proofs.Common.{◌≡◌, ◌∙◌, ◌<◌, ◌+◌, ◌-◌, ◌⊎◌, inl, inr, ℕ, zero, suc, arith, Bool, true, false, not, ◌||◌, List, [], ◌∷◌, cond, drop, filter, fold, length, map, nat_eq, take, Option, Some, None, Bor, refl, sym, ap, subst}
+use Rattle.std.proofs.Common.{◌≡◌, ◌∙◌, ◌+◌, ◌-◌, ◌⊎◌, inl, inr, ℕ, zero, suc, arith, Bool, true, false, not, ◌||◌, List, [], ◌∷◌, cond, drop, filter, fold, length, map, nat_eq, take, Option, Some, None, Bor, refl, sym, ap, subst}
 use Rattle.std.specs.Prelude.{IfSome, IsSomeAnd, Vec}
 use Rattle.std.specs.declared.alloc.Global.{Global}
 use Rattle.std.proofs.lemmas.Bool.{eqb-true}
 use Rattle.std.proofs.lemmas.List.{take_all}
-use Rattle.std.specs.List.{AllByRecursion, AllZip, Contains, list_any}
+use Rattle.std.specs.List.{AllByRecursion, Contains, list_any}
 use Rattle.sq_meaning.specs.Environment.{Line, Row, alone}
-use Rattle.sq_meaning.specs.Syntax.{conds, in_subquery}
+use Rattle.sq_meaning.specs.Syntax.{conds}
 use Rattle.sq_meaning.proofs.AnswerLaws.{all_weaker}
-use Rattle.sq_bound.specs.Condition.{PlacedCond, PlacedSelect, clause_of, compared_with, cond_of, conj_of, not_if, predicate_of, select_of, test_of}
-use Rattle.sq_bound.specs.Expression.{PlacedExpr, expr_of}
-use Rattle.sq_bound.specs.declared.condition.BoundCond.{BoundCond, out-BoundCond}
-use Rattle.sq_bound.specs.declared.condition.BoundConj.{BoundConj, out-BoundConj}
+use Rattle.sq_bound.specs.Condition.{PlacedCond}
 use Rattle.sq_bound.specs.declared.condition.BoundSpecification.{BoundSpecification}
-use Rattle.sq_bound.specs.declared.condition.BoundTest.{BoundTest}
-use Rattle.sq_bound.specs.declared.condition.Compared.{Compared}
-use Rattle.sq_bound.specs.declared.condition.Compared.TheVariants.{Scalar, All, Any}
-use Rattle.sq_bound.specs.declared.condition.Predicate.{Predicate}
-use Rattle.sq_bound.specs.declared.condition.Predicate.TheVariants as bound
 use Rattle.sq_bound.specs.declared.condition.TablePlace.{TablePlace}
 use Rattle.sq_bound.specs.declared.condition.TablePlace.TheVariants.{Base, View}
-use Rattle.sq_tree.specs.declared.cond.Comparison.{Comparison}
-use Rattle.sq_bound.proofs.ConditionLaws.{cond_of-out, conj_of-out, predicate_of-Bracketed, predicate_of-CompareQuery, predicate_of-Exists, predicate_of-InQuery, select_of-out, test_of-out}
 use Rattle.sq_expression.specs.Frame.{lent, scopes_beyond}
 use Rattle.sq_expression.specs.declared.table.BaseRows.{BaseRows}
 use Rattle.sq_query.specs.Around.{IsStanding}
-use Rattle.sq_query.specs.Inner.{AreOfOtherParts, AreOnlyRows, IsLineBeneath, IsOnlyRow, IsSubqueryOf}
-use Rattle.sq_query.specs.Items.{IsLineAmong, IsRowAmong, IsRowFound, found_of, is_empty_item, is_found, is_left, items_of}
-use Rattle.sq_query.specs.Needed.{Adds, IsNeeded, NeedsMore, NeedsNone, ReadsCond, ReadsConds, ReadsClause, ReadsSelect, conds_tables, places_in, with_table}
-use Rattle.sq_query.specs.Search.{IsWhere}
+use Rattle.sq_query.specs.Inner.{AreOfOtherParts, AreOnlyRows, IsLineBeneath, IsOnlyRow}
+use Rattle.sq_query.specs.Items.{IsLineAmong, IsRowFound, found_of, is_empty_item, is_found, is_left, items_of}
+use Rattle.sq_query.specs.Needed.{Adds, IsNeeded, NeedsMore, NeedsNone, ReadsCond, ReadsConds, conds_tables, places_in, with_table}
 use Rattle.sq_query.specs.declared.around.Around.{Around}
 use Rattle.sq_query.specs.declared.around.Standing.{Standing}
 use Rattle.sq_query.specs.declared.around.Standing.TheVariants.{OnNoLine, OnSomeLine, Within}

@@ -1,5 +1,5 @@
 -- What is read for a condition on a row, where some base tables in its subqueries were found by keys.
-use Rattle.std.proofs.Common.{◌≡◌, ◌∙◌, ℕ, Bool, true, false, List, [], ◌∷◌, ◌++◌, None, Result, refl, sym, ap, subst, Ok, Err}
+use Rattle.std.proofs.Common.{◌≡◌, ◌∙◌, ℕ, Bool, true, false, List, [], ◌∷◌, ◌++◌, Result, refl, sym, subst, Ok, Err}
 use Rattle.std.specs.Prelude.{IfErr, IfOk, IsErrAnd, Vec}
 use Rattle.std.specs.declared.alloc.Global.{Global}
 use Rattle.sq_lex.specs.declared.name.Name.{Name}
@@ -13,7 +13,7 @@ use Rattle.sq_meaning.specs.Placed.{by_place}
 use Rattle.sq_meaning.specs.Query.{truth}
 use Rattle.sq_meaning.specs.Status.{Outcome}
 use Rattle.sq_meaning.specs.WellFormed.{AreRowsOf, Fits, IsDeclaredAt, IsRowOf, WellFormedCond, kinds_by_place}
-use Rattle.sq_bound.specs.Condition.{PlacedCond, cond_of}
+use Rattle.sq_bound.specs.Condition.{cond_of}
 use Rattle.sq_bound.specs.Noted.{CondIsNoted}
 use Rattle.sq_bound.specs.WellFormed.{BasesAreThere, TableKinds, of_base_at}
 use Rattle.sq_bound.specs.declared.condition.BoundCond.{BoundCond}

@@ -53,7 +53,7 @@ use Rattle.sq_query.specs.declared.needed.Needed.{Needed}
 use Rattle.sq_query.specs.declared.search.Search.{Search}
 use Rattle.sq_query.specs.declared.view.Tables.{Tables}
 use Rattle.sq_query.proofs.KeySearch.{decided, rows_kept}
-use Rattle.sq_query.proofs.NeededViews.{inside_weaker, reads_weaker}
+use Rattle.sq_query.proofs.NeededViews.{inside_weaker}
 use Rattle.sq_query.proofs.OnlyOne.{found_is}
 use Rattle.sq_query.proofs.SameTables.{same_over, wanted_of}
 use Rattle.sq_query.proofs.WalkedRows.{there_within}

@@ -13,7 +13,7 @@ use Rattle.sq_tree.specs.declared.cond.Comparison.{Comparison}
 use Rattle.sq_tree.specs.declared.cond.Quantifier.TheVariants as quantifier
 use Rattle.sq_store.specs.Content.{Content}
 use Rattle.sq_store.specs.Keys.{Keys}
-use Rattle.sq_meaning.specs.Environment.{Env, Row, Scope}
+use Rattle.sq_meaning.specs.Environment.{Env, Row}
 use Rattle.sq_meaning.specs.Placed.{by_place}
 use Rattle.sq_meaning.specs.Query.{and_also, compared_with_rows, comparison, has_rows, only_value, or_else, rows, truth}
 use Rattle.sq_meaning.specs.Status.{Outcome, and_then}

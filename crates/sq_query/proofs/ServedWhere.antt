@@ -1,6 +1,6 @@
 -- A query specification has the rows that it has over the one row at most of each base table that was found among its items and in the
 -- subqueries of its WHERE clause (ISO/IEC 9075:1992, 7.4 to 7.9 and 7.11).
-use Rattle.std.proofs.Common.{◌≡◌, ◌∙◌, List, [], ◌∷◌, ◌++◌, Option, Some, Result, Bor, refl, sym, ap, subst, Ok, Err}
+use Rattle.std.proofs.Common.{◌≡◌, ◌∙◌, List, [], ◌∷◌, ◌++◌, Option, Some, Result, Bor, refl, sym, subst, Ok, Err}
 use Rattle.std.specs.Prelude.{IfOk, Vec}
 use Rattle.std.specs.List.{AllByRecursion, AllZip}
 use Rattle.std.specs.declared.alloc.Global.{Global}

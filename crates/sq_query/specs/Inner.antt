@@ -14,7 +14,7 @@ use Rattle.sq_meaning.specs.Placed.{by_place}
 use Rattle.sq_meaning.specs.Query.{rows, truth}
 use Rattle.sq_meaning.specs.Status.{Outcome}
 use Rattle.sq_meaning.specs.Syntax.{conds, select}
-use Rattle.sq_meaning.specs.WellFormed.{IsDeclaredAt, IsRowOf, WellFormedCond, WellFormedSelect, kinds_by_place, of_lines}
+use Rattle.sq_meaning.specs.WellFormed.{IsDeclaredAt, IsRowOf, WellFormedCond, WellFormedSelect, kinds_by_place}
 use Rattle.sq_bound.specs.Condition.{PlacedCond, PlacedSelect, cond_of, conj_of, select_of, test_of}
 use Rattle.sq_bound.specs.Fits.{keys_of_bases, not_nulls_hold}
 use Rattle.sq_bound.specs.Noted.{CondIsNoted, SelectIsNoted}
