@@ -1,5 +1,5 @@
 -- What was read by a scan for a value: its table alone, a base table or a view (ISO/IEC 9075:1992, 7.4 and 11.19; own rule).
-use Rattle.std.proofs.Common.{Result, ◌≡◌, ◌∙◌, ℕ, List, [], ◌∷◌, refl, sym, subst, Ok, Err}
+use Rattle.std.proofs.Common.{Result, ◌≡◌, ◌∙◌, ℕ, List, [], ◌∷◌, sym, subst, Ok, Err}
 use Rattle.std.specs.Prelude.{IfOk}
 use Rattle.sq_lex.specs.declared.name.Name.{Name}
 use Rattle.sq_meaning.specs.Environment.{Row}

@@ -200,6 +200,54 @@ fn row_brought_to(columns: &[ResultColumn], row: Row, alloc: Global) -> Result<R
     ensures { IsBringable (kinds_of_results columns.now) row
         → Meets result (meaning.row_brought_to (kinds_of_results columns.now) row) }
 {
+    if is_brought(columns, row.as_slice()) {
+        Ok(row)
+    } else {
+        row_made_for(columns, row, alloc)
+    }
+}
+
+/// Whether a row is the same where it is brought to the columns.
+fn is_brought(columns: &[ResultColumn], row: &[Value]) -> bool
+    ensures { IsTrue result
+        → meaning.row_brought_to (kinds_of_results columns.now) row.now ≡ Ok row.now }
+{
+    match (columns.split_first(), row.split_first()) {
+        (None, None) => true,
+        (Some((column, columns)), Some((value, row))) => {
+            is_brought_to(column.kind, value) && is_brought(columns, row)
+        }
+        _ => false,
+    }
+}
+
+/// Whether a value is the same where it is brought to a kind.
+fn is_brought_to(kind: Kind, value: &Value) -> bool
+    ensures { IsTrue result → meaning.brought_to kind value.now ≡ Ok value.now }
+{
+    match (kind, value) {
+        (_, Value::Null) => true,
+        (Kind::Num(scale), Value::Num(number)) => is_at_scale(*number, scale),
+        (Kind::Chars(length), Value::Chars(text)) => text.codes().len() >= length as usize,
+        (Kind::Vary(_), Value::Chars(_)) => true,
+        _ => false,
+    }
+}
+
+/// Whether a number has a scale.
+#[tactic(auto, using(crate::proofs::BroughtRows::number_stays))]
+fn is_at_scale(number: Decimal, scale: u8) -> bool
+    ensures { IsTrue result
+        → meaning.brought_to (Num scale) (Value.Num number) ≡ Ok (Value.Num number) }
+{
+    number.scale() == scale
+}
+
+/// The row with each value as its column has it.
+fn row_made_for(columns: &[ResultColumn], row: Row, alloc: Global) -> Result<Row, Fault>
+    ensures { IsBringable (kinds_of_results columns.now) row
+        → Meets result (meaning.row_brought_to (kinds_of_results columns.now) row) }
+{
     let mut brought = Row::new(alloc);
     for (column, value) in columns.iter().zip(row.into_vec()) {
         let value = brought_to(*column, value, alloc)?;

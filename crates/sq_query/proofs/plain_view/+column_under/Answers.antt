@@ -1,5 +1,4 @@
-use Rattle.std.proofs.Common.{rules, ℕ, [], ◌∷◌, arith, ◌<◌, refl, subst}
-use Rattle.sq_bound.specs.declared.condition.BoundSpecification.{out-BoundSpecification}
+use Rattle.std.proofs.Common.{rules, [], ◌∷◌, arith, ◌<◌, refl, subst}
 use Rattle.sq_bound.specs.declared.condition.TablePlace.TheVariants.{Base, View}
 use Rattle.sq_query.specs.Search.{IsOver}
 use Rattle.sq_query.specs.Shown.{IsPlainOver}

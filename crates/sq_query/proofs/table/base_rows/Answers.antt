@@ -1,4 +1,4 @@
-use Rattle.std.proofs.Common.{◌≡◌, ◌+◌, ◌++◌, ◌<◌, ℕ, List, map, length, None, Ok, arith, refl, rules, sym, ap, ◌∙◌, Bor}
+use Rattle.std.proofs.Common.{◌≡◌, ◌+◌, ◌++◌, ◌<◌, List, map, length, None, Ok, arith, refl, rules, sym, ap, ◌∙◌, Bor}
 use Rattle.std.proofs.lemmas.List.{map_push}
 use Rattle.sq_store.specs.Content.{table_at, first_from}
 use Rattle.sq_store.specs.declared.table.Numbered.{Numbered}

@@ -1,4 +1,4 @@
-use Rattle.std.proofs.Common.{◌≡◌, ◌∙◌, ◌+◌, ◌++◌, [], ◌∷◌, List, None, Bool, Bor, length, arith, ap, refl, rules, sym}
+use Rattle.std.proofs.Common.{◌≡◌, ◌∙◌, ◌+◌, ◌++◌, [], ◌∷◌, List, None, Bor, length, arith, ap, refl, rules}
 use Rattle.sq_store.specs.Content.{first_from, table_at}
 use Rattle.sq_store.specs.declared.table.Numbered.{Numbered}
 use Rattle.sq_store.proofs.Walk.{rows_from, rows_from_zero, walked, walked_below}

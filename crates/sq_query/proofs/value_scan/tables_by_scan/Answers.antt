@@ -1,14 +1,7 @@
-use Rattle.std.proofs.Common.{◌≡◌, [], ◌∷◌, refl, subst, sym}
-use Rattle.sq_meaning.specs.Status.{not_well_formed}
+use Rattle.std.proofs.Common.{[], ◌∷◌, refl}
 use Rattle.sq_meaning.specs.WellFormed.{HasValue}
-use Rattle.sq_bound.specs.declared.condition.TablePlace.{TablePlace}
-use Rattle.sq_bound.specs.declared.condition.TablePlace.TheVariants.{Base}
-use Rattle.sq_query.specs.Key.{StandsOn}
-use Rattle.sq_query.specs.Needed.{AreKnown}
-use Rattle.sq_query.specs.Search.{AreBeside, IsOver}
 use Rattle.sq_query.specs.ValueScan.{IsValueScan, rows_that_may}
 use Rattle.sq_query.specs.declared.view.Tables.{Tables}
-use Rattle.sq_query.proofs.Added.{none_known}
 use Rattle.sq_query.proofs.KeyNames.{place_there}
 use Rattle.sq_query.proofs.KeyTests.{if_some}
 use Rattle.sq_query.proofs.ReadTables.{handed}

@@ -13,7 +13,7 @@ use Rattle.sq_query.specs.Union.{MayBeBrought}
 use Rattle.sq_expression.proofs.Each.{after, after_start, each_done, each_failed, each_ends}
 use Rattle.sq_expression.proofs.Expressions.{handed_on}
 use Rattle.sq_query.proofs.Unions.{pair_brought, of_kind, kinds_zipped, all_kinds_at, one_more}
-use Rattle.sq_query.proofs.union.row_brought_to.Goals as goal
+use Rattle.sq_query.proofs.union.row_made_for.Goals as goal
 
 pub loop-column-init : goal.loop-column-init
 loop-column-init c = record {
