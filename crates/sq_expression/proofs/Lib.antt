@@ -12,6 +12,7 @@ pub mod OnAnswers
 pub mod Standing
 pub mod Tables
 pub mod UserText
+pub mod ValueKeys
 pub mod Views
 pub mod WholeLines
 pub mod Wholes

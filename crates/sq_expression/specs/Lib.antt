@@ -2,6 +2,7 @@ pub mod Arithmetic
 pub mod ByKey
 pub mod Evaluated
 pub mod Fault
+pub mod Few
 pub mod Frame
 pub mod Group
 pub mod Index
