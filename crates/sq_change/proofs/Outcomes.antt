@@ -1,6 +1,6 @@
 -- Steps one after another: the answer of each is its outcome, or memory was refused.
-use Rattle.std.proofs.Common.{◌≡◌, Result, Ok, Err, ap, sym, subst}
-use Rattle.std.specs.Prelude.{IfErr}
+use Rattle.std.proofs.Common.{◌≡◌, true, false, is_err, Result, Ok, Err, ap, sym, subst}
+use Rattle.std.specs.Prelude.{IfErr, MatchResult}
 use Rattle.std.specs.Result.{IsErrAnd}
 use Rattle.sq_meaning.specs.Status.{Outcome, and_then}
 use Rattle.sq_expression.specs.Fault.{Meets, MeetsAs}
@@ -38,3 +38,18 @@ pub next_stops : {A : Type 0} (r : Result A Fault) (f : Fault) (o : Outcome (Uni
     → MeetsAs (λ x. tt) r (and_then o (λ _. next))
 next_stops r f o next is has failed =
     handed_on_as (λ x. tt) r f (and_then o (λ _. next)) is (goes_on (Err f) o tt (λ _. next) has failed)
+
+-- ---- what holds where it is done, and what where it is not
+
+pub done_so : {A D N : Type 0} (r : Result A Fault) → is_err r ≡ false → D → MatchResult r (λ _. D) (λ _. N)
+done_so (Ok x) fine h = h
+done_so (Err f) fine h = cc
+
+pub not_done : {A D N : Type 0} (r : Result A Fault) → is_err r ≡ true → N → MatchResult r (λ _. D) (λ _. N)
+not_done (Ok x) fails h = cc
+not_done (Err f) fails h = h
+
+-- `?` hands a fault on
+pub not_done_then : {A D N : Type 0} (r : Result A Fault) (f : Fault) → IsErrAnd r (λ g. g ≡ f) → N → MatchResult r (λ _. D) (λ _. N)
+not_done_then (Ok x) f is h = absurd is
+not_done_then (Err g) f is h = h
