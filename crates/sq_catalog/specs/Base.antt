@@ -8,8 +8,8 @@ use Rattle.sq_catalog.specs.Keys.{KeysStandAt, keys_written, names_written, prim
 use Rattle.sq_catalog.specs.declared.base.BaseParts.{BaseParts}
 use Rattle.sq_catalog.specs.declared.catalog.FullName.{FullName}
 
--- a base table has these columns, keys and checks
-pub record HasParts (parts : BaseParts) (b : BaseTable) : Type 0 where
+-- a base table is made of these columns, keys and checks
+pub record IsMadeOf (parts : BaseParts) (b : BaseTable) : Type 0 where
   pub columns : b.columns ≡ parts.columns
   pub keys : b.keys ≡ parts.keys
   pub checks : b.checks ≡ parts.checks

@@ -59,7 +59,12 @@ pub not_nulls_of : (bases : List BaseTable) (content : Content) → constraints_
 not_nulls_of bases content held = (and_parts (not_nulls_hold bases content) (references_met bases content) held).0
 
 pub keeps_tables : (bases : List BaseTable) (content : Content) (own_keys : List Keys) → IsConsistent bases content own_keys → KeepsTables bases content own_keys
-keeps_tables bases content own_keys kept = record { tables = kept.tables; in_domains = kept.in_domains; keys = kept.keys; not_null = not_nulls_of bases content kept.constraints }
+keeps_tables bases content own_keys kept = record {
+  tables = kept.tables.rows;
+  in_domains = kept.tables.in_domains;
+  keys = kept.keys;
+  not_null = not_nulls_of bases content kept.tables.constraints;
+}
 
 -- where nothing is changed
 pub consistent_still : (bases : List BaseTable) (before after : Content) (own_keys keys : List Keys) → after ≡ before → keys ≡ own_keys → IsConsistent bases before own_keys → IsConsistent bases after keys

@@ -41,15 +41,15 @@ next_stops r f o next is has failed =
 
 -- ---- what holds where it is done, and what where it is not
 
-pub done_so : {A D N : Type 0} (r : Result A Fault) → is_err r ≡ false → D → MatchResult r (λ _. D) (λ _. N)
-done_so (Ok x) fine h = h
-done_so (Err f) fine h = cc
+pub done_so : {A : Type 0} (Done Not : Type 0) (r : Result A Fault) → is_err r ≡ false → Done → MatchResult r (λ _. Done) (λ _. Not)
+done_so Done Not (Ok x) fine h = h
+done_so Done Not (Err f) fine h = cc
 
-pub not_done : {A D N : Type 0} (r : Result A Fault) → is_err r ≡ true → N → MatchResult r (λ _. D) (λ _. N)
-not_done (Ok x) fails h = cc
-not_done (Err f) fails h = h
+pub not_done : {A : Type 0} (Done Not : Type 0) (r : Result A Fault) → is_err r ≡ true → Not → MatchResult r (λ _. Done) (λ _. Not)
+not_done Done Not (Ok x) fails h = cc
+not_done Done Not (Err f) fails h = h
 
 -- `?` hands a fault on
-pub not_done_then : {A D N : Type 0} (r : Result A Fault) (f : Fault) → IsErrAnd r (λ g. g ≡ f) → N → MatchResult r (λ _. D) (λ _. N)
-not_done_then (Ok x) f is h = absurd is
-not_done_then (Err g) f is h = h
+pub not_done_then : {A : Type 0} (Done Not : Type 0) (r : Result A Fault) (f : Fault) → IsErrAnd r (λ g. g ≡ f) → Not → MatchResult r (λ _. Done) (λ _. Not)
+not_done_then Done Not (Ok x) f is h = absurd is
+not_done_then Done Not (Err g) f is h = h

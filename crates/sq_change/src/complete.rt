@@ -39,7 +39,6 @@ pub(crate) struct Changed {
 }
 
 /// Makes the changes of a base table. In this order: check options, constraints on one row, keys, references.
-#[tactic(auto, using(crate::proofs::Held::still_held, crate::proofs::Domains::still_in))]
 pub(crate) fn complete<N: Names, S: Store>(
     alloc: Global,
     names: &N,

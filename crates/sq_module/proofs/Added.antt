@@ -22,7 +22,7 @@ use Rattle.sq_catalog.specs.UserTables.{names_in}
 use Rattle.sq_promises.specs.Names.{declared}
 use Rattle.sq_promises.specs.Seen.{cursor_seen}
 use Rattle.sq_promises.specs.Written.{IsCursorOf}
-use Rattle.sq_module.specs.Added.{AddsCursor, HasOpened, IsInOrder, IsProcedureAt, declared_as, with_cursor, with_number}
+use Rattle.sq_module.specs.Added.{AddsCursor, HasCursors, IsInOrder, IsProcedureAt, declared_as, with_cursor, with_number}
 use Rattle.sq_module.specs.Admitted.{OpensEachOnce}
 use Rattle.sq_module.specs.Computed.{AreComputedCursors, IsPart}
 use Rattle.sq_module.specs.Named.{AreNamed, IsNext}
@@ -81,7 +81,7 @@ module _ (c : Catalog) (old new : Program) (procedures : new.procedures ≡ old.
 
 module _ (c : Catalog) (m : AdmittedModule) (others : List DeclaredCursor) (place : ℕ) (p : AdmittedProcedure) (at : IsProcedureAt m place p)
     (old new : Program) (numbers after : List (Name × ℕ)) (procedures : new.procedures ≡ old.procedures)
-    (h : HasOpened c m others (take place m.procedures.items) old numbers) where
+    (h : HasCursors c m others (take place m.procedures.items) old numbers) where
   abbrev before : List AdmittedProcedure
   before = take place m.procedures.items
 
@@ -94,7 +94,7 @@ module _ (c : Catalog) (m : AdmittedModule) (others : List DeclaredCursor) (plac
   -- no cursor is added
   pub opened_same : new.cursors.items ≡ old.cursors.items → after ≡ numbers
       → ((t : ModuleText) → IsOfText t m → NamedBefore t → AreNamed (names_in c t.authorization) t (before ++ p ∷ []) old.cursors.items numbers)
-      → HasOpened c m others (take (place + 1) m.procedures.items) new after
+      → HasCursors c m others (take (place + 1) m.procedures.items) new after
   opened_same cursors entered named = record {
     in_order = in_order_same c old new procedures cursors h.in_order;
     grows = subst (Grow others) (sym cursors) h.grows;
@@ -138,11 +138,11 @@ module _ (c : Catalog) (m : AdmittedModule) (others : List DeclaredCursor) (plac
 
     -- the cursor that it opens is added
     pub opened_next : AddsCursor m name bound old.cursors.items numbers new.cursors.items after
-        → HasOpened c m others (take (place + 1) m.procedures.items) new after
-    opened_next adds = by adds.part adds.is_part adds.cursors adds.numbers
+        → HasCursors c m others (take (place + 1) m.procedures.items) new after
+    opened_next adds = by adds.part adds.is_part adds.cursors adds.entered
       where
         by : (part : Option BoundCursor) → IsPart bound part → new.cursors.items ≡ with_cursor m name old.cursors.items part
-            → after ≡ with_number name (length old.cursors.items) numbers part → HasOpened c m others (take (place + 1) m.procedures.items) new after
+            → after ≡ with_number name (length old.cursors.items) numbers part → HasCursors c m others (take (place + 1) m.procedures.items) new after
         by None fault cursors entered =
             opened_same cursors entered
             (λ t of are. named_fault (names_in c t.authorization) t before p old.cursors.items numbers name bound fault.0 (next t of) fault.1 are)

@@ -70,13 +70,13 @@ handed P (Ok x) f is h = tt
 handed P (Err g) f is h = subst P (sym is) h
 
 -- the two halves of an answer
-pub if_taken : {A : Type 0} {Taken : Type 0} {P : SessionFault → Type 0} (r : Result A SessionFault) → MatchResult r (λ _. Taken) P → IfOk r (λ _. Taken)
-if_taken (Ok x) h = h
-if_taken (Err f) h = tt
+pub if_taken : {A : Type 0} (found : Option Refusal) (r : Result A SessionFault) → MatchResult r (λ _. found ≡ None) (IsFaultFor found) → IfOk r (λ _. found ≡ None)
+if_taken found (Ok x) h = h
+if_taken found (Err f) h = tt
 
-pub if_refused : {A : Type 0} {Taken : Type 0} {P : SessionFault → Type 0} (r : Result A SessionFault) → MatchResult r (λ _. Taken) P → IfErr r P
-if_refused (Ok x) h = tt
-if_refused (Err f) h = h
+pub if_refused : {A : Type 0} (found : Option Refusal) (r : Result A SessionFault) → MatchResult r (λ _. found ≡ None) (IsFaultFor found) → IfErr r (IsFaultFor found)
+if_refused found (Ok x) h = tt
+if_refused found (Err f) h = h
 
 -- ---- how many procedures open a cursor
 

@@ -64,7 +64,7 @@ pub record AddsCursor (m : AdmittedModule) (name : Name) (bound : Result BoundCu
   pub part : Option BoundCursor
   pub is_part : IsPart bound part
   pub cursors : new ≡ with_cursor m name old part
-  pub numbers : after ≡ with_number name (length old) numbers part
+  pub entered : after ≡ with_number name (length old) numbers part
 
 -- the procedure at a place of a module
 abbrev pub IsProcedureAt : AdmittedModule → ℕ → AdmittedProcedure → Type 0
@@ -72,7 +72,7 @@ IsProcedureAt m place p = (place < length m.procedures.items) × (p ≡ get_or m
 
 -- The cursors that these procedures of a module open are bound, behind those of other modules, and have these numbers: the program is in
 -- order, each cursor may be opened by the procedures of the module, and is what the text says, and what is computed of it.
-pub record HasOpened (c : Catalog) (m : AdmittedModule) (others : List DeclaredCursor)
+pub record HasCursors (c : Catalog) (m : AdmittedModule) (others : List DeclaredCursor)
     (opened : List AdmittedProcedure) (p : Program) (numbers : List (Name × ℕ)) : Type 0 where
   pub in_order : IsInOrder c p
   pub grows : Grow others p.cursors.items

@@ -1,7 +1,7 @@
 //! The cursors of a module in a program: each is bound for the procedure that opens it (ISO/IEC 9075:1992, 13.1 and 13.2).
 
 ghost use Rattle.std.specs.Prelude.{◌≡◌, ◌+◌, ℕ, [], IfOk, List, OnOk, take, true};
-ghost use Rattle.sq_module.specs.Added.{AddsCursor, HasOpened, IsInOrder, IsProcedureAt};
+ghost use Rattle.sq_module.specs.Added.{AddsCursor, HasCursors, IsInOrder, IsProcedureAt};
 ghost use Rattle.sq_module.specs.Admitted.{OpensEachOnce};
 ghost use Rattle.sq_module.specs.Computed.{IsPart};
 ghost use Rattle.sq_module.specs.Opened.{AreOfOthers};
@@ -32,7 +32,7 @@ impl Program {
         requires others { AreOfOthers «module».now.name self.old.cursors.items }
         requires once { OpensEachOnce «module».now }
         ensures procedures { self.new.procedures ≡ self.old.procedures }
-        ensures opened { OnOk result (HasOpened catalog.now «module».now self.old.cursors.items
+        ensures opened { OnOk result (HasCursors catalog.now «module».now self.old.cursors.items
             «module».now.procedures.items self.new numbers.new.entries) }
     {
         for opener in module.procedures.as_slice() {
@@ -54,9 +54,9 @@ impl Program {
         requires once { OpensEachOnce «module».now }
         ensures procedures { self.new.procedures ≡ self.old.procedures }
         ensures opened { (place : ℕ) (others : List AnyCursor) → IsProcedureAt «module».now place opener.now
-            → HasOpened catalog.now «module».now others (take place «module».now.procedures.items) self.old
+            → HasCursors catalog.now «module».now others (take place «module».now.procedures.items) self.old
             numbers.old.entries
-            → OnOk result (HasOpened catalog.now «module».now others
+            → OnOk result (HasCursors catalog.now «module».now others
             (take (place + 1) «module».now.procedures.items) self.new numbers.new.entries) }
     {
         let Statement::Open(name) = &opener.procedure.statement else {

@@ -26,7 +26,7 @@ use Rattle.sq_change.proofs.complete.complete.Goals.{then-is_err, else-is_err}
 pub apply-requires-clause-known : goal.apply-requires-clause-known
 apply-requires-clause-known g c =
     let table = c.args.leaf.now.table in
-    rw c.get-table.ensures (is_there (g.N.Names.base_tables c.args.names.now) (g.S.Store.content_now c.args.store.now) table.place table c.requires.kept.tables c.requires.leaf.base)
+    rw c.get-table.ensures (is_there (g.N.Names.base_tables c.args.names.now) (g.S.Store.content_now c.args.store.now) table.place table c.requires.kept.tables.rows c.requires.leaf.base)
 
 pub apply-requires-clause-columns : goal.apply-requires-clause-columns
 apply-requires-clause-columns g c =
@@ -93,8 +93,8 @@ returns-clause-meant g c = λ kinds shown may.
     let losts = lost_by (table_at content leaf.table.place) leaf.table.keys (referred_keys bases leaf.table.place lost) changes in
     let tested : Meets r (demanded (are_rows_there (g.S.Store.key_columns c.apply.new.store) mid (referred_by leaf.table.references (rows_put changes)) && are_free bases mid leaf.table.place losts) IntegrityConstraintViolation)
     = rw (c.in-Ok.ensures.decides.referenced, c.in-Ok.ensures.decides.lost, is.names, is.store, c.get-table.ensures) at c.references_satisfied-satisfied.ensures.meant in
-    let decided = references_decided bases content mid leaf.table lost changes c.requires.kept.tables c.requires.leaf.base (g.met.N.Names.references names) done (g.S.Store.key_columns c.apply.new.store) known
-    (references_of bases content c.requires.kept.constraints) (rows_rise_at (g.S.Store.row_numbers c.args.store.now) content leaf.table.place (g.met.S.Store.rises c.args.store.now)) c.requires.changes.keeps.keys c.requires.changes.keeps.put in
+    let decided = references_decided bases content mid leaf.table lost changes c.requires.kept.tables.rows c.requires.leaf.base (g.met.N.Names.references names) done (g.S.Store.key_columns c.apply.new.store) known
+    (references_of bases content c.requires.kept.tables.constraints) (rows_rise_at (g.S.Store.row_numbers c.args.store.now) content leaf.table.place (g.met.S.Store.rises c.args.store.now)) c.requires.changes.keeps.keys c.requires.changes.keeps.put in
     let met : Meets r (demanded (references_met bases mid) IntegrityConstraintViolation) = met_so r (references_met bases mid) _ IntegrityConstraintViolation (sym decided) tested in
     let admitted = rw (is.names, is.store, is.user, is.parameters) at (c.in-Ok.ensures.met kinds shown (rw (is.names, is.store, is.user, is.parameters) may) c.requires.changes.fit.in_domains) in
     let distinct = rw (c.get-table.ensures, keys (g.S.Store.key_columns c.args.store.now) c.requires.kept.keys) at c.in_ok-apply.ensures.distinct in
@@ -122,24 +122,26 @@ returns-clause-kept g c =
     let losts = lost_by (table_at content leaf.table.place) leaf.table.keys (referred_keys bases leaf.table.place lost) changes in
     let tested : Meets r (demanded (are_rows_there (g.S.Store.key_columns c.apply.new.store) mid (referred_by leaf.table.references (rows_put changes)) && are_free bases mid leaf.table.place losts) IntegrityConstraintViolation)
     = rw (c.in-Ok.ensures.decides.referenced, c.in-Ok.ensures.decides.lost, is.names, is.store, c.get-table.ensures) at c.references_satisfied-satisfied.ensures.meant in
-    let decided = references_decided bases content mid leaf.table lost changes c.requires.kept.tables c.requires.leaf.base (g.met.N.Names.references names) done (g.S.Store.key_columns c.apply.new.store) known
-    (references_of bases content c.requires.kept.constraints) (rows_rise_at (g.S.Store.row_numbers c.args.store.now) content leaf.table.place (g.met.S.Store.rises c.args.store.now)) c.requires.changes.keeps.keys c.requires.changes.keeps.put in
+    let decided = references_decided bases content mid leaf.table lost changes c.requires.kept.tables.rows c.requires.leaf.base (g.met.N.Names.references names) done (g.S.Store.key_columns c.apply.new.store) known
+    (references_of bases content c.requires.kept.tables.constraints) (rows_rise_at (g.S.Store.row_numbers c.args.store.now) content leaf.table.place (g.met.S.Store.rises c.args.store.now)) c.requires.changes.keeps.keys c.requires.changes.keeps.put in
     let met : Meets r (demanded (references_met bases mid) IntegrityConstraintViolation) = met_so r (references_met bases mid) _ IntegrityConstraintViolation (sym decided) tested in
-    let keys : g.S.Store.key_columns c.if-is_err.store ≡ g.S.Store.key_columns c.args.store.now = search rules in
     elim c.if-is_err.branch [
       | then-is_err w ↦
           let back : g.S.Store.content_now c.if-is_err.store ≡ content = search rules in
+          let keys : g.S.Store.key_columns c.if-is_err.store ≡ g.S.Store.key_columns c.args.store.now = search rules in
           consistent_still bases content _ _ _ back keys c.requires.kept
       | else-is_err w ↦
           let fine : is_err r ≡ false = search rules in
           let same : g.S.Store.content_now c.if-is_err.store ≡ mid = ap g.S.Store.content_now w.store-is in
-          let held = constraints_kept bases content mid leaf.table lost changes c.requires.kept.tables c.requires.leaf.base (g.met.N.Names.references names) done c.requires.kept.constraints c.in-Ok.ensures.values
+          let held = constraints_kept bases content mid leaf.table lost changes c.requires.kept.tables.rows c.requires.leaf.base (g.met.N.Names.references names) done c.requires.kept.tables.constraints c.in-Ok.ensures.values
           (met_unless r (references_met bases mid) IntegrityConstraintViolation fine met) in
-          consistent_still bases mid _ (g.S.Store.key_columns c.apply.new.store) _ same (keys ∙ sym c.in_ok-apply.ensures.rest.1) (record {
-            tables = still_held bases content mid leaf.table changes c.requires.kept.tables c.requires.leaf.base c.requires.changes.fit.wide done;
-            in_domains = still_in bases content mid leaf.table changes c.requires.kept.in_domains c.requires.leaf.base c.requires.changes.fit.in_domains done;
+          consistent_still bases mid _ _ _ same (ap g.S.Store.key_columns w.store-is) (record {
+            tables = record {
+              rows = still_held bases content mid leaf.table changes c.requires.kept.tables.rows c.requires.leaf.base c.requires.changes.fit.wide done;
+              in_domains = still_in bases content mid leaf.table changes c.requires.kept.tables.in_domains c.requires.leaf.base c.requires.changes.fit.in_domains done;
+              constraints = held;
+            };
             keys = known;
-            constraints = held;
           })
     ]
 
@@ -148,15 +150,43 @@ returns-in_err-apply-clause-kept g c =
     consistent_still (g.N.Names.base_tables c.args.names.now) (g.S.Store.content_now c.args.store.now) _ _ _ c.in_err-apply.ensures.err c.in_err-apply.ensures.rest.1 c.requires.kept
 
 pub returns-in_err-apply-clause-made : goal.returns-in_err-apply-clause-made
-returns-in_err-apply-clause-made g c = not_done_then c.from_residual.result c.in_err-apply.field-0.0 c.from_residual.ensures.1 c.in_err-apply.ensures.err
+returns-in_err-apply-clause-made g c =
+    let content = g.S.Store.content_now c.args.store.now in
+    let leaf = c.args.leaf.now in
+    let after = with_table content leaf.table.place (changed_by (table_at content leaf.table.place) c.args.changed.changes.items) in
+    let now = g.S.Store.content_now c.apply.new.store in
+    not_done_then (now ≡ after) (now ≡ content) c.from_residual.result c.in_err-apply.field-0.0 c.from_residual.ensures.1 c.in_err-apply.ensures.err
 
 pub returns-clause-made : goal.returns-clause-made
 returns-clause-made g c =
     let r = c.references_satisfied-satisfied.result in
+    let content = g.S.Store.content_now c.args.store.now in
+    let leaf = c.args.leaf.now in
+    let after = with_table content leaf.table.place (changed_by (table_at content leaf.table.place) c.args.changed.changes.items) in
+    let done : g.S.Store.content_now c.apply.new.store ≡ after = rw c.get-table.ensures at c.in_ok-apply.ensures.ok.0 in
+    let now = g.S.Store.content_now c.if-is_err.store in
     elim c.if-is_err.branch [
-      | then-is_err w ↦ not_done r (search rules) (search rules)
-      | else-is_err w ↦ done_so r (search rules) (ap g.S.Store.content_now w.store-is ∙ rw c.get-table.ensures at c.in_ok-apply.ensures.ok.0)
+      | then-is_err w ↦
+          let fails : is_err r ≡ true = search rules in
+          let back : g.S.Store.content_now c.if-is_err.store ≡ content = search rules in
+          not_done (now ≡ after) (now ≡ content) r fails back
+      | else-is_err w ↦
+          let fine : is_err r ≡ false = search rules in
+          done_so (now ≡ after) (now ≡ content) r fine (ap g.S.Store.content_now w.store-is ∙ done)
     ]
+
+pub apply-requires-clause-fits : goal.apply-requires-clause-fits
+apply-requires-clause-fits g c = rw c.get-table.ensures c.requires.changes.numbers
+
+pub references_satisfied-satisfied-requires-clause-tables : goal.references_satisfied-satisfied-requires-clause-tables
+references_satisfied-satisfied-requires-clause-tables g c =
+    let bases = g.N.Names.base_tables c.args.names.now in
+    let content = g.S.Store.content_now c.args.store.now in
+    let table = c.args.leaf.now.table in
+    let changes = c.args.changed.changes.items in
+    let done : g.S.Store.content_now c.apply.new.store ≡ with_table content table.place (changed_by (table_at content table.place) changes)
+    = rw c.get-table.ensures at c.in_ok-apply.ensures.ok.0 in
+    still_held bases content _ table changes c.requires.kept.tables.rows c.requires.leaf.base c.requires.changes.fit.wide done
 
 pub rows_admitted-requires-clause-leaf : goal.rows_admitted-requires-clause-leaf
 rows_admitted-requires-clause-leaf g c = rw c.new-setting.ensures.names c.requires.leaf

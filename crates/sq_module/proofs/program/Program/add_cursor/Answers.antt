@@ -12,7 +12,7 @@ returns-in_ok-named-in-Some-clause-adds c =
       part = Some c.in-Some.cursor;
       is_part = is_bound c.args.bound c.in_ok-cursor.field-0 _ c.in_ok-cursor.ensures c.in-Some.is;
       cursors = c.in_ok-push-in-Some.ensures.items;
-      numbers = on_ok c.insert.result _ c.insert.ensures.entries (sym c.is_ok.ensures.value ∙ c.in_ok-named-in-Some.ensures)
+      entered = on_ok c.insert.result _ c.insert.ensures.entries (sym c.is_ok.ensures.value ∙ c.in_ok-named-in-Some.ensures)
           ∙ ap (insert_entry same_name numbers c.args.name) (c.len-number.ensures ∙ c.args.self.now.cursors.ok.0);
     }
 
@@ -21,5 +21,5 @@ returns-in-None-clause-adds c = record {
   part = None;
   is_part = none_part c.args.bound c.in_ok-cursor.field-0 c.in_ok-cursor.ensures c.in-None.is;
   cursors = refl;
-  numbers = refl;
+  entered = refl;
 }

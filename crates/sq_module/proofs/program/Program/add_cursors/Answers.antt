@@ -2,7 +2,7 @@ use Rattle.std.proofs.Common.{[], ◌∙◌, refl, subst, sym}
 use Rattle.std.proofs.lemmas.List.{append-nil}
 use Rattle.sq_catalog.specs.Catalog.{column_kinds, known}
 use Rattle.sq_catalog.specs.UserTables.{names_in}
-use Rattle.sq_module.specs.Added.{HasOpened}
+use Rattle.sq_module.specs.Added.{HasCursors}
 use Rattle.sq_module.specs.Opened.{AreThere}
 use Rattle.sq_module.specs.Written.{AreNumbers}
 use Rattle.sq_module.proofs.Apart.{opened_by_none}
@@ -42,5 +42,5 @@ loop-opener-preserved c =
 pub returns-clause-opened : goal.returns-clause-opened
 returns-clause-opened c =
     let m = c.args.«module».now in
-    subst (λ ps. HasOpened c.args.catalog.now m c.args.self.now.cursors.items ps c.loop-opener.self c.loop-opener.numbers.entries)
+    subst (λ ps. HasCursors c.args.catalog.now m c.args.self.now.cursors.items ps c.loop-opener.self c.loop-opener.numbers.entries)
     (take_whole c.loop-opener.opener-index m.procedures.items (rw c.as_slice-opener-items.ensures.value at c.loop-opener-test.false)) c.loop-opener.invariant.opened
