@@ -1,10 +1,10 @@
 -- A program keeps its order, and what is bound of a module stays what the text says, where the cursor that the next of its procedures opens is
 -- added (ISO/IEC 9075:1992, 13.1 and 13.2).
-use Rattle.std.proofs.Common.{◌≡◌, ◌∙◌, ◌+◌, ℕ, List, [], ◌∷◌, ◌++◌, length, take, Option, Some, None, Result, Ok, Err, IfOk, ap, refl, subst, sym}
+use Rattle.std.proofs.Common.{◌≡◌, ◌∙◌, ◌+◌, ℕ, List, [], ◌∷◌, ◌++◌, length, take, Option, Some, None, Result, IfOk, ap, refl, subst, sym}
 use Rattle.std.proofs.lemmas.List.{take_more}
 use Rattle.std.specs.Borrow.{Bor}
 use Rattle.std.specs.Map.{lookup}
-use Rattle.indexmap.specs.IndexMap.{IndexMap, insert_entry}
+use Rattle.indexmap.specs.IndexMap.{IndexMap}
 use Rattle.sq_lex.specs.declared.name.Name.{Name}
 use Rattle.sq_value.specs.declared.domain.Kind.{Kind}
 use Rattle.sq_tree.specs.declared.module.Cursor.{Cursor}

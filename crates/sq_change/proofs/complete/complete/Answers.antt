@@ -1,6 +1,6 @@
-use Rattle.std.proofs.Common.{◌≡◌, ◌∙◌, ◌&&◌, List, false, is_err, true, Ok, Err, ap, refl, rules, subst, sym}
+use Rattle.std.proofs.Common.{◌≡◌, ◌∙◌, ◌&&◌, List, false, is_err, true, Ok, Err, ap, refl, rules, sym}
 use Rattle.sq_store.specs.Change.{rows_put}
-use Rattle.sq_store.specs.Content.{Content, changed_by, table_at, with_table}
+use Rattle.sq_store.specs.Content.{changed_by, table_at, with_table}
 use Rattle.sq_store.specs.Keys.{Keys, keys_at}
 use Rattle.sq_store.proofs.Rises.{rows_rise_at}
 use Rattle.sq_bound.specs.Fits.{keys_of_bases}
