@@ -1,4 +1,4 @@
-use Rattle.std.proofs.Common.{◌∙◌, ap, refl, sym}
+use Rattle.std.proofs.Common.{◌∙◌, ap, refl, sym, take}
 use Rattle.std.specs.Borrow.{Bor}
 use Rattle.std.specs.Option.{option_map}
 use Rattle.sq_catalog.specs.UserTables.{names_in}
@@ -14,7 +14,7 @@ pub returns-in_default-clause-opened : goal.returns-in_default-clause-opened
 returns-in_default-clause-opened c =
     λ place others at h.
     opened_same c.args.catalog.now c.args.«module».now others place c.args.opener.now at _ _ _ _ refl h refl refl
-    (λ t of are. named_none (names_in c.args.catalog.now t.authorization) t _ c.args.opener.now _ _ (opens_nothing c.args.opener.now.procedure.now.statement c.in_default.not-Open) are)
+    (λ t of are. named_none (names_in c.args.catalog.now t.authorization) t (take place c.args.«module».now.procedures.items) c.args.opener.now _ _ (opens_nothing c.args.opener.now.procedure.now.statement c.in_default.not-Open) are)
 
 pub returns-in-None-clause-opened : goal.returns-in-None-clause-opened
 returns-in-None-clause-opened c =
@@ -22,7 +22,7 @@ returns-in-None-clause-opened c =
     let m = c.args.«module».now in
     let name = c.in-Open.name in
     opened_same c.args.catalog.now m others place c.args.opener.now at _ _ _ _ refl h refl refl
-    (λ t of are. named_absent (names_in c.args.catalog.now t.authorization) t _ c.args.opener.now _ _ name (ap opened_by c.in-Open.is)
+    (λ t of are. named_absent (names_in c.args.catalog.now t.authorization) t (take place m.procedures.items) c.args.opener.now _ _ name (ap opened_by c.in-Open.is)
     (sym (named_in_text t m of name) ∙ ap (option_map (λ (b : Bor Cursor). b.now)) (sym c.in-None.ensures.value)) are)
 
 pub returns-in-Some-clause-opened : goal.returns-in-Some-clause-opened
