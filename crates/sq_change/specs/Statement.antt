@@ -35,16 +35,16 @@ pub record KeepsTables (bases : List BaseTable) (content : Content) (own_keys : 
   pub keys : own_keys ≡ keys_of_bases bases
   pub not_null : not_nulls_hold bases content ≡ true
 
--- the tables are in order between statements: each base table has its rows, with values in the domains of its columns, and the constraints
+-- the tables are legal for the base tables: each of these has its rows, with values in the domains of its columns, and the constraints
 -- hold (11.4, 11.8)
-pub record AreInOrder (bases : List BaseTable) (content : Content) : Type 0 where
+pub record AreLegal (bases : List BaseTable) (content : Content) : Type 0 where
   pub rows : holds bases content ≡ true
   pub in_domains : AreInDomains bases content
   pub constraints : constraints_hold bases content ≡ true
 
--- a store with these tables and keys is consistent: its tables are in order, and it has the keys of the base tables
+-- a store with these tables and keys is consistent: its tables are legal, and it has the keys of the base tables
 pub record IsConsistent (bases : List BaseTable) (content : Content) (own_keys : List Keys) : Type 0 where
-  pub tables : AreInOrder bases content
+  pub tables : AreLegal bases content
   pub keys : own_keys ≡ keys_of_bases bases
 
 -- a leaf is well formed, over one of these base tables

@@ -25,23 +25,23 @@ use Rattle.sq_promises.specs.Written.{IsCursorOf}
 use Rattle.sq_module.specs.Added.{AddsCursor, HasCursors, IsInOrder, IsProcedureAt, declared_as, with_cursor, with_number}
 use Rattle.sq_module.specs.Admitted.{OpensEachOnce}
 use Rattle.sq_module.specs.Computed.{AreComputedCursors, IsPart}
-use Rattle.sq_module.specs.Named.{AreNamed, IsNext}
-use Rattle.sq_module.specs.Opened.{AreOfOthers, AreOpenable, AreThere, Grow, IsNew, OpenedBy}
+use Rattle.sq_module.specs.Named.{AreNamed}
+use Rattle.sq_module.specs.Opened.{AreOfOthers, AreOpenable, AreThere, Grow, OpenedBy}
 use Rattle.sq_module.specs.Program.{CursorsAreWellFormed, CursorsFit, ProceduresAreWellFormed, ProceduresFit, ProceduresOpen, kinds_of_cursors}
 use Rattle.sq_module.specs.Refusal.{opened_by}
-use Rattle.sq_module.specs.Written.{AreApart, AreNumbers, IsCursorNamed, IsOfText, IsOpenedIn, IsProcedureOf}
+use Rattle.sq_module.specs.Written.{AreApart, AreNumbers, IsOfText, IsOpenedIn, IsProcedureOf}
 use Rattle.sq_module.specs.declared.admission.AdmittedModule.{AdmittedModule}
 use Rattle.sq_module.specs.declared.admission.AdmittedProcedure.{AdmittedProcedure}
 use Rattle.sq_module.specs.declared.program.BoundProcedure.{BoundProcedure}
 use Rattle.sq_module.specs.declared.program.DeclaredCursor.{DeclaredCursor}
 use Rattle.sq_module.specs.declared.program.ProcedureName.{ProcedureName}
 use Rattle.sq_module.specs.declared.program.Program.{Program}
-use Rattle.sq_module.proofs.Apart.{apart_next, kinds_found, new_found, only_opener, opened_by_more, opened_by_next, opens_last, opens_new, others_next}
+use Rattle.sq_module.proofs.Apart.{IsNew, apart_next, kinds_found, new_found, only_opener, opened_by_more, opened_by_next, opens_last, opens_new, others_next}
 use Rattle.sq_module.proofs.Computed.{cursors_computed, next_is}
 use Rattle.sq_module.proofs.Fitting.{cursor_added, cursor_stands}
-use Rattle.sq_module.proofs.Named.{named_fault, named_next, only_in}
+use Rattle.sq_module.proofs.Named.{IsNext, named_fault, named_next, only_in}
 use Rattle.sq_module.proofs.Opening.{grow_on, numbers_there, openable_next}
-use Rattle.sq_module.proofs.Written.{all_at, cursor_found, number_last, numbers_next}
+use Rattle.sq_module.proofs.Written.{IsCursorNamed, all_at, cursor_found, number_last, numbers_next}
 
 -- ---- a program with the same procedures
 
