@@ -10,7 +10,7 @@ use Rattle.sq_meaning.specs.Status.{Outcome, not_well_formed, well_formed}
 use Rattle.sq_meaning.specs.WellFormed.{HasValue}
 use Rattle.sq_meaning.proofs.AnswerLaws.{all_weaker}
 use Rattle.sq_bound.specs.Keyed.{is_plain_base}
-use Rattle.sq_bound.specs.WellFormed.{Extends, IsBody as IsBodyOver, IsCond, IsCondOn, IsLeaf, IsSelect, IsTable, TableKinds, base_kinds, before_view, kinds_of_columns, kinds_of_select, of_base, only, place_of}
+use Rattle.sq_bound.specs.WellFormed.{Extends, IsBody as IsBodyOver, IsCond, IsCondOn, IsLeaf, IsSelect, IsTable, IsViewAmong, TableKinds, base_kinds, before_view, kinds_of_columns, kinds_of_select, of_base, only, place_of}
 use Rattle.sq_bound.specs.declared.condition.BoundSpecification.{BoundSpecification}
 use Rattle.sq_bound.specs.declared.condition.TablePlace.{TablePlace}
 use Rattle.sq_bound.specs.declared.condition.TablePlace.TheVariants.{Base, View}
@@ -25,7 +25,7 @@ use Rattle.std.proofs.lemmas.Option.{IfSome_then, get_or_from_slice_get, slice_g
 use Rattle.std.specs.Borrow.{Bor}
 use Rattle.sq_bound.proofs.Wider.{Keeps, before_wider, kept_value, is_cond_wider, is_leaf_wider, is_select_wider, is_table_wider}
 use Rattle.sq_catalog.specs.Catalog.{Catalog, column_kinds, kinds_at, known_there, there_within}
-use Rattle.sq_catalog.specs.Stored.{AreChecksAt, AreTables, IsDescribed, IsNextView, IsTableOf, IsViewOver, queries_of, query_in}
+use Rattle.sq_catalog.specs.Stored.{AreChecksAt, AreStored, AreTables, IsDescribed, IsNextView, IsOfCatalog, IsStored, IsTableOf, IsViewOver, queries_of, query_in}
 use Rattle.sq_catalog.specs.declared.catalog.FullName.{FullName}
 use Rattle.sq_catalog.proofs.Listed.{all_with, below, get_behind, get_more, same_number}
 
@@ -200,6 +200,16 @@ table_read c d es place name t e h there =
     subst (λ (s : Catalog). IsTable (column_kinds s) t) e
     (subst (λ (x : FullName × TableDesc). IsTable (column_kinds c) x.1) (get_or_from_slice_get es place (name, t) (name, t) there)
     (All-get_or (λ (x : FullName × TableDesc). IsTable (column_kinds c) x.1) es place (name, t) (slice_get_within es place (name, t) there) h))
+
+pub tables_stored : (c d : Catalog) (o : Option (Bor TableDesc)) (es : List (FullName × TableDesc)) → c ≡ d → AreStored c.bases es → IfSome o (λ t. (bases : List BaseTable) → AreStored bases es → IsStored bases t.now)
+    → IfSome o (λ t. IsStored d.bases t.now)
+tables_stored c d None es e h f = tt
+tables_stored c d (Some t) es e h f = subst (λ (s : Catalog). IsStored s.bases t.now) e (f c.bases h)
+
+pub of_catalog : (c : Catalog) (o : Option (Bor TableDesc)) → IfSome o (λ t. IsStored c.bases t.now) → IfSome o (λ t. IsViewAmong c.views t.now.body) → IfSome o (λ t. IsTable (column_kinds c) t.now)
+    → IfSome o (λ t. IsOfCatalog c t.now)
+of_catalog c None stored view well_formed = tt
+of_catalog c (Some t) stored view well_formed = record { stored = stored; view = view; well_formed = well_formed }
 
 pub tables_read : (c d : Catalog) (o : Option (Bor TableDesc)) (es : List (FullName × TableDesc)) → c ≡ d → AreTables (column_kinds c) es → IfSome o (λ t. (columns : TableKinds) → AreTables columns es → IsTable columns t.now)
     → IfSome o (λ t. IsTable (column_kinds d) t.now)

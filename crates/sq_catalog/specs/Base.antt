@@ -5,7 +5,14 @@ use Rattle.sq_bound.specs.declared.names.BaseTable.{BaseTable}
 use Rattle.sq_catalog.specs.Checks.{HasChecksOf}
 use Rattle.sq_catalog.specs.Columns.{HasBaseColumnsOf}
 use Rattle.sq_catalog.specs.Keys.{KeysStandAt, keys_written, names_written, primary_among}
+use Rattle.sq_catalog.specs.declared.base.BaseParts.{BaseParts}
 use Rattle.sq_catalog.specs.declared.catalog.FullName.{FullName}
+
+-- a base table is made of these columns, keys and checks
+pub record IsMadeOf (parts : BaseParts) (b : BaseTable) : Type 0 where
+  pub columns : b.columns ≡ parts.columns
+  pub keys : b.keys ≡ parts.keys
+  pub checks : b.checks ≡ parts.checks
 
 -- the base table that a table definition creates under a full name
 pub record IsBaseOf (name : FullName) (t : TableDefinition) (b : BaseTable) : Type 0 where

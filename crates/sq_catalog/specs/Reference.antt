@@ -105,6 +105,13 @@ pub record IsKeyReferenced (keys : Keys) (primary : Option ℕ) (listed : Option
   pub there : slice_get keys key.place ≡ Some key.columns.now
   pub order : key.listed.now ≡ unwrap_or listed key.columns.now
 
+-- a reference of these columns is to a key of the target, and pairs a column with each of the key
+pub record RefersTo (own : List ℕ) (target : Target) (referenced : ReferencedKey) (r : Reference) : Type 0 where
+  pub columns : r.columns ≡ own
+  pub table : r.table ≡ target.place
+  pub key : r.key ≡ referenced.place
+  pub paired : length r.by_key ≡ length referenced.columns.now
+
 -- the column that is paired with a column of a key is added
 abbrev pub IsPairAdded : Option ℕ → List ℕ → List ℕ → Type 0
 IsPairAdded paired old new = map (λ own. Some own) new ≡ map (λ own. Some own) old ++ paired ∷ []

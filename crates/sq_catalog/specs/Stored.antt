@@ -11,7 +11,7 @@ use Rattle.sq_meaning.specs.Target.{places_of}
 use Rattle.sq_bound.specs.Fits.{FitsQuery, IsBase, IsOver, refers}
 use Rattle.sq_bound.specs.Known.{under_of}
 use Rattle.sq_bound.specs.Names.{is_kind_at}
-use Rattle.sq_bound.specs.WellFormed.{IsCond, IsLeaf, IsSelect, IsTable, IsUpdatable, TableKinds, base_kinds, kinds_of_columns, kinds_of_select, of_base_at, only, place_of}
+use Rattle.sq_bound.specs.WellFormed.{IsCond, IsLeaf, IsSelect, IsTable, IsUpdatable, IsViewAmong, TableKinds, base_kinds, kinds_of_columns, kinds_of_select, of_base_at, only, place_of}
 use Rattle.sq_bound.specs.declared.condition.BoundCond.{BoundCond}
 use Rattle.sq_bound.specs.declared.condition.BoundSpecification.{BoundSpecification}
 use Rattle.sq_bound.specs.declared.query.UpdatableQuery.{UpdatableQuery}
@@ -55,6 +55,12 @@ AreStored bases entries = All (λ e. IsStored bases e.1) entries
 -- each table is well formed, where tables and views have columns of these kinds
 abbrev pub AreTables : TableKinds → List (FullName × TableDesc) → Type 0
 AreTables table_kinds entries = All (λ e. IsTable table_kinds e.1) entries
+
+-- a table or view of a catalog: what is under it is stored, the query of a view is one of the catalog, and it is well formed
+pub record IsOfCatalog (c : Catalog) (t : TableDesc) : Type 0 where
+  pub stored : IsStored c.bases t
+  pub view : IsViewAmong c.views t.body
+  pub well_formed : IsTable (column_kinds c) t
 
 -- a table has this owner and name
 abbrev pub IsNamed : FullName → TableDesc → Type 0

@@ -13,6 +13,7 @@ ghost use Rattle.sq_declaring.specs.Outcome.{and_then, refused_if as asked};
 ghost use Rattle.sq_declaring.specs.Reference as reference;
 ghost use Rattle.sq_declaring.specs.Table as spec;
 ghost use Rattle.sq_promises.specs.Names.{descriptor_of};
+ghost use Rattle.sq_catalog.specs.Base.{IsMadeOf};
 ghost use Rattle.sq_catalog.specs.Checks.{AreChecksOf};
 ghost use Rattle.sq_catalog.specs.Columns.{AreBaseColumnsOf, AreColumnsOf};
 ghost use Rattle.sq_catalog.specs.Draft.{AreDraftColumns, IsBaseFor, IsDraftFor, IsDraftOf, draft_seen};
@@ -224,12 +225,9 @@ fn assembled(
     requires references { list_all (λ r. are_positions (length parts.columns) r.by_key) bound.references
         ≡ true }
     ensures place { result.0.place ≡ place }
-    ensures columns { result.0.columns ≡ parts.columns }
-    ensures keys { result.0.keys ≡ parts.keys }
+    ensures parts { IsMadeOf parts result.0 }
     ensures primary { result.0.primary_key ≡ primary_key }
-    ensures references { result.0.references ≡ bound.references }
-    ensures checks { result.0.checks ≡ parts.checks }
-    ensures permitted { result.1 ≡ bound.are_permitted }
+    ensures references { (result.0.references ≡ bound.references) × (result.1 ≡ bound.are_permitted) }
 {
     let BoundReferences {
         references,

@@ -7,7 +7,7 @@ ghost use Rattle.sq_bound.specs.WellFormed.{kinds_of_columns};
 ghost use Rattle.sq_declaring.specs.Reference as definition;
 ghost use Rattle.sq_catalog.specs.Exact.{declared};
 ghost use Rattle.sq_catalog.specs.Fault.{Makes, Stops};
-ghost use Rattle.sq_catalog.specs.Reference.{AddsBound, IsBound, IsFound, IsKeyReferenced, IsPairAdded, IsReferenceMade, entries_seen, found_seen, is_to, key_seen, keys_with, may_reference_at, names_in, own_seen, reference_with, references_made, target_seen};
+ghost use Rattle.sq_catalog.specs.Reference.{AddsBound, IsBound, IsFound, IsKeyReferenced, IsPairAdded, IsReferenceMade, RefersTo, entries_seen, found_seen, is_to, key_seen, keys_with, may_reference_at, names_in, own_seen, reference_with, references_made, target_seen};
 ghost use Rattle.sq_catalog.specs.References.{IsToKey, are_listed, paired_with};
 ghost use Rattle.sq_catalog.specs.declared.fault.ElementFault.TheVariants.{NoMemory};
 
@@ -201,11 +201,8 @@ fn bound_reference<'a>(
     requires listed { are_positions (length target.columns.now) key.listed.now ≡ true }
     requires same { are_listed key.listed.now key.columns.now ≡ true }
     requires key { IsKeyReferenced target.keys.now target.primary reference.now.listed key }
-    ensures place { IfOk result
-        (λ bound. (bound.table ≡ target.entry.place) × (bound.key ≡ key.entry.place)) }
+    ensures refers { IfOk result (RefersTo reference.now.columns target.entry key.entry) }
     ensures by_key { IfOk result (λ bound. are_positions (length own.entry.columns.now) bound.by_key ≡ true) }
-    ensures paired { IfOk result (λ bound. length bound.by_key ≡ length key.entry.columns.now) }
-    ensures columns { IfOk result (λ bound. bound.columns ≡ reference.now.columns) }
     ensures to_key { IfOk result (IsToKey target.entry.keys.now target.entry.primary reference.now.listed) }
     ensures exact { Makes (λ bound. bound) (definition.paired_reference (own_seen own.entry).kinds
         reference.now.columns (target_seen target.entry) (key_seen key.entry)) result }

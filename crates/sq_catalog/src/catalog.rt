@@ -9,7 +9,7 @@ ghost use Rattle.sq_meaning.specs.WellFormed.{HasValue};
 ghost use Rattle.sq_rules.specs.declared.refusal.SchemaFault.TheVariants as refusal;
 ghost use Rattle.sq_bound.specs.Fits.{all_refer, keys_of_bases};
 ghost use Rattle.sq_bound.specs.Known.{known_by};
-ghost use Rattle.sq_bound.specs.WellFormed.{IsTable, IsViewAmong, TableKinds, place_of};
+ghost use Rattle.sq_bound.specs.WellFormed.{IsTable, TableKinds, place_of};
 ghost use Rattle.sq_bound.specs.declared.names.BaseTable.{BaseTable as Base};
 ghost use Rattle.sq_declaring.specs.Catalog as definition;
 ghost use Rattle.sq_declaring.specs.Catalog.{table_count};
@@ -19,7 +19,7 @@ ghost use Rattle.sq_declaring.specs.Table.{has_place, is_taken, most_tables};
 ghost use Rattle.sq_catalog.specs.Catalog.{AreViewQueries, AreViewQueries-prop, Gains, IsNewName, base_there, column_kinds, known, named_by, table_number};
 ghost use Rattle.sq_catalog.specs.Exact.{declared, described, entry_declared, name_in};
 ghost use Rattle.sq_catalog.specs.Fault.{Makes, Passes};
-ghost use Rattle.sq_catalog.specs.Stored.{AreStored, AreTables, IsNamed, IsNumbered, IsStored, StandsAt, queries_of};
+ghost use Rattle.sq_catalog.specs.Stored.{AreStored, AreTables, IsNamed, IsNumbered, IsOfCatalog, IsStored, StandsAt, queries_of};
 ghost use Rattle.sq_catalog.specs.Views.{GainsViews};
 
 use crate::fault::{ElementFault, refused_if};
@@ -209,9 +209,7 @@ impl Catalog {
     /// The table or view of this name, and where it stands.
     pub(crate) fn entry(&self, full_name: &FullName) -> Option<(TablePlace, &TableDesc)>
         ensures absent { is_none result ≡ true → IsNewName self.now full_name.now }
-        ensures stored { IfSome result (λ entry. IsStored self.now.bases entry.1.now) }
-        ensures view { IfSome result (λ entry. IsViewAmong self.now.views entry.1.now.body) }
-        ensures well_formed { IfSome result (λ entry. IsTable (column_kinds self.now) entry.1.now) }
+        ensures of { IfSome result (λ entry. IsOfCatalog self.now entry.1.now) }
         ensures named { IfSome result (λ entry. IsNamed full_name.now entry.1.now) }
         ensures known { option_map (λ entry. known_by entry.1.now) result
             ≡ known self.now full_name.now.user full_name.now.name }
@@ -233,9 +231,7 @@ impl Catalog {
 
     /// The table or view at a place.
     fn table_at(&self, place: TablePlace) -> Option<&TableDesc>
-        ensures stored { IfSome result (λ table. IsStored self.now.bases table.now) }
-        ensures view { IfSome result (λ table. IsViewAmong self.now.views table.now.body) }
-        ensures well_formed { IfSome result (λ table. IsTable (column_kinds self.now) table.now) }
+        ensures of { IfSome result (λ table. IsOfCatalog self.now table.now) }
         ensures place { IfSome result (λ table. place_of table.now.body ≡ place) }
         ensures there { HasValue (column_kinds self.now place) → IsSome result }
     {

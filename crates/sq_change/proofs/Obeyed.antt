@@ -8,10 +8,10 @@ use Rattle.sq_store.specs.Keys.{Keys}
 use Rattle.sq_store.specs.declared.change.Change.{Change}
 use Rattle.sq_store.specs.declared.table.Numbered.{Numbered}
 use Rattle.sq_store.specs.declared.table.Table.{Table}
-use Rattle.sq_bound.specs.Fits.{AreInDomains, IsBase, all_refer, has_its_values, holds, keys_of_bases, not_nulls_hold}
+use Rattle.sq_bound.specs.Fits.{IsBase, all_refer, has_its_values, holds, not_nulls_hold}
 use Rattle.sq_bound.specs.declared.names.BaseTable.{BaseTable}
 use Rattle.sq_change.specs.Constraints.{constraints_hold, references_met}
-use Rattle.sq_change.specs.Statement.{KeepsTables}
+use Rattle.sq_change.specs.Statement.{IsConsistent, KeepsTables}
 use Rattle.sq_meaning.specs.declared.status.Status.{Status}
 use Rattle.sq_model.specs.Constraints.{demanded}
 use Rattle.sq_expression.specs.Fault.{Meets}
@@ -58,9 +58,18 @@ module _ (bases : List BaseTable) (before after : Content) (t : BaseTable) (lost
 pub not_nulls_of : (bases : List BaseTable) (content : Content) → constraints_hold bases content ≡ true → not_nulls_hold bases content ≡ true
 not_nulls_of bases content held = (and_parts (not_nulls_hold bases content) (references_met bases content) held).0
 
-pub keeps_tables : (bases : List BaseTable) (content : Content) (own_keys : List Keys) → holds bases content ≡ true → AreInDomains bases content → own_keys ≡ keys_of_bases bases
-    → constraints_hold bases content ≡ true → KeepsTables bases content own_keys
-keeps_tables bases content own_keys tables in_domains keys held = record { tables = tables; in_domains = in_domains; keys = keys; not_null = not_nulls_of bases content held }
+pub keeps_tables : (bases : List BaseTable) (content : Content) (own_keys : List Keys) → IsConsistent bases content own_keys → KeepsTables bases content own_keys
+keeps_tables bases content own_keys kept = record {
+  tables = kept.tables.rows;
+  in_domains = kept.tables.in_domains;
+  keys = kept.keys;
+  not_null = not_nulls_of bases content kept.tables.constraints;
+}
+
+-- where nothing is changed
+pub consistent_still : (bases : List BaseTable) (before after : Content) (own_keys keys : List Keys) → after ≡ before → keys ≡ own_keys → IsConsistent bases before own_keys → IsConsistent bases after keys
+consistent_still bases before after own_keys keys same same_keys kept =
+    subst (λ (ks : List Keys). IsConsistent bases after ks) (sym same_keys) (subst (λ (t : Content). IsConsistent bases t own_keys) (sym same) kept)
 
 pub references_of : (bases : List BaseTable) (content : Content) → constraints_hold bases content ≡ true → references_met bases content ≡ true
 references_of bases content held = (and_parts (not_nulls_hold bases content) (references_met bases content) held).1

@@ -1,6 +1,6 @@
 -- Steps one after another: the answer of each is its outcome, or memory was refused.
-use Rattle.std.proofs.Common.{◌≡◌, Result, Ok, Err, ap, sym, subst}
-use Rattle.std.specs.Prelude.{IfErr}
+use Rattle.std.proofs.Common.{◌≡◌, true, false, is_err, Result, Ok, Err, ap, sym, subst}
+use Rattle.std.specs.Prelude.{IfErr, MatchResult}
 use Rattle.std.specs.Result.{IsErrAnd}
 use Rattle.sq_meaning.specs.Status.{Outcome, and_then}
 use Rattle.sq_expression.specs.Fault.{Meets, MeetsAs}
@@ -38,3 +38,18 @@ pub next_stops : {A : Type 0} (r : Result A Fault) (f : Fault) (o : Outcome (Uni
     → MeetsAs (λ x. tt) r (and_then o (λ _. next))
 next_stops r f o next is has failed =
     handed_on_as (λ x. tt) r f (and_then o (λ _. next)) is (goes_on (Err f) o tt (λ _. next) has failed)
+
+-- ---- what holds where it is done, and what where it is not
+
+pub done_so : {A : Type 0} (Done Not : Type 0) (r : Result A Fault) → is_err r ≡ false → Done → MatchResult r (λ _. Done) (λ _. Not)
+done_so Done Not (Ok x) fine h = h
+done_so Done Not (Err f) fine h = cc
+
+pub not_done : {A : Type 0} (Done Not : Type 0) (r : Result A Fault) → is_err r ≡ true → Not → MatchResult r (λ _. Done) (λ _. Not)
+not_done Done Not (Ok x) fails h = cc
+not_done Done Not (Err f) fails h = h
+
+-- `?` hands a fault on
+pub not_done_then : {A : Type 0} (Done Not : Type 0) (r : Result A Fault) (f : Fault) → IsErrAnd r (λ g. g ≡ f) → Not → MatchResult r (λ _. Done) (λ _. Not)
+not_done_then Done Not (Ok x) f is h = absurd is
+not_done_then Done Not (Err g) f is h = h

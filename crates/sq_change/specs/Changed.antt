@@ -1,5 +1,5 @@
 -- What a statement is going to change, by its kind.
-use Rattle.std.specs.Prelude.{◌≡◌, ℕ, Bool, true, false, List, [], ◌∷◌, length, map, nat_eq, Option, Ok, Vec}
+use Rattle.std.specs.Prelude.{◌≡◌, ◌≤◌, ◌+◌, ◌-◌, ℕ, Bool, true, false, List, [], ◌∷◌, length, map, nat_eq, Option, Ok, Vec}
 use Rattle.std.specs.Borrow.{Bor}
 use Rattle.std.specs.List.{AllByRecursion, AllZip, Any, list_all}
 use Rattle.std.specs.declared.alloc.Global.{Global}
@@ -7,7 +7,7 @@ use Rattle.sq_value.specs.declared.domain.Kind.{Kind}
 use Rattle.sq_value.specs.declared.value.Value.{Value}
 use Rattle.sq_store.specs.declared.change.Change.{Change}
 use Rattle.sq_store.specs.declared.change.Change.TheVariants.{Insert, Replace, Remove}
-use Rattle.sq_store.specs.Change.{rows_put}
+use Rattle.sq_store.specs.Change.{insert_count, rows_put}
 use Rattle.sq_store.specs.Content.{changed_by}
 use Rattle.sq_store.specs.declared.table.Numbered.{Numbered}
 use Rattle.sq_store.specs.declared.table.Table.{Table}
@@ -39,6 +39,11 @@ are_wide columns rows = list_all (λ row. nat_eq (length row) columns) rows
 -- the rows that changes put in a table have their values in the domains of its columns
 abbrev pub AreRowsPut : List BaseColumn → List Change → Type 0
 AreRowsPut columns changes = AllByRecursion (IsRowIn columns) (rows_put changes)
+
+-- each row that changes put in a table has a value for each column, in its domain
+pub record FitTable (t : BaseTable) (changes : List Change) : Type 0 where
+  pub wide : are_wide (length t.columns) (rows_put changes) ≡ true
+  pub in_domains : AreRowsPut t.columns changes
 
 -- the conditions are well formed on each row that changes put in a table
 abbrev pub AreOnRowsPut : TableKinds → List Kind → List BoundCond → List Change → Type 0
@@ -101,3 +106,10 @@ pub record Removals (s : Seen) (t : ChangeTarget) (on : Option ℕ) (changes : L
 pub record KeepsRest (t : BaseTable) (before : Table) (changed : Changed) : Type 0 where
   pub keys : KeepsKeys t.keys changed.lost_keys.items before (changed_by before changed.changes.items)
   pub put : ArePutThere before changed.changes.items
+
+-- changes can be made in a table, where rows may have so many numbers: the rows that they put in fit it, there is a number for each new one,
+-- and keys other than the lost ones lose no values
+pub record CanBeMade (t : BaseTable) (before : Table) (row_numbers : ℕ) (changed : Changed) : Type 0 where
+  pub fit : FitTable t changed.changes.items
+  pub numbers : insert_count changed.changes.items ≤ row_numbers + 1 - before.next
+  pub keeps : KeepsRest t before changed

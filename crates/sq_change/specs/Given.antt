@@ -1,5 +1,5 @@
 -- The values that insert and update statements give (ISO/IEC 9075:1992, 13.8 to 13.10).
-use Rattle.std.specs.Prelude.{◌≡◌, ℕ, List, [], ◌∷◌, Result, IfOk, IfErr}
+use Rattle.std.specs.Prelude.{◌≡◌, ℕ, true, length, List, [], ◌∷◌, Result, IfOk, IfErr}
 use Rattle.std.specs.List.{AllByRecursion, AllZip, Contains}
 use Rattle.sq_lex.specs.declared.name.Name.{Name}
 use Rattle.sq_store.specs.Content.{Content}
@@ -10,6 +10,7 @@ use Rattle.sq_value.specs.declared.domain.Kind.{Kind}
 use Rattle.sq_meaning.specs.Environment.{Row, Line}
 use Rattle.sq_meaning.specs.Status.{Outcome}
 use Rattle.sq_meaning.specs.WellFormed.{IsRowOf}
+use Rattle.sq_bound.specs.Fits.{IsColumnOf, are_columns}
 use Rattle.sq_bound.specs.WellFormed.{TableKinds, IsChangeTarget, IsSource, IsAssignment}
 use Rattle.sq_bound.specs.declared.condition.BoundSpecification.{BoundSpecification}
 use Rattle.sq_bound.specs.declared.condition.TablePlace.{TablePlace}
@@ -74,9 +75,11 @@ pub record MayChoose (bases : List BaseTable) (queries : List BoundSpecification
   pub reads : MayRead bases queries columns content user values parameters tables
   pub target : IsChangeTarget columns parameters t
 
--- the set clauses of an update statement of the base table are well formed where the parameters are of some kinds
+-- the set clauses of an update statement are for columns of the base table, and well formed where the parameters are of some kinds
 pub record MayAssign (columns : TableKinds) (values : List Value) (table : BaseTable)
     (assignments : List BoundAssignment) : Type 0 where
   pub parameters : List Kind
   pub inputs : IsRowOf parameters values
   pub assigned : AllByRecursion (IsAssignment columns parameters table) assignments
+  pub there : are_columns (length table.columns) assignments ≡ true
+  pub own : AllByRecursion (λ a. IsColumnOf table a.column) assignments

@@ -1,6 +1,7 @@
 -- Values of keys that rows lose by changes, and whether other rows refer to them (ISO/IEC 9075:1992, 11.8).
-use Rattle.std.specs.Prelude.{ℕ, Bool, ◌&&◌, ◌||◌, not, nat_eq, filter, flat_map, is_some, slice_index_or, Option, None, Some, List, [], ◌∷◌}
+use Rattle.std.specs.Prelude.{◌≡◌, ℕ, Bool, true, ◌&&◌, ◌||◌, not, nat_eq, filter, flat_map, is_some, slice_index_or, Option, None, Some, List, [], ◌∷◌}
 use Rattle.std.specs.List.{enumerate_from, list_all, list_any}
+use Rattle.sq_store.specs.Change.{rows_put}
 use Rattle.sq_store.specs.Content.{Content, row_at, table_at}
 use Rattle.sq_store.specs.Keys.{Keys, key_at, with_key}
 use Rattle.sq_store.specs.declared.change.Change.{Change}
@@ -11,8 +12,9 @@ use Rattle.sq_meaning.specs.Environment.{Row}
 use Rattle.sq_bound.specs.Fits.{keys_of_bases}
 use Rattle.sq_bound.specs.declared.names.BaseTable.{BaseTable}
 use Rattle.sq_bound.specs.declared.names.Reference.{Reference}
-use Rattle.sq_change.specs.Reference.{values_in}
+use Rattle.sq_change.specs.Reference.{are_of_keys, referred_by, values_in}
 use Rattle.sq_change.specs.declared.lost.LostKey.{LostKey}
+use Rattle.sq_change.specs.declared.reference.Asked.{Asked}
 
 -- ---- the values that are lost
 
@@ -86,3 +88,11 @@ abbrev pub are_free : List BaseTable → Content → ℕ → List LostKey → Bo
 are_free bases content table lost =
     list_all (λ p. list_all (free_by (keys_of_bases bases) content table lost p.0) p.1.references)
     (enumerate_from 0 bases)
+
+-- What is asked after changes of a table decides whether references hold: the rows to which the rows that are put in it refer, each by a key of
+-- its table, and the values that its rows may have lost in those of these keys to which there are references.
+pub record DecidesReferences (bases : List BaseTable) (own_keys : List Keys) (t : BaseTable) (before : Table)
+    (changes : List Change) (lost_keys : List ℕ) (asked : Asked) : Type 0 where
+  pub known : are_of_keys own_keys asked.referenced.items ≡ true
+  pub referenced : asked.referenced.items ≡ referred_by t.references (rows_put changes)
+  pub lost : asked.lost.items ≡ lost_by before t.keys (referred_keys bases t.place lost_keys) changes

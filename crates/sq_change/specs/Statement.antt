@@ -1,18 +1,26 @@
 -- What INSERT, UPDATE and DELETE do to the tables where they are performed (ISO/IEC 9075:1992, 13.6 to 13.10). One base table changes, and
 -- no other. Performed says when they are.
-use Rattle.std.specs.Prelude.{⊤, IsSome, ◌≡◌, ℕ, true, List, Option, fold, Ok}
+use Rattle.std.specs.Prelude.{⊤, IfSome, IsSome, ◌≡◌, ℕ, true, List, Option, fold, Ok}
+use Rattle.std.specs.List.{AllByRecursion}
+use Rattle.sq_lex.specs.declared.name.Name.{Name}
 use Rattle.sq_value.specs.declared.value.Value.{Value}
 use Rattle.sq_store.specs.declared.table.Numbered.{Numbered}
 use Rattle.sq_store.specs.declared.table.Table.{Table}
-use Rattle.sq_store.specs.Content.{Content, inserted, removed, replaced}
+use Rattle.sq_store.specs.Content.{Content, inserted, removed, replaced, row_at, table_at}
 use Rattle.sq_store.specs.Keys.{Keys}
 use Rattle.sq_meaning.specs.Status.{Outcome, ◌>>=◌}
-use Rattle.sq_bound.specs.Fits.{AreInDomains, holds, keys_of_bases, not_nulls_hold}
+use Rattle.sq_bound.specs.Fits.{AreInDomains, IsBase, IsColumnOf, holds, keys_of_bases, not_nulls_hold, under}
+use Rattle.sq_bound.specs.WellFormed.{BasesAreThere, IsLeaf, TableKinds}
+use Rattle.sq_bound.specs.declared.condition.BoundSpecification.{BoundSpecification}
 use Rattle.sq_bound.specs.declared.names.BaseTable.{BaseTable}
+use Rattle.sq_bound.specs.declared.names.Leaf.{Leaf}
+use Rattle.sq_bound.specs.declared.statement.BoundInsert.{BoundInsert}
 use Rattle.sq_bound.specs.declared.statement.BoundUpdate.{BoundUpdate}
 use Rattle.sq_bound.specs.declared.statement.ChangeTarget.{ChangeTarget}
 use Rattle.sq_bound.specs.declared.statement.ChangeTarget.TheVariants as target
 use Rattle.sq_query.specs.Table.{AreMeant}
+use Rattle.sq_change.specs.Constraints.{constraints_hold}
+use Rattle.sq_change.specs.Given.{MayAssign, MayChoose, MayGive}
 use Rattle.sq_change.specs.Made.{Seen, Shown, numbers_changed, rows_updated}
 
 -- these are the rows of the tables and views that the statement sees
@@ -26,6 +34,24 @@ pub record KeepsTables (bases : List BaseTable) (content : Content) (own_keys : 
   pub in_domains : AreInDomains bases content
   pub keys : own_keys ≡ keys_of_bases bases
   pub not_null : not_nulls_hold bases content ≡ true
+
+-- the tables are legal for the base tables: each of these has its rows, with values in the domains of its columns, and the constraints
+-- hold (11.4, 11.8)
+pub record AreLegal (bases : List BaseTable) (content : Content) : Type 0 where
+  pub rows : holds bases content ≡ true
+  pub in_domains : AreInDomains bases content
+  pub constraints : constraints_hold bases content ≡ true
+
+-- a store with these tables and keys is consistent: its tables are legal, and it has the keys of the base tables
+pub record IsConsistent (bases : List BaseTable) (content : Content) (own_keys : List Keys) : Type 0 where
+  pub tables : AreLegal bases content
+  pub keys : own_keys ≡ keys_of_bases bases
+
+-- a leaf is well formed, over one of these base tables
+pub record IsLeafOver (bases : List BaseTable) (columns : TableKinds) (leaf : Leaf) : Type 0 where
+  pub there : BasesAreThere bases columns
+  pub well_formed : IsLeaf columns leaf
+  pub base : IsBase bases leaf.table
 
 -- ---- INSERT (13.8)
 
@@ -64,3 +90,28 @@ update_made shown s u on =
 
 abbrev pub without : Table → List ℕ → Table
 without t numbers = fold removed t numbers
+
+-- ---- statements that can be performed, on tables with this content, by this user and with these values of parameters
+
+-- an insert statement is of a base table, its columns are columns of it, and its source is well formed and may read what it reads
+pub record CanInsert (bases : List BaseTable) (queries : List BoundSpecification) (kinds : TableKinds)
+    (content : Content) (user : Name) (values : List Value) (i : BoundInsert) : Type 0 where
+  pub leaf : IsLeaf kinds i.leaf
+  pub base : IsBase bases i.leaf.table
+  pub columns : AllByRecursion (IsColumnOf i.leaf.table) i.columns
+  pub given : MayGive bases queries kinds content user values i.columns i.source
+
+-- a statement can choose the rows that it changes: it is of a base table, its conditions are well formed and may read what they read, and a
+-- positioned one is given a row
+pub record CanChoose (bases : List BaseTable) (queries : List BoundSpecification) (kinds : TableKinds)
+    (content : Content) (user : Name) (values : List Value) (t : ChangeTarget) (on : Option ℕ) : Type 0 where
+  pub base : IsBase bases (under t).table
+  pub given : IsGiven t on
+  pub may : MayChoose bases queries kinds content user values t
+
+-- an update statement can choose its rows, a row that it is given is there, and its set clauses are well formed
+pub record CanUpdate (bases : List BaseTable) (queries : List BoundSpecification) (kinds : TableKinds)
+    (content : Content) (user : Name) (values : List Value) (u : BoundUpdate) (on : Option ℕ) : Type 0 where
+  pub choose : CanChoose bases queries kinds content user values u.target on
+  pub there : IfSome on (λ n. IsSome (row_at (table_at content (under u.target).table.place) n))
+  pub assign : MayAssign kinds values (under u.target).table u.assignments

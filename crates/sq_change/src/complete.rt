@@ -1,6 +1,6 @@
 //! A change of a base table, where check options and constraints allow it.
 
-ghost use Rattle.std.specs.Prelude.{◌≡◌, ◌<◌, ◌≤◌, ◌+◌, ◌-◌, true, length, List, IfErr, IfOk, OnErr, OnOk, Some};
+ghost use Rattle.std.specs.Prelude.{◌≡◌, ◌<◌, ◌≤◌, ◌+◌, ◌-◌, true, length, List, IfErr, IfOk, MatchResult, OnErr, OnOk, Some};
 ghost use Rattle.std.specs.List.{list_all};
 ghost use Rattle.sq_value.specs.declared.domain.Kind.{Kind};
 ghost use Rattle.sq_value.specs.declared.value.Value.{Value as AnyValue};
@@ -11,15 +11,14 @@ ghost use Rattle.sq_model.specs.Constraints.{demanded};
 ghost use Rattle.sq_meaning.specs.declared.status.Status.TheVariants.{IntegrityConstraintViolation};
 ghost use Rattle.sq_expression.specs.Fault.{Meets, MeetsAs};
 ghost use Rattle.sq_meaning.specs.Status.{Outcome};
-ghost use Rattle.sq_bound.specs.Fits.{AreInDomains, IsBase, has_its_values, holds, keys_of_bases};
-ghost use Rattle.sq_bound.specs.WellFormed.{BasesAreThere, IsLeaf};
+ghost use Rattle.sq_bound.specs.Fits.{has_its_values, holds, keys_of_bases};
 ghost use Rattle.sq_bound.specs.declared.condition.TablePlace.{TablePlace};
 ghost use Rattle.sq_query.specs.MayRead.{MayEnd, MayRead};
-ghost use Rattle.sq_change.specs.Changed.{AreRowsPut, KeepsRest, are_wide};
-ghost use Rattle.sq_change.specs.Constraints.{completed, constraints_hold, rows_met};
+ghost use Rattle.sq_change.specs.Changed.{AreRowsPut, CanBeMade, are_wide};
+ghost use Rattle.sq_change.specs.Constraints.{completed, rows_met};
 ghost use Rattle.sq_change.specs.Made.{Shown, seen_by};
-ghost use Rattle.sq_change.specs.Lost.{lost_by, referred_keys};
-ghost use Rattle.sq_change.specs.Reference.{are_of_keys, referred_by};
+ghost use Rattle.sq_change.specs.Lost.{DecidesReferences};
+ghost use Rattle.sq_change.specs.Statement.{IsConsistent, IsLeafOver};
 
 use crate::constraint::{check_options_met, rows_satisfied};
 use crate::reference::{Asked, asked_by, references_satisfied};
@@ -40,7 +39,6 @@ pub(crate) struct Changed {
 }
 
 /// Makes the changes of a base table. In this order: check options, constraints on one row, keys, references.
-#[tactic(auto, using(crate::proofs::Held::still_held, crate::proofs::Domains::still_in))]
 pub(crate) fn complete<N: Names, S: Store>(
     alloc: Global,
     names: &N,
@@ -50,38 +48,28 @@ pub(crate) fn complete<N: Names, S: Store>(
     user: Name,
     parameters: &[Value],
 ) -> Result<(), Fault>
-    requires tables { holds (N.base_tables names.now) (S.content_now store.old) ≡ true }
-    requires in_domains { AreInDomains (N.base_tables names.now) (S.content_now store.old) }
-    requires keys { S.key_columns store.old ≡ keys_of_bases (N.base_tables names.now) }
-    requires there { BasesAreThere (N.base_tables names.now) (N.column_kinds names.now) }
-    requires leaf { IsLeaf (N.column_kinds names.now) leaf.now }
-    requires base { IsBase (N.base_tables names.now) leaf.now.table }
-    requires wide { are_wide (length leaf.now.table.columns) (rows_put changed.changes.items) ≡ true }
-    requires domains { AreRowsPut leaf.now.table.columns changed.changes.items }
-    requires numbers { insert_count changed.changes.items ≤ S.row_numbers store.old + 1 -
-        (table_at (S.content_now store.old) leaf.now.table.place).next }
-    requires keeps { KeepsRest leaf.now.table
-        (table_at (S.content_now store.old) leaf.now.table.place) changed }
+    requires kept { IsConsistent (N.base_tables names.now) (S.content_now store.old)
+        (S.key_columns store.old) }
+    requires leaf { IsLeafOver (N.base_tables names.now) (N.column_kinds names.now) leaf.now }
+    requires changes { CanBeMade leaf.now.table
+        (table_at (S.content_now store.old) leaf.now.table.place) (S.row_numbers store.old) changed }
     ensures meant { let seen = seen_by (N.view_queries names.now)
         (S.content_now store.old) user parameters.now in
         (kinds : List Kind) (shown : Shown)
         → MayRead (N.base_tables names.now) (N.view_queries names.now) (N.column_kinds names.now)
         (S.content_now store.old) user parameters.now kinds shown
-        → constraints_hold (N.base_tables names.now) (S.content_now store.old) ≡ true
         → MeetsAs (λ done. S.content_now store.new) result
         (completed shown seen (N.base_tables names.now) leaf.now (rows_put changed.changes.items)
         (changed_by (table_at (S.content_now store.old) leaf.now.table.place) changed.changes.items)) }
-    ensures constraints { constraints_hold (N.base_tables names.now) (S.content_now store.old) ≡ true
-        → constraints_hold (N.base_tables names.now) (S.content_now store.new) ≡ true }
-    ensures ok { OnOk result (S.content_now store.new
-        ≡ with_table (S.content_now store.old) leaf.now.table.place
-        (changed_by (table_at (S.content_now store.old) leaf.now.table.place) changed.changes.items)) }
-    ensures err { OnErr result (S.content_now store.new ≡ S.content_now store.old) }
-    ensures tables { holds (N.base_tables names.now) (S.content_now store.new) ≡ true }
-    ensures in_domains { AreInDomains (N.base_tables names.now) (S.content_now store.new) }
-    ensures committed { S.committed store.new ≡ S.committed store.old }
-    ensures keys { S.key_columns store.new ≡ S.key_columns store.old }
-    ensures numbers { S.row_numbers store.new ≡ S.row_numbers store.old }
+    ensures kept { IsConsistent (N.base_tables names.now) (S.content_now store.new)
+        (S.key_columns store.new) }
+    ensures made { MatchResult result
+        (λ done. S.content_now store.new ≡ with_table (S.content_now store.old) leaf.now.table.place
+        (changed_by (table_at (S.content_now store.old) leaf.now.table.place) changed.changes.items))
+        (λ fault. S.content_now store.new ≡ S.content_now store.old) }
+    ensures rest { (S.committed store.new ≡ S.committed store.old)
+        × (S.key_columns store.new ≡ S.key_columns store.old)
+        × (S.row_numbers store.new ≡ S.row_numbers store.old) }
     ensures right { (kinds : List Kind) (tables : TablePlace → Outcome (List (List AnyValue)))
         → MayRead (N.base_tables names.now) (N.view_queries names.now) (N.column_kinds names.now)
         (S.content_now store.old) user parameters.now kinds tables
@@ -121,21 +109,15 @@ fn rows_admitted<N: Names, S: Store>(
         ≡ true }
     requires keys { S.key_columns setting.now.store.now
         ≡ keys_of_bases (N.base_tables setting.now.names.now) }
-    requires there { BasesAreThere (N.base_tables setting.now.names.now)
-        (N.column_kinds setting.now.names.now) }
-    requires leaf { IsLeaf (N.column_kinds setting.now.names.now) leaf.now }
-    requires base { IsBase (N.base_tables setting.now.names.now) leaf.now.table }
+    requires leaf { IsLeafOver (N.base_tables setting.now.names.now) (N.column_kinds setting.now.names.now)
+        leaf.now }
     requires wide { are_wide (length leaf.now.table.columns) (rows_put changed.now.changes.items) ≡ true }
-    ensures known { IfOk result
-        (λ asked. are_of_keys (S.key_columns setting.now.store.now) asked.referenced.items ≡ true) }
+    ensures decides { IfOk result (DecidesReferences (N.base_tables setting.now.names.now)
+        (S.key_columns setting.now.store.now) leaf.now.table
+        (table_at (S.content_now setting.now.store.now) leaf.now.table.place) changed.now.changes.items
+        changed.now.lost_keys.items) }
     ensures values { IfOk result
         (λ asked. list_all (has_its_values leaf.now.table) (rows_put changed.now.changes.items) ≡ true) }
-    ensures list { IfOk result (λ asked. asked.referenced.items ≡ referred_by leaf.now.table.references
-        (rows_put changed.now.changes.items)) }
-    ensures lost { IfOk result (λ asked. asked.lost.items
-        ≡ lost_by (table_at (S.content_now setting.now.store.now) leaf.now.table.place) leaf.now.table.keys
-        (referred_keys (N.base_tables setting.now.names.now) leaf.now.table.place
-        changed.now.lost_keys.items) changed.now.changes.items) }
     ensures met { let seen = seen_by (N.view_queries setting.now.names.now)
         (S.content_now setting.now.store.now) setting.now.user
         setting.now.parameters.now in (parameters : List Kind) (shown : Shown)
@@ -170,16 +152,15 @@ fn apply<S: Store>(
         (rows_put changes.items) ≡ true }
     requires fits { insert_count changes.items ≤ S.row_numbers store.old + 1 -
         (table_at (S.content_now store.old) place).next }
-    ensures ok { OnOk result (S.content_now store.new
-        ≡ with_table (S.content_now store.old) place
-        (changed_by (table_at (S.content_now store.old) place) changes.items)) }
-    ensures before { OnOk result (S.before store.new ≡ Some (S.content_now store.old)) }
+    ensures ok { OnOk result ((S.content_now store.new ≡ with_table (S.content_now store.old) place
+        (changed_by (table_at (S.content_now store.old) place) changes.items))
+        × (S.before store.new ≡ Some (S.content_now store.old))) }
     ensures distinct { Meets result (demanded (has_distinct_keys (keys_at (S.key_columns store.old) place)
         (changed_by (table_at (S.content_now store.old) place) changes.items)) IntegrityConstraintViolation) }
     ensures err { OnErr result (S.content_now store.new ≡ S.content_now store.old) }
-    ensures committed { S.committed store.new ≡ S.committed store.old }
-    ensures keys { S.key_columns store.new ≡ S.key_columns store.old }
-    ensures numbers { S.row_numbers store.new ≡ S.row_numbers store.old }
+    ensures rest { (S.committed store.new ≡ S.committed store.old)
+        × (S.key_columns store.new ≡ S.key_columns store.old)
+        × (S.row_numbers store.new ≡ S.row_numbers store.old) }
     ensures right { IfErr result MayEnd }
 {
     match store.apply(alloc, place, changes) {

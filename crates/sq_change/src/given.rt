@@ -4,7 +4,6 @@ ghost use Rattle.std.specs.Prelude.{◌≡◌, ◌<◌, [], length, nat_eq, true
 ghost use Rattle.std.specs.List.{AllByRecursion, position};
 ghost use Rattle.std.specs.Option.{option_copied};
 ghost use Rattle.sq_value.specs.Domain.{IsInDomain};
-ghost use Rattle.sq_store.specs.Change.{rows_put};
 ghost use Rattle.sq_value.specs.declared.domain.Kind.{Kind};
 ghost use Rattle.sq_value.specs.declared.value.Value.{Value as AnyValue};
 ghost use Rattle.sq_meaning.specs.Status.{Outcome, each};
@@ -15,7 +14,7 @@ ghost use Rattle.sq_bound.specs.declared.condition.TablePlace.{TablePlace};
 ghost use Rattle.sq_expression.specs.Fault.{Meets, MeetsAs, rows_in};
 ghost use Rattle.sq_query.specs.MayRead.{MayEnd, MayRead};
 ghost use Rattle.sq_query.specs.Needed.{FindsSelect};
-ghost use Rattle.sq_change.specs.Changed.{AreRowsPut, are_insertions, are_wide, new_rows_in};
+ghost use Rattle.sq_change.specs.Changed.{FitTable, are_insertions, new_rows_in};
 ghost use Rattle.sq_change.specs.Given.{AreStorable, AreStored, FitColumns, IsStoredFor, MayGive};
 ghost use Rattle.sq_change.specs.Made.{Shown, or_default, row_completed, row_stored, seen_by, value_at, values_given};
 ghost use Rattle.sq_change.specs.Made.{rows_found, rows_given, rows_made};
@@ -53,9 +52,7 @@ pub(crate) fn new_rows<N: Names, S: Store>(
         setting.now.parameters.now in (shown : Shown) → IsShown seen shown
         → MeetsAs new_rows_in result (rows_made shown seen table.now insert.now.columns insert.now.source) }
     ensures insertions { IfOk result (λ changes. are_insertions changes.items ≡ true) }
-    ensures wide { IfOk result
-        (λ changes. are_wide (length table.now.columns) (rows_put changes.items) ≡ true) }
-    ensures in_domains { IfOk result (λ changes. AreRowsPut table.now.columns changes.items) }
+    ensures fit { IfOk result (λ changes. FitTable table.now changes.items) }
     ensures some { IfOk result (λ changes. 0 < vec_len changes) }
     ensures right { IfErr result MayEnd }
 {
@@ -205,9 +202,7 @@ fn completed_rows<N: Names, S: Store>(
     ensures meant { MeetsAs new_rows_in result
         (each (row_completed setting.now.user table.now columns.now) given.now) }
     ensures insertions { IfOk result (λ changes. are_insertions changes.items ≡ true) }
-    ensures wide { IfOk result
-        (λ changes. are_wide (length table.now.columns) (rows_put changes.items) ≡ true) }
-    ensures in_domains { IfOk result (λ changes. AreRowsPut table.now.columns changes.items) }
+    ensures fit { IfOk result (λ changes. FitTable table.now changes.items) }
     ensures length { IfOk result (λ changes. vec_len changes ≡ length given.now) }
     ensures right { IfErr result MayEnd }
 {

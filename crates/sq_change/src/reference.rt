@@ -9,7 +9,7 @@ ghost use Rattle.sq_bound.specs.Fits.{IsBase, holds, keys_of_bases};
 ghost use Rattle.sq_expression.specs.Fault.{Meets};
 ghost use Rattle.sq_query.specs.MayRead.{MayEnd};
 ghost use Rattle.sq_change.specs.Changed.{are_wide};
-ghost use Rattle.sq_change.specs.Lost.{are_free, lost_by, referred_keys};
+ghost use Rattle.sq_change.specs.Lost.{DecidesReferences, are_free};
 ghost use Rattle.sq_change.specs.Reference.{are_of_keys, are_rows_there, is_of_key, is_row_there, refer_to_keys, referred, referred_by};
 
 use crate::lost::{LostKey, all_free, lost_by};
@@ -48,13 +48,9 @@ pub(crate) fn asked_by<N: Names, S: Store>(
     requires base { IsBase (N.base_tables setting.now.names.now) table.now }
     requires keys { refer_to_keys (S.key_columns setting.now.store.now) table.now.references ≡ true }
     requires wide { are_wide (length table.now.columns) (rows_put changes.now) ≡ true }
-    ensures known { IfOk result
-        (λ asked. are_of_keys (S.key_columns setting.now.store.now) asked.referenced.items ≡ true) }
-    ensures list { IfOk result
-        (λ asked. asked.referenced.items ≡ referred_by table.now.references (rows_put changes.now)) }
-    ensures lost { IfOk result (λ asked. asked.lost.items
-        ≡ lost_by (table_at (S.content_now setting.now.store.now) table.now.place) table.now.keys
-        (referred_keys (N.base_tables setting.now.names.now) table.now.place lost_keys.now) changes.now) }
+    ensures decides { IfOk result (DecidesReferences (N.base_tables setting.now.names.now)
+        (S.key_columns setting.now.store.now) table.now
+        (table_at (S.content_now setting.now.store.now) table.now.place) changes.now lost_keys.now) }
     ensures memory { IfErr result (λ fault. fault ≡ Fault.NoMemory) }
     ensures right { IfErr result MayEnd }
 {

@@ -1,20 +1,16 @@
 //! The three statements that change a table.
 
-ghost use Rattle.std.specs.Prelude.{◌≡◌, ◌⊎◌, ◌<◌, ◌≤◌, ◌+◌, ◌-◌, true, length, vec_len, Err, IfErr, IfOk, IfSome, IsSome, Ok, OnErr};
-ghost use Rattle.std.specs.List.{AllByRecursion};
-ghost use Rattle.sq_store.specs.Change.{insert_count, rows_put};
-ghost use Rattle.sq_store.specs.Content.{row_at, table_at};
-ghost use Rattle.sq_bound.specs.Fits.{AreInDomains, IsBase, IsColumnOf, are_columns, holds, keys_of_bases, under};
-ghost use Rattle.sq_bound.specs.WellFormed.{IsLeaf};
+ghost use Rattle.std.specs.Prelude.{◌≡◌, ◌⊎◌, ◌<◌, ◌≤◌, ◌+◌, true, vec_len, Err, IfErr, IfOk, Ok, OnErr};
+ghost use Rattle.sq_store.specs.Change.{rows_put};
+ghost use Rattle.sq_store.specs.Content.{table_at};
+ghost use Rattle.sq_bound.specs.Fits.{under};
 ghost use Rattle.sq_expression.specs.Fault.{MeetsAs};
 ghost use Rattle.sq_query.specs.Keyed.{IsKeyedChange};
 ghost use Rattle.sq_query.specs.MayRead.{MayEnd};
-ghost use Rattle.sq_change.specs.Changed.{AreRowsPut, KeepsRest, Removals, Replacements, are_insertions, are_wide, changed_in};
-ghost use Rattle.sq_change.specs.Constraints.{constraints_hold};
-ghost use Rattle.sq_change.specs.Given.{MayAssign, MayChoose, MayGive};
+ghost use Rattle.sq_change.specs.Changed.{CanBeMade, Removals, Replacements, are_insertions, changed_in};
 ghost use Rattle.sq_change.specs.Made.{Fails, Shown, numbers_changed, rows_inserted, seen_by};
 ghost use Rattle.sq_change.specs.Performed.{delete_outcome, insert_outcome, update_outcome};
-ghost use Rattle.sq_change.specs.Statement.{IsGiven, IsShown, KeepsTables, update_made};
+ghost use Rattle.sq_change.specs.Statement.{CanChoose, CanInsert, CanUpdate, IsConsistent, IsShown, KeepsTables, update_made};
 
 use crate::complete::{Changed, complete};
 use crate::given::new_rows;
@@ -40,26 +36,20 @@ pub fn insert<N: Names, S: Store>(
     inputs: Inputs<'_>,
     meter: &mut Meter,
 ) -> Result<(), Fault>
-    requires tables { holds (N.base_tables names.now) (S.content_now store.old) ≡ true }
-    requires in_domains { AreInDomains (N.base_tables names.now) (S.content_now store.old) }
-    requires keys { S.key_columns store.old ≡ keys_of_bases (N.base_tables names.now) }
-    requires constraints { constraints_hold (N.base_tables names.now) (S.content_now store.old) ≡ true }
-    requires leaf { IsLeaf (N.column_kinds names.now) insert.now.leaf }
-    requires base { IsBase (N.base_tables names.now) insert.now.leaf.table }
-    requires columns { AllByRecursion (IsColumnOf insert.now.leaf.table) insert.now.columns }
-    requires given { MayGive (N.base_tables names.now) (N.view_queries names.now) (N.column_kinds names.now)
-        (S.content_now store.old) inputs.user inputs.parameters.now insert.now.columns insert.now.source }
+    requires kept { IsConsistent (N.base_tables names.now) (S.content_now store.old)
+        (S.key_columns store.old) }
+    requires can { CanInsert (N.base_tables names.now) (N.view_queries names.now) (N.column_kinds names.now)
+        (S.content_now store.old) inputs.user inputs.parameters.now insert.now }
     ensures meant { let seen = seen_by (N.view_queries names.now)
         (S.content_now store.old) inputs.entry.user inputs.entry.parameters.now in
         (shown : Shown) → IsShown seen shown → MeetsAs (λ done. S.content_now store.new) result
         (insert_outcome shown seen (N.base_tables names.now) (S.row_numbers store.old) insert.now) }
-    ensures constraints { constraints_hold (N.base_tables names.now) (S.content_now store.new) ≡ true }
+    ensures kept { IsConsistent (N.base_tables names.now) (S.content_now store.new)
+        (S.key_columns store.new) }
     ensures err { OnErr result (S.content_now store.new ≡ S.content_now store.old) }
-    ensures tables { holds (N.base_tables names.now) (S.content_now store.new) ≡ true }
-    ensures in_domains { AreInDomains (N.base_tables names.now) (S.content_now store.new) }
-    ensures committed { S.committed store.new ≡ S.committed store.old }
-    ensures keys { S.key_columns store.new ≡ S.key_columns store.old }
-    ensures numbers { S.row_numbers store.new ≡ S.row_numbers store.old }
+    ensures rest { (S.committed store.new ≡ S.committed store.old)
+        × (S.key_columns store.new ≡ S.key_columns store.old)
+        × (S.row_numbers store.new ≡ S.row_numbers store.old) }
     ensures right { IfErr result MayEnd }
 {
     let Inputs { user, parameters } = inputs;
@@ -76,12 +66,9 @@ fn inserted<N: Names, S: Store>(
     insert: &BoundInsert,
     meter: &mut Meter,
 ) -> Result<Changed, Fault>
-    requires place { insert.now.leaf.table.place < length (S.content_now setting.now.store.now) }
-    requires columns { AllByRecursion (IsColumnOf insert.now.leaf.table) insert.now.columns }
-    requires given { MayGive (N.base_tables setting.now.names.now) (N.view_queries setting.now.names.now)
-        (N.column_kinds setting.now.names.now)
-        (S.content_now setting.now.store.now) setting.now.user setting.now.parameters.now
-        insert.now.columns insert.now.source }
+    requires can { CanInsert (N.base_tables setting.now.names.now) (N.view_queries setting.now.names.now)
+        (N.column_kinds setting.now.names.now) (S.content_now setting.now.store.now) setting.now.user
+        setting.now.parameters.now insert.now }
     requires kept { KeepsTables (N.base_tables setting.now.names.now) (S.content_now setting.now.store.now)
         (S.key_columns setting.now.store.now) }
     ensures made { let seen = seen_by (N.view_queries setting.now.names.now)
@@ -89,17 +76,11 @@ fn inserted<N: Names, S: Store>(
         setting.now.parameters.now in (shown : Shown) → IsShown seen shown
         → MeetsAs (λ changed. rows_put changed.changes.items) result
         (rows_inserted shown seen (S.row_numbers setting.now.store.now) insert.now) }
-    ensures keeps { IfOk result (KeepsRest insert.now.leaf.table (table_at
-        (S.content_now setting.now.store.now) insert.now.leaf.table.place)) }
+    ensures changes { IfOk result (CanBeMade insert.now.leaf.table
+        (table_at (S.content_now setting.now.store.now) insert.now.leaf.table.place)
+        (S.row_numbers setting.now.store.now)) }
     ensures insertions { IfOk result (λ changed. are_insertions changed.changes.items ≡ true) }
     ensures some { IfOk result (λ changed. 0 < vec_len changed.changes) }
-    ensures wide { IfOk result
-        (λ changed. are_wide (length insert.now.leaf.table.columns) (rows_put changed.changes.items) ≡ true) }
-    ensures in_domains { IfOk result
-        (λ changed. AreRowsPut insert.now.leaf.table.columns changed.changes.items) }
-    ensures numbers { IfOk result (λ changed. insert_count changed.changes.items
-        ≤ S.row_numbers setting.now.store.now + 1 -
-        (table_at (S.content_now setting.now.store.now) insert.now.leaf.table.place).next) }
     ensures right { IfErr result MayEnd }
 {
     let table = insert.leaf.get().table.get();
@@ -128,34 +109,21 @@ pub fn update<N: Names, S: Store>(
     inputs: Inputs<'_>,
     meter: &mut Meter,
 ) -> Result<(), Fault>
-    requires given { IsGiven update.now.target on }
-    requires may { MayChoose (N.base_tables names.now) (N.view_queries names.now) (N.column_kinds names.now)
-        (S.content_now store.old) inputs.user inputs.parameters.now update.now.target }
-    requires there { IfSome on
-        (λ n. IsSome (row_at (table_at (S.content_now store.old) (under update.now.target).table.place) n)) }
-    requires tables { holds (N.base_tables names.now) (S.content_now store.old) ≡ true }
-    requires in_domains { AreInDomains (N.base_tables names.now) (S.content_now store.old) }
-    requires keys { S.key_columns store.old ≡ keys_of_bases (N.base_tables names.now) }
-    requires constraints { constraints_hold (N.base_tables names.now) (S.content_now store.old) ≡ true }
-    requires base { IsBase (N.base_tables names.now) (under update.now.target).table }
-    requires columns { are_columns (length (under update.now.target).table.columns) update.now.assignments
-        ≡ true }
-    requires domains { AllByRecursion
-        (λ a. IsColumnOf (under update.now.target).table a.column) update.now.assignments }
-    requires assigned { MayAssign (N.column_kinds names.now) inputs.parameters.now
-        (under update.now.target).table update.now.assignments }
+    requires kept { IsConsistent (N.base_tables names.now) (S.content_now store.old)
+        (S.key_columns store.old) }
+    requires can { CanUpdate (N.base_tables names.now) (N.view_queries names.now) (N.column_kinds names.now)
+        (S.content_now store.old) inputs.user inputs.parameters.now update.now on }
     ensures meant { let seen = seen_by (N.view_queries names.now)
         (S.content_now store.old) inputs.entry.user inputs.entry.parameters.now in
         (shown : Shown) → IsShown seen shown
         → MeetsAs (λ done. S.content_now store.new) result
         (update_outcome shown seen (N.base_tables names.now) update.now on) }
-    ensures constraints { constraints_hold (N.base_tables names.now) (S.content_now store.new) ≡ true }
+    ensures kept { IsConsistent (N.base_tables names.now) (S.content_now store.new)
+        (S.key_columns store.new) }
     ensures err { OnErr result (S.content_now store.new ≡ S.content_now store.old) }
-    ensures tables { holds (N.base_tables names.now) (S.content_now store.new) ≡ true }
-    ensures in_domains { AreInDomains (N.base_tables names.now) (S.content_now store.new) }
-    ensures committed { S.committed store.new ≡ S.committed store.old }
-    ensures keys { S.key_columns store.new ≡ S.key_columns store.old }
-    ensures numbers { S.row_numbers store.new ≡ S.row_numbers store.old }
+    ensures rest { (S.committed store.new ≡ S.committed store.old)
+        × (S.key_columns store.new ≡ S.key_columns store.old)
+        × (S.row_numbers store.new ≡ S.row_numbers store.old) }
     ensures right { IfErr result MayEnd }
     ensures read { IsKeyedChange update.now.target inputs.entry.parameters.now inputs.entry.user
         → meter.new ≤ meter.old + 1 }
@@ -174,27 +142,14 @@ fn updated<N: Names, S: Store>(
     on: Option<u64>,
     meter: &mut Meter,
 ) -> Result<Changed, Fault>
-    requires given { IsGiven update.now.target on }
-    requires may { MayChoose (N.base_tables setting.now.names.now) (N.view_queries setting.now.names.now)
-        (N.column_kinds setting.now.names.now)
-        (S.content_now setting.now.store.now) setting.now.user setting.now.parameters.now update.now.target }
-    requires there { IfSome on
-        (λ n. IsSome (row_at
-        (table_at (S.content_now setting.now.store.now) (under update.now.target).table.place)
-        n)) }
+    requires can { CanUpdate (N.base_tables setting.now.names.now) (N.view_queries setting.now.names.now)
+        (N.column_kinds setting.now.names.now) (S.content_now setting.now.store.now) setting.now.user
+        setting.now.parameters.now update.now on }
     requires kept { KeepsTables (N.base_tables setting.now.names.now) (S.content_now setting.now.store.now)
         (S.key_columns setting.now.store.now) }
-    requires base { IsBase (N.base_tables setting.now.names.now) (under update.now.target).table }
-    requires columns { are_columns (length (under update.now.target).table.columns) update.now.assignments
-        ≡ true }
-    requires domains { AllByRecursion
-        (λ a. IsColumnOf (under update.now.target).table a.column) update.now.assignments }
-    requires assigned { MayAssign (N.column_kinds setting.now.names.now) setting.now.parameters.now
-        (under update.now.target).table
-        update.now.assignments }
-    ensures keeps { IfOk result
-        (KeepsRest (under update.now.target).table (table_at (S.content_now setting.now.store.now)
-        (under update.now.target).table.place)) }
+    ensures changes { IfOk result (CanBeMade (under update.now.target).table
+        (table_at (S.content_now setting.now.store.now) (under update.now.target).table.place)
+        (S.row_numbers setting.now.store.now)) }
     ensures replacements { let seen = seen_by (N.view_queries setting.now.names.now)
         (S.content_now setting.now.store.now) setting.now.user
         setting.now.parameters.now in IfOk result
@@ -203,10 +158,6 @@ fn updated<N: Names, S: Store>(
         (S.content_now setting.now.store.now) setting.now.user
         setting.now.parameters.now in (shown : Shown) → IsShown seen shown
         → MeetsAs changed_in result (update_made shown seen update.now on) }
-    ensures wide { IfOk result (λ changed. are_wide (length (under update.now.target).table.columns)
-        (rows_put changed.changes.items) ≡ true) }
-    ensures in_domains { IfOk result
-        (λ changed. AreRowsPut (under update.now.target).table.columns changed.changes.items) }
     ensures right { IfErr result MayEnd }
     ensures read { IsKeyedChange update.now.target setting.now.parameters.now setting.now.user
         → meter.new ≤ meter.old + 1 }
@@ -245,7 +196,6 @@ fn changed(
 /// Performs a delete statement (13.6, 13.7). `on` is the number of the row that the cursor is on, for a positioned one. The
 /// store keeps the tables of the names and their keys, and the statement is over one of these tables. Faults come in this order:
 /// those of the search condition; 02000 where it keeps no row; references to the rows. A well-formed one never ends with 42000.
-#[tactic(auto, using(crate::proofs::Applied::removals_wide))]
 pub fn delete<N: Names, S: Store>(
     alloc: Global,
     names: &N,
@@ -255,26 +205,21 @@ pub fn delete<N: Names, S: Store>(
     inputs: Inputs<'_>,
     meter: &mut Meter,
 ) -> Result<(), Fault>
-    requires given { IsGiven target.now on }
-    requires may { MayChoose (N.base_tables names.now) (N.view_queries names.now) (N.column_kinds names.now)
-        (S.content_now store.old) inputs.user inputs.parameters.now target.now }
-    requires tables { holds (N.base_tables names.now) (S.content_now store.old) ≡ true }
-    requires in_domains { AreInDomains (N.base_tables names.now) (S.content_now store.old) }
-    requires keys { S.key_columns store.old ≡ keys_of_bases (N.base_tables names.now) }
-    requires constraints { constraints_hold (N.base_tables names.now) (S.content_now store.old) ≡ true }
-    requires base { IsBase (N.base_tables names.now) (under target.now).table }
+    requires kept { IsConsistent (N.base_tables names.now) (S.content_now store.old)
+        (S.key_columns store.old) }
+    requires can { CanChoose (N.base_tables names.now) (N.view_queries names.now) (N.column_kinds names.now)
+        (S.content_now store.old) inputs.user inputs.parameters.now target.now on }
     ensures meant { let seen = seen_by (N.view_queries names.now)
         (S.content_now store.old) inputs.entry.user inputs.entry.parameters.now in
         (shown : Shown) → IsShown seen shown
         → MeetsAs (λ done. S.content_now store.new) result
         (delete_outcome shown seen (N.base_tables names.now) target.now on) }
-    ensures constraints { constraints_hold (N.base_tables names.now) (S.content_now store.new) ≡ true }
+    ensures kept { IsConsistent (N.base_tables names.now) (S.content_now store.new)
+        (S.key_columns store.new) }
     ensures err { OnErr result (S.content_now store.new ≡ S.content_now store.old) }
-    ensures tables { holds (N.base_tables names.now) (S.content_now store.new) ≡ true }
-    ensures in_domains { AreInDomains (N.base_tables names.now) (S.content_now store.new) }
-    ensures committed { S.committed store.new ≡ S.committed store.old }
-    ensures keys { S.key_columns store.new ≡ S.key_columns store.old }
-    ensures numbers { S.row_numbers store.new ≡ S.row_numbers store.old }
+    ensures rest { (S.committed store.new ≡ S.committed store.old)
+        × (S.key_columns store.new ≡ S.key_columns store.old)
+        × (S.row_numbers store.new ≡ S.row_numbers store.old) }
     ensures right { IfErr result MayEnd }
     ensures read { IsKeyedChange target.now inputs.entry.parameters.now inputs.entry.user
         → meter.new ≤ meter.old + 1 }
@@ -293,16 +238,14 @@ fn deleted<N: Names, S: Store>(
     on: Option<u64>,
     meter: &mut Meter,
 ) -> Result<Changed, Fault>
-    requires given { IsGiven target.now on }
-    requires may { MayChoose (N.base_tables setting.now.names.now) (N.view_queries setting.now.names.now)
-        (N.column_kinds setting.now.names.now)
-        (S.content_now setting.now.store.now) setting.now.user setting.now.parameters.now target.now }
+    requires can { CanChoose (N.base_tables setting.now.names.now) (N.view_queries setting.now.names.now)
+        (N.column_kinds setting.now.names.now) (S.content_now setting.now.store.now) setting.now.user
+        setting.now.parameters.now target.now on }
     requires kept { KeepsTables (N.base_tables setting.now.names.now) (S.content_now setting.now.store.now)
         (S.key_columns setting.now.store.now) }
-    requires base { IsBase (N.base_tables setting.now.names.now) (under target.now).table }
-    ensures keeps { IfOk result
-        (KeepsRest (under target.now).table (table_at (S.content_now setting.now.store.now)
-        (under target.now).table.place)) }
+    ensures changes { IfOk result (CanBeMade (under target.now).table
+        (table_at (S.content_now setting.now.store.now) (under target.now).table.place)
+        (S.row_numbers setting.now.store.now)) }
     ensures removals { let seen = seen_by (N.view_queries setting.now.names.now)
         (S.content_now setting.now.store.now) setting.now.user
         setting.now.parameters.now in IfOk result

@@ -2,7 +2,6 @@
 
 ghost use Rattle.std.specs.Prelude.{◌≡◌, ◌<◌, ◌≤◌, ◌+◌, ◌∷◌, [], length, map, true, IfErr, IfOk, IfSome, IsSome, Some};
 ghost use Rattle.std.specs.List.{AllByRecursion};
-ghost use Rattle.sq_store.specs.Change.{rows_put};
 ghost use Rattle.sq_store.specs.Content.{row_at, table_at};
 ghost use Rattle.sq_bound.specs.Fits.{IsBase, IsColumnOf, IsRowIn, are_columns, under};
 ghost use Rattle.sq_bound.specs.declared.names.BaseTable.{BaseTable as AnyTable};
@@ -11,11 +10,11 @@ ghost use Rattle.sq_query.specs.MayRead.{MayEnd};
 ghost use Rattle.sq_query.specs.Table.{numbered_in, numbered_row};
 ghost use Rattle.sq_query.specs.Target.{AreNumbersOf, AreRowsThere, numbers_in};
 ghost use Rattle.sq_expression.specs.Fault.{Meets, MeetsAs};
-ghost use Rattle.sq_change.specs.Changed.{AreReplacements, AreRowsPut, are_wide, numbers_with, rows_replaced_in};
-ghost use Rattle.sq_change.specs.Given.{AreAssignable, MayAssign, MayChoose};
+ghost use Rattle.sq_change.specs.Changed.{AreReplacements, FitTable, numbers_with, rows_replaced_in};
+ghost use Rattle.sq_change.specs.Given.{AreAssignable, MayAssign};
 ghost use Rattle.sq_change.specs.Made.{Shown, numbers_changed, row_updated, rows_updated, seen_by};
 ghost use Rattle.sq_change.specs.Reference.{LosesAll, LosesAssigned, is_assigned};
-ghost use Rattle.sq_change.specs.Statement.{IsGiven, IsShown, KeepsTables};
+ghost use Rattle.sq_change.specs.Statement.{CanChoose, IsShown, KeepsTables};
 
 use crate::setting::Setting;
 use crate::storing::stored_value;
@@ -45,13 +44,11 @@ pub(crate) fn numbers_changed<N: Names, S: Store>(
     on: Option<u64>,
     meter: &mut Meter,
 ) -> Result<Vec<u64>, Fault>
-    requires given { IsGiven target.now on }
+    requires can { CanChoose (N.base_tables setting.now.names.now) (N.view_queries setting.now.names.now)
+        (N.column_kinds setting.now.names.now) (S.content_now setting.now.store.now) setting.now.user
+        setting.now.parameters.now target.now on }
     requires kept { KeepsTables (N.base_tables setting.now.names.now) (S.content_now setting.now.store.now)
         (S.key_columns setting.now.store.now) }
-    requires base { IsBase (N.base_tables setting.now.names.now) (under target.now).table }
-    requires may { MayChoose (N.base_tables setting.now.names.now) (N.view_queries setting.now.names.now)
-        (N.column_kinds setting.now.names.now)
-        (S.content_now setting.now.store.now) setting.now.user setting.now.parameters.now target.now }
     ensures meant { let seen = seen_by (N.view_queries setting.now.names.now)
         (S.content_now setting.now.store.now) setting.now.user
         setting.now.parameters.now in (shown : Shown) → IsShown seen shown
@@ -106,16 +103,14 @@ pub(crate) fn rows_changed<'a, N: Names, S: Store>(
     on: Option<u64>,
     meter: &mut Meter,
 ) -> Result<Vec<(u64, &'a Row)>, Fault>
-    requires given { IsGiven target.now on }
+    requires can { CanChoose (N.base_tables setting.now.names.now) (N.view_queries setting.now.names.now)
+        (N.column_kinds setting.now.names.now) (S.content_now setting.now.store.now) setting.now.user
+        setting.now.parameters.now target.now on }
     requires there { IfSome on
         (λ n. IsSome (row_at
         (table_at (S.content_now setting.now.store.now) (under target.now).table.place) n)) }
     requires kept { KeepsTables (N.base_tables setting.now.names.now) (S.content_now setting.now.store.now)
         (S.key_columns setting.now.store.now) }
-    requires base { IsBase (N.base_tables setting.now.names.now) (under target.now).table }
-    requires may { MayChoose (N.base_tables setting.now.names.now) (N.view_queries setting.now.names.now)
-        (N.column_kinds setting.now.names.now)
-        (S.content_now setting.now.store.now) setting.now.user setting.now.parameters.now target.now }
     ensures meant { let seen = seen_by (N.view_queries setting.now.names.now)
         (S.content_now setting.now.store.now) setting.now.user
         setting.now.parameters.now in (shown : Shown) → IsShown seen shown
@@ -199,8 +194,6 @@ pub(crate) fn replaced<N: Names, S: Store>(
     requires kept { KeepsTables (N.base_tables setting.now.names.now) (S.content_now setting.now.store.now)
         (S.key_columns setting.now.store.now) }
     requires base { IsBase (N.base_tables setting.now.names.now) table.now }
-    requires columns { are_columns (length table.now.columns) assignments.now ≡ true }
-    requires domains { AllByRecursion (λ a. IsColumnOf table.now a.column) assignments.now }
     requires assigned { MayAssign
         (N.column_kinds setting.now.names.now) setting.now.parameters.now table.now assignments.now }
     ensures replacements { IfOk result
@@ -210,9 +203,7 @@ pub(crate) fn replaced<N: Names, S: Store>(
         setting.now.parameters.now in (shown : Shown)
         → MeetsAs rows_replaced_in result
         (rows_updated shown seen assignments.now table.now.place (map (λ found. found.0) rows.now)) }
-    ensures wide { IfOk result
-        (λ changes. are_wide (length table.now.columns) (rows_put changes.items) ≡ true) }
-    ensures in_domains { IfOk result (λ changes. AreRowsPut table.now.columns changes.items) }
+    ensures fit { IfOk result (λ changes. FitTable table.now changes.items) }
     ensures right { IfErr result MayEnd }
 {
     let mut changes = Vec::new(setting.alloc);

@@ -17,13 +17,30 @@ use Rattle.sq_meaning.specs.Environment.{same_name}
 use Rattle.sq_module.specs.Admitted.{AreAdmitted, OpensEachOnce, opened_of, opening_in, openings}
 use Rattle.sq_bound.specs.WellFormed.{kinds_of_parameters}
 use Rattle.sq_binding.proofs.SameParameters.{name_itself, names_equal}
-use Rattle.sq_module.specs.Opened.{AreOfOthers, HaveKinds, IsNew, IsOnlyOpener, OpenedBy, OpensNew, is_in}
+use Rattle.sq_module.specs.Opened.{AreOfOthers, OpenedBy, is_in}
 use Rattle.sq_module.specs.Refusal.{has_open_count, is_some_name, opened_by, opened_in, opener_count}
 use Rattle.sq_module.specs.Written.{AreApart, IsCursorIn, is_cursor}
 use Rattle.sq_module.specs.declared.admission.AdmittedModule.{AdmittedModule}
 use Rattle.sq_module.specs.declared.admission.AdmittedProcedure.{AdmittedProcedure}
 use Rattle.sq_module.specs.declared.program.DeclaredCursor.{DeclaredCursor}
 use Rattle.sq_module.proofs.Fitting.{all_last}
+use Rattle.sq_module.proofs.Opening.{HaveKinds}
+
+-- a cursor of the module that a procedure opens is opened with no other parameters
+abbrev pub IsOnlyOpener : AdmittedModule → List AdmittedProcedure → AdmittedProcedure → Type 0
+IsOnlyOpener a procedures p = IfSome (opened_of p)
+    (λ name. IfSome (lookup (same_name name) a.cursors.entries)
+    (λ c. HaveKinds name (kinds_of_parameters p.parameters) procedures))
+
+-- the cursor of this name in the module is not there
+abbrev pub IsNew : Name → List DeclaredCursor → Name → Type 0
+IsNew «module» cursors name = list_any (is_cursor «module» name) cursors ≡ false
+
+-- the cursor that a procedure opens is not there, if the module has one of that name
+abbrev pub OpensNew : AdmittedModule → List DeclaredCursor → AdmittedProcedure → Type 0
+OpensNew a cursors p =
+    IfSome (opened_of p) (λ name. IfSome (lookup (same_name name) a.cursors.entries)
+    (λ c. IsNew a.name cursors name))
 
 -- ---- names and tests
 

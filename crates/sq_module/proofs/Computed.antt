@@ -32,7 +32,6 @@ use Rattle.sq_promises.specs.Names.{declared}
 use Rattle.sq_promises.specs.Seen.{cursor_seen, statement_seen}
 use Rattle.sq_module.specs.Admitted.{opened_of}
 use Rattle.sq_module.specs.Computed.{AreComputedCursors, AreComputedProcedures, IsComputed, IsComputedCursor, IsComputedProcedure, as_bound}
-use Rattle.sq_module.specs.Named.{IsNext, IsOnlyIn}
 use Rattle.sq_module.specs.Program.{same_procedure}
 use Rattle.sq_module.specs.Refusal.{is_some_name, opened_by}
 use Rattle.sq_module.specs.Written.{IsOfText, IsProcedureOf}
@@ -43,7 +42,7 @@ use Rattle.sq_module.specs.declared.program.BoundProcedure.{BoundProcedure}
 use Rattle.sq_module.specs.declared.program.DeclaredCursor.{DeclaredCursor}
 use Rattle.sq_module.specs.declared.program.ProcedureName.{ProcedureName}
 use Rattle.sq_module.proofs.Fitting.{all_last}
-use Rattle.sq_module.proofs.Named.{bound_declared, named_in_text}
+use Rattle.sq_module.proofs.Named.{IsNext, IsOnlyIn, bound_declared, named_in_text}
 use Rattle.sq_module.proofs.Written.{all_entries}
 
 -- ---- statements

@@ -1,3 +1,4 @@
+pub mod Added
 pub mod Apart
 pub mod Computed
 pub mod Fitting

@@ -3,7 +3,7 @@
 use Rattle.std.proofs.Common.{◌≡◌, ◌∙◌, ℕ, zero, suc, ◌+◌, ◌<◌, Bool, true, false, cond, ◌||◌, if◌then◌else◌, List, [], ◌∷◌, ◌++◌, length, get_or, take, map, Option, Some, None, IfSome, Result, Ok, Err, slice_get, refl, sym, ap, ap₂, subst, arith}
 use Rattle.std.proofs.lemmas.List.{append-nil, map-append}
 use Rattle.std.proofs.lemmas.List.Folds.{list_any-append}
-use Rattle.std.specs.List.{list_any}
+use Rattle.std.specs.List.{IsAmong, list_any}
 use Rattle.std.specs.Map.{lookup}
 use Rattle.std.specs.Option.{option_and_then, option_map}
 use Rattle.std.specs.Prelude.{count_by, filter, filter_map, find, flat_map, unwrap_or}
@@ -16,6 +16,7 @@ use Rattle.sq_lex.specs.declared.name.Name.{Name}
 use Rattle.sq_tree.specs.declared.module.Cursor.{Cursor}
 use Rattle.sq_tree.specs.declared.module.Declaration.{Declaration}
 use Rattle.sq_tree.specs.declared.module.Declaration.TheVariants as declaration
+use Rattle.sq_tree.specs.declared.module.ModuleItem.TheVariants as item
 use Rattle.sq_tree.specs.declared.module.ModuleText.{ModuleText}
 use Rattle.sq_tree.specs.declared.module.Procedure.{Procedure}
 use Rattle.sq_tree.specs.declared.statement.Statement.{Statement}
@@ -38,7 +39,7 @@ use Rattle.sq_binder.specs.Binds.{Binds}
 use Rattle.sq_promises.specs.Names.{declared}
 use Rattle.sq_promises.specs.Seen.{cursor_seen}
 use Rattle.sq_module.specs.Admitted.{OpensEachOnce, admitted_written, opened_of, openings}
-use Rattle.sq_module.specs.Named.{AreNamed, AreNamedAs, IsNext, IsOnlyIn, cursor_at, cursors_named, number_in, numbered_as, opened_so_far}
+use Rattle.sq_module.specs.Named.{AreNamed, AreNamedAs, cursor_at, cursors_named, number_in, numbered_as, opened_so_far}
 use Rattle.sq_module.specs.Opened.{AreThere}
 use Rattle.sq_module.specs.Refusal.{is_some_name, opened_by}
 use Rattle.sq_module.specs.Written.{Declare, IsOfText, IsProcedureOf, named_as, named_in}
@@ -50,6 +51,23 @@ use Rattle.sq_module.proofs.Listed.{found_named, found_written}
 use Rattle.sq_module.proofs.Openers.{or_false, or_true}
 use Rattle.sq_module.proofs.Opening.{lookup_inserted, lookup_other, number_there}
 use Rattle.sq_module.proofs.Written.{all_at}
+
+-- a cursor of the module that a procedure opens is opened by none before it, and bound for its parameters
+abbrev pub IsOnlyIn : ModuleText → List AdmittedProcedure → AdmittedProcedure → Type 0
+IsOnlyIn m before p = IfSome (opened_of p) (λ name. IfSome (cursor_named m name)
+    (λ c. (list_any (is_some_name name) (openings before) ≡ false)
+    × (opener_parameters m c.name ≡ declared p.parameters)))
+
+-- what is bound is the cursor of this name in the module, which a procedure opens, and none before it
+pub record IsNext (names : UserNames) (m : ModuleText) (before : List AdmittedProcedure)
+    (p : AdmittedProcedure) (name : Name) (bound : Result BoundCursor Stop) : Type 0 where
+  pub opens : opened_of p ≡ Some name
+  pub new : list_any (is_some_name name) (openings before) ≡ false
+  pub cursor : Cursor
+  pub is_cursor : cursor_named m name ≡ Some cursor
+  pub is_item : IsAmong m.items (item.Cursor cursor)
+  pub is_named : cursor.name ≡ name
+  pub binds : Binds cursor_seen (cursor_bound names (opener_parameters m cursor.name) cursor) bound
 
 -- ---- parameters
 

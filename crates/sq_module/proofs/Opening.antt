@@ -2,7 +2,7 @@
 use Rattle.std.proofs.Common.{◌≡◌, ℕ, zero, suc, ◌+◌, ◌<◌, ◌≤◌, Bool, true, false, ◌&&◌, if◌then◌else◌, List, [], ◌∷◌, ◌++◌, length, length-append, nat_lt, get_or, append_assoc, Option, Some, None, IfSome, slice_get, Result, Ok, Err, IfOk, refl, sym, ap, ap₂, ◌∙◌, subst, arith}
 use Rattle.std.proofs.lemmas.Bool.{and_parts, lt-ltb, ltb-true}
 use Rattle.std.specs.Cmp.Lexicographic.{same_text}
-use Rattle.std.specs.List.{list_all}
+use Rattle.std.specs.List.{AllByRecursion, list_all}
 use Rattle.std.specs.Map.{lookup}
 use Rattle.indexmap.specs.IndexMap.{insert_entry}
 use Rattle.sq_bound.specs.Known.{KnownTables}
@@ -23,13 +23,18 @@ use Rattle.sq_binding.proofs.SameParameters.{name_itself}
 use Rattle.sq_promises.specs.Written.{IsStatementOf}
 use Rattle.sq_module.specs.Admitted.{opened_of}
 use Rattle.sq_module.specs.Computed.{as_bound}
-use Rattle.sq_module.specs.Opened.{AreOpenable, AreThere, Grow, HaveKinds, IsOpenable}
+use Rattle.sq_module.specs.Opened.{AreOpenable, AreThere, Grow, IsOpenable}
 use Rattle.sq_module.specs.Program.{OpensWellFormed, ProcedureOpens, ProceduresOpen}
 use Rattle.sq_module.specs.Refusal.{is_some_name, opened_by}
 use Rattle.sq_module.specs.declared.admission.AdmittedProcedure.{AdmittedProcedure}
 use Rattle.sq_module.specs.declared.program.BoundProcedure.{BoundProcedure}
 use Rattle.sq_module.specs.declared.program.DeclaredCursor.{DeclaredCursor}
 use Rattle.sq_module.specs.declared.program.ProcedureName.{ProcedureName}
+
+-- the procedures that open the cursor of this name have parameters of these kinds
+abbrev pub HaveKinds : Name → List Kind → List AdmittedProcedure → Type 0
+HaveKinds name kinds =
+    AllByRecursion (λ p. is_some_name name (opened_of p) ≡ true → kinds_of_parameters p.parameters ≡ kinds)
 
 -- what is known of the one at a place is known among more, too
 pub there_still : {X : Type 0} (P : X → Type 0) (xs more : List X) (i : ℕ) → Has P (well_formed (slice_get xs i)) → Has P (well_formed (slice_get (xs ++ more) i))

@@ -1,6 +1,6 @@
 -- The refusal of a module that is answered is the first, by the definitions.
 use Rattle.std.proofs.Common.{◌≡◌, ℕ, ◌+◌, ◌<◌, ◌≤◌, Bool, true, false, not, cond, List, [], ◌∷◌, ◌++◌, Option, Some, None, Result, Ok, Err, length, get_or, map, take, drop, refl, ap, sym, subst, ◌∙◌, arith}
-use Rattle.std.specs.Prelude.{◌==◌, IfErr, IsErrAnd, count_by, filter_map, if◌then◌else◌, position}
+use Rattle.std.specs.Prelude.{◌==◌, IfErr, IfOk, IsErrAnd, MatchResult, count_by, filter_map, if◌then◌else◌, position}
 use Rattle.std.specs.List.{enumerate_from, list_any}
 use Rattle.std.specs.Option.{option_or}
 use Rattle.std.specs.Cmp.Lexicographic.{nat_list_eq_equiv}
@@ -68,6 +68,15 @@ fault_there text i why So (Refused r) h so = let same : refusal_of r ≡ record 
 pub handed : {A : Type 0} (P : SessionFault → Type 0) (r : Result A SessionFault) (f : SessionFault) → IsErrAnd r (λ g. g ≡ f) → P f → IfErr r P
 handed P (Ok x) f is h = tt
 handed P (Err g) f is h = subst P (sym is) h
+
+-- the two halves of an answer
+pub if_taken : {A : Type 0} (found : Option Refusal) (r : Result A SessionFault) → MatchResult r (λ _. found ≡ None) (IsFaultFor found) → IfOk r (λ _. found ≡ None)
+if_taken found (Ok x) h = h
+if_taken found (Err f) h = tt
+
+pub if_refused : {A : Type 0} (found : Option Refusal) (r : Result A SessionFault) → MatchResult r (λ _. found ≡ None) (IsFaultFor found) → IfErr r (IsFaultFor found)
+if_refused found (Ok x) h = tt
+if_refused found (Err f) h = h
 
 -- ---- how many procedures open a cursor
 

@@ -38,10 +38,20 @@ use Rattle.sq_module.specs.declared.program.ProcedureName.{ProcedureName}
 use Rattle.sq_module.specs.Admitted.{OpensEachOnce}
 use Rattle.sq_module.specs.Opened.{Grow}
 use Rattle.sq_module.specs.Program.{same_procedure}
-use Rattle.sq_module.specs.Written.{AreFromTexts, AreNumbers, AreOfTexts, IsBoundFrom, IsCursorIn, IsCursorNamed, IsDeclaredFrom, IsFromTexts, IsNumberOf, IsOfText, IsOpenedIn, IsStatementIn}
+use Rattle.sq_module.specs.Written.{AreFromTexts, AreNumbers, AreOfTexts, IsBoundFrom, IsCursorIn, IsDeclaredFrom, IsFromTexts, IsNumberOf, IsOfText, IsOpenedIn, IsStatementIn}
 use Rattle.sq_module.proofs.Fitting.{all_last}
 use Rattle.sq_module.proofs.Names.{flat_more}
 use Rattle.sq_module.proofs.Opening.{last_there, there_still}
+
+-- a cursor, if it has no fault, is bound from the one of this name in the module
+pub record IsCursorNamed (names : KnownTables) (m : ModuleText) (name : Name)
+    (bound : Result BoundCursor Stop) : Type 0 where
+  pub cursor : Cursor
+  pub among : IsAmong m.items (item.Cursor cursor)
+  pub named : cursor.name ≡ name
+  pub parameters : List ParameterDesc
+  pub opened : IsOpenedIn m name parameters
+  pub bound_is : IfOk bound (IsCursorOf names m.authorization parameters cursor)
 
 -- ---- names
 

@@ -3,15 +3,12 @@ use Rattle.std.specs.Prelude.{◌≡◌, ℕ, Bool, true, false, List, ◌++◌,
 use Rattle.std.specs.List.{AllByRecursion, list_all, list_any}
 use Rattle.std.specs.Map.{lookup}
 use Rattle.sq_lex.specs.declared.name.Name.{Name}
-use Rattle.sq_value.specs.declared.domain.Kind.{Kind}
 use Rattle.sq_meaning.specs.Environment.{same_name}
 use Rattle.sq_bound.specs.WellFormed.{TableKinds, kinds_of_parameters}
 use Rattle.sq_bound.specs.declared.statement.BoundStatement.TheVariants as statement
 use Rattle.sq_module.specs.Admitted.{opened_of, openings}
 use Rattle.sq_module.specs.Program.{OpensWellFormed}
 use Rattle.sq_module.specs.Refusal.{is_some_name}
-use Rattle.sq_module.specs.Written.{is_cursor}
-use Rattle.sq_module.specs.declared.admission.AdmittedModule.{AdmittedModule}
 use Rattle.sq_module.specs.declared.admission.AdmittedProcedure.{AdmittedProcedure}
 use Rattle.sq_module.specs.declared.program.DeclaredCursor.{DeclaredCursor}
 
@@ -23,17 +20,6 @@ IsOpenable table_kinds cursors numbers p = IfSome (opened_of p)
 
 abbrev pub AreOpenable : TableKinds → List DeclaredCursor → List (Name × ℕ) → List AdmittedProcedure → Type 0
 AreOpenable table_kinds cursors numbers = AllByRecursion (IsOpenable table_kinds cursors numbers)
-
--- the procedures that open the cursor of this name have parameters of these kinds
-abbrev pub HaveKinds : Name → List Kind → List AdmittedProcedure → Type 0
-HaveKinds name kinds =
-    AllByRecursion (λ p. is_some_name name (opened_of p) ≡ true → kinds_of_parameters p.parameters ≡ kinds)
-
--- a cursor of the module that a procedure opens is opened with no other parameters
-abbrev pub IsOnlyOpener : AdmittedModule → List AdmittedProcedure → AdmittedProcedure → Type 0
-IsOnlyOpener a procedures p = IfSome (opened_of p)
-    (λ name. IfSome (lookup (same_name name) a.cursors.entries)
-    (λ c. HaveKinds name (kinds_of_parameters p.parameters) procedures))
 
 -- cursors come behind those that were there
 abbrev pub Grow : List DeclaredCursor → List DeclaredCursor → Type 0
@@ -59,13 +45,3 @@ OpenedBy «module» procedures cursors =
     AllByRecursion (λ c. is_in «module» c ≡ true → list_any (is_some_name c.name) (openings procedures)
     ≡ true)
     cursors
-
--- the cursor of this name in the module is not there
-abbrev pub IsNew : Name → List DeclaredCursor → Name → Type 0
-IsNew «module» cursors name = list_any (is_cursor «module» name) cursors ≡ false
-
--- the cursor that a procedure opens is not there, if the module has one of that name
-abbrev pub OpensNew : AdmittedModule → List DeclaredCursor → AdmittedProcedure → Type 0
-OpensNew a cursors p =
-    IfSome (opened_of p) (λ name. IfSome (lookup (same_name name) a.cursors.entries)
-    (λ c. IsNew a.name cursors name))

@@ -1,5 +1,5 @@
 -- That what is admitted and bound is what the module texts say (ISO/IEC 9075:1992, 12.1, 12.3 and 13.1).
-use Rattle.std.specs.Prelude.{◌≡◌, ⊤, ℕ, Bool, false, ◌&&◌, List, [], ◌∷◌, ◌++◌, Option, Some, Result, IfOk, flat_map, map, slice_get}
+use Rattle.std.specs.Prelude.{◌≡◌, ⊤, ℕ, Bool, false, ◌&&◌, List, [], ◌∷◌, ◌++◌, Option, Some, IfOk, flat_map, map, slice_get}
 use Rattle.std.specs.Borrow.{Bor}
 use Rattle.std.specs.List.{AllByRecursion, IsAmong, list_any}
 use Rattle.sq_bound.specs.Known.{KnownTables}
@@ -19,8 +19,6 @@ use Rattle.sq_meaning.specs.Spelled.{domain_of}
 use Rattle.sq_meaning.specs.Status.{well_formed}
 use Rattle.sq_meaning.specs.WellFormed.{Has}
 use Rattle.sq_bound.specs.declared.names.ParameterDesc.{ParameterDesc}
-use Rattle.sq_binder.specs.declared.stop.Stop.{Stop}
-use Rattle.sq_bound.specs.declared.query.BoundCursor.{BoundCursor}
 use Rattle.sq_bound.specs.declared.statement.BoundStatement.{BoundStatement}
 use Rattle.sq_promises.specs.Written.{IsCursorOf, IsStatementOf}
 use Rattle.sq_rules.specs.Module as rules
@@ -154,13 +152,3 @@ pub record IsOfTexts (names : KnownTables) (texts : List ModuleText) (p : Progra
 -- the numbers so far are those of cursors of the module
 abbrev pub AreNumbers : KnownTables → ModuleText → List DeclaredCursor → List (Name × ℕ) → Type 0
 AreNumbers names m cursors numbers = AllByRecursion (λ e. IsNumberOf names m cursors e.0 e.1) numbers
-
--- a cursor, if it has no fault, is bound from the one of this name in the module
-pub record IsCursorNamed (names : KnownTables) (m : ModuleText) (name : Name)
-    (bound : Result BoundCursor Stop) : Type 0 where
-  pub cursor : Cursor
-  pub among : IsAmong m.items (item.Cursor cursor)
-  pub named : cursor.name ≡ name
-  pub parameters : List ParameterDesc
-  pub opened : IsOpenedIn m name parameters
-  pub bound_is : IfOk bound (IsCursorOf names m.authorization parameters cursor)

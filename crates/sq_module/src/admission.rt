@@ -1,7 +1,7 @@
 //! Which modules are refused (ISO/IEC 9075:1992, 12.1 to 12.3 and 13.1; that exactly one procedure opens each cursor is an
 //! own rule).
 
-ghost use Rattle.std.specs.Prelude.{◌≡◌, [], ◌∷◌, ◌++◌, true, false, IfErr, IfOk, None, OnOk, Some, filter_map, flat_map, length, map, not, position};
+ghost use Rattle.std.specs.Prelude.{◌≡◌, [], ◌∷◌, ◌++◌, true, false, IfErr, IfOk, MatchResult, None, OnOk, Some, filter_map, flat_map, length, map, not, position};
 ghost use Rattle.std.specs.List.{AllByRecursion, list_any};
 ghost use Rattle.sq_meaning.specs.Environment.{same_name};
 ghost use Rattle.sq_module.specs.declared.admission.AdmittedModule.{AdmittedModule as Admitted};
@@ -79,8 +79,8 @@ fn admit_all<'a>(
     ensures admitted { IfOk result (λ admitted. AreAdmitted [] admitted.items) }
     ensures admissible { IfOk result (λ _. AreAdmissible modules.now) }
     ensures refused { IfErr result (IsOfSomeModule (length modules.now)) }
-    ensures taken { IfOk result (λ _. first_module_refusal modules.now ≡ None) }
-    ensures first { IfErr result (IsFaultFor (first_module_refusal modules.now)) }
+    ensures first { MatchResult result (λ _. first_module_refusal modules.now ≡ None)
+        (IsFaultFor (first_module_refusal modules.now)) }
 {
     let mut admitted = Vec::new(alloc);
     for (text, module) in modules.iter().enumerate() {
@@ -101,8 +101,8 @@ fn admit_next<'a>(
     text: usize,
     module: &'a ModuleText,
 ) -> Result<(), SessionFault>
-    ensures new { OnOk result (list_any (same_name «module».now.name) names.old.keys ≡ false) }
-    ensures last { OnOk result (names.new.keys ≡ names.old.keys ++ «module».now.name ∷ []) }
+    ensures new { OnOk result ((list_any (same_name «module».now.name) names.old.keys ≡ false)
+        × (names.new.keys ≡ names.old.keys ++ «module».now.name ∷ [])) }
     ensures names { OnOk result (AreNew [] (names_in «module».now.items)) }
     ensures declared { OnOk result
         (admitted_procedures admitted.new.items ≡ admitted_procedures admitted.old.items ++ module_procedures

@@ -1,27 +1,11 @@
 //! The cursors of a module in a program: each is bound for the procedure that opens it (ISO/IEC 9075:1992, 13.1 and 13.2).
 
-ghost use Rattle.std.specs.Prelude.{◌≡◌, [], ◌∷◌, ◌++◌, IfOk, List, OnOk, Some, false, length, true};
-ghost use Rattle.std.specs.List.{IsAmong, list_any};
-ghost use Rattle.sq_binding.specs.Changeable.{UserNames};
-ghost use Rattle.sq_bound.specs.Known.{KnownTables};
-ghost use Rattle.sq_lex.specs.declared.name.Name.{Name as AnyName};
-ghost use Rattle.sq_module.specs.Refusal.{is_some_name};
-ghost use Rattle.sq_module.specs.declared.admission.AdmittedProcedure.{AdmittedProcedure as AnyProcedure};
-ghost use Rattle.sq_tree.specs.declared.module.ModuleText.{ModuleText};
-ghost use Rattle.sq_module.specs.Added.{IsInOrder};
-ghost use Rattle.sq_module.specs.Computed.{AreComputedCursors, IsPart};
-ghost use Rattle.sq_module.specs.Named.{AreNamed, IsNext, IsOnlyIn};
-ghost use Rattle.sq_module.specs.Written.{AreApart, AreNumbers, IsCursorNamed, IsOfText, IsProcedureOf};
-ghost use Rattle.sq_bound.specs.Fits.{FitsCursor};
-ghost use Rattle.sq_bound.specs.WellFormed.{IsCursor, TableKinds};
-ghost use Rattle.sq_bound.specs.declared.names.BaseTable.{BaseTable};
-ghost use Rattle.sq_catalog.specs.Catalog.{column_kinds, known};
-ghost use Rattle.sq_catalog.specs.UserTables.{names_in};
-ghost use Rattle.sq_module.specs.Admitted.{OpensEachOnce, openings};
-ghost use Rattle.sq_module.specs.Opened.{AreOfOthers, AreOpenable, AreThere, Grow, HaveKinds, IsNew, IsOnlyOpener, OpenedBy, OpensNew};
-ghost use Rattle.sq_module.specs.Program.{FitsProgram, ProgramIsWellFormed};
-ghost use Rattle.sq_value.specs.declared.domain.Kind.{Kind};
-ghost use Rattle.sq_meaning.specs.Environment.{same_name};
+ghost use Rattle.std.specs.Prelude.{◌≡◌, ◌+◌, ℕ, [], IfOk, List, OnOk, take, true};
+ghost use Rattle.sq_module.specs.Added.{AddsCursor, HasCursors, IsInOrder, IsProcedureAt};
+ghost use Rattle.sq_module.specs.Admitted.{OpensEachOnce};
+ghost use Rattle.sq_module.specs.Computed.{IsPart};
+ghost use Rattle.sq_module.specs.Opened.{AreOfOthers};
+ghost use Rattle.sq_module.specs.declared.program.DeclaredCursor.{DeclaredCursor as AnyCursor};
 
 use crate::admission::{AdmittedModule, AdmittedProcedure};
 use crate::bound::bound_cursor;
@@ -47,30 +31,9 @@ impl Program {
         requires in_order { IsInOrder catalog.now self.old }
         requires others { AreOfOthers «module».now.name self.old.cursors.items }
         requires once { OpensEachOnce «module».now }
-
-        // Other cursors stay where they are, and procedures as they are; each number is of a cursor.
         ensures procedures { self.new.procedures ≡ self.old.procedures }
-        ensures grows { OnOk result (Grow self.old.cursors.items self.new.cursors.items) }
-        ensures there { OnOk result (AreThere (length self.new.cursors.items) numbers.new.entries) }
-        ensures others { (name : AnyName) → same_name name «module».now.name ≡ false
-            → AreOfOthers name self.old.cursors.items
-            → OnOk result (AreOfOthers name self.new.cursors.items) }
-
-        // What is bound fits the catalog and is well formed.
-        ensures in_order { OnOk result (IsInOrder catalog.now self.new) }
-        ensures openable { OnOk result (AreOpenable (column_kinds catalog.now) self.new.cursors.items
-            numbers.new.entries «module».now.procedures.items) }
-
-        // What is bound is what the text says, and what is computed of it.
-        ensures written { (m : ModuleText) → IsOfText m «module».now
-            → OnOk result (AreNumbers (known catalog.now) m self.new.cursors.items numbers.new.entries) }
-        ensures named { (m : ModuleText) → IsOfText m «module».now
-            → OnOk result (AreNamed (names_in catalog.now m.authorization) m
-            «module».now.procedures.items self.new.cursors.items numbers.new.entries) }
-        ensures computed { (texts : List ModuleText) (m : ModuleText) → IsAmong texts m
-            → IsOfText m «module».now
-            → AreComputedCursors (names_in catalog.now) texts self.old.cursors.items
-            → OnOk result (AreComputedCursors (names_in catalog.now) texts self.new.cursors.items) }
+        ensures opened { OnOk result (HasCursors catalog.now «module».now self.old.cursors.items
+            «module».now.procedures.items self.new numbers.new.entries) }
     {
         for opener in module.procedures.as_slice() {
             self.add_opened(alloc, catalog, module, opener, numbers)?;
@@ -80,7 +43,6 @@ impl Program {
 
     /// Adds the cursor that a procedure opens, if it is one of the module, with its number, if it has no fault. Its parameters
     /// are those of that procedure.
-    #[tactic(auto, using(crate::proofs::Apart::opened_by_more))]
     fn add_opened(
         &mut self,
         alloc: Global,
@@ -89,43 +51,13 @@ impl Program {
         opener: &AdmittedProcedure<'_>,
         numbers: &mut IndexMap<Name, usize>,
     ) -> Result<(), AllocError>
-        requires in_order { IsInOrder catalog.now self.old }
-        requires there { AreThere (length self.old.cursors.items) numbers.old.entries }
-        requires new { OpensNew «module».now self.old.cursors.items opener.now }
-
-        // Other cursors stay where they are, and procedures as they are; each number is of a cursor.
+        requires once { OpensEachOnce «module».now }
         ensures procedures { self.new.procedures ≡ self.old.procedures }
-        ensures grows { OnOk result (Grow self.old.cursors.items self.new.cursors.items) }
-        ensures there { OnOk result (AreThere (length self.new.cursors.items) numbers.new.entries) }
-        ensures others { (name : AnyName) → same_name name «module».now.name ≡ false
-            → AreOfOthers name self.old.cursors.items
-            → OnOk result (AreOfOthers name self.new.cursors.items) }
-        ensures opened_by { (before : List AnyProcedure)
-            → OpenedBy «module».now.name before self.old.cursors.items
-            → OnOk result (OpenedBy «module».now.name (before ++ opener.now ∷ []) self.new.cursors.items) }
-
-        // What is bound fits the catalog and is well formed.
-        ensures in_order { OnOk result (IsInOrder catalog.now self.new) }
-        ensures openable { (procedures : List AnyProcedure)
-            → IsOnlyOpener «module».now procedures opener.now
-            → AreOpenable (column_kinds catalog.now) self.old.cursors.items numbers.old.entries procedures
-            → OnOk result (AreOpenable (column_kinds catalog.now) self.new.cursors.items numbers.new.entries
-            procedures) }
-
-        // What is bound is what the text says, and what is computed of it.
-        ensures written { (m : ModuleText) → IsOfText m «module».now → IsProcedureOf m.items opener.now
-            → AreNumbers (known catalog.now) m self.old.cursors.items numbers.old.entries
-            → OnOk result (AreNumbers (known catalog.now) m self.new.cursors.items numbers.new.entries) }
-        ensures named { (m : ModuleText) (before : List AnyProcedure) → IsOfText m «module».now
-            → IsOnlyIn m before opener.now
-            → AreNamed (names_in catalog.now m.authorization) m before self.old.cursors.items
+        ensures opened { (place : ℕ) (others : List AnyCursor) → IsProcedureAt «module».now place opener.now
+            → HasCursors catalog.now «module».now others (take place «module».now.procedures.items) self.old
             numbers.old.entries
-            → OnOk result (AreNamed (names_in catalog.now m.authorization) m
-            (before ++ opener.now ∷ []) self.new.cursors.items numbers.new.entries) }
-        ensures computed { (texts : List ModuleText) (m : ModuleText) (before : List AnyProcedure)
-            → IsAmong texts m → IsOfText m «module».now → IsOnlyIn m before opener.now
-            → AreComputedCursors (names_in catalog.now) texts self.old.cursors.items
-            → OnOk result (AreComputedCursors (names_in catalog.now) texts self.new.cursors.items) }
+            → OnOk result (HasCursors catalog.now «module».now others
+            (take (place + 1) «module».now.procedures.items) self.new numbers.new.entries) }
     {
         let Statement::Open(name) = &opener.procedure.statement else {
             return Ok(());
@@ -148,51 +80,9 @@ impl Program {
         name: Name,
         bound: Result<BoundCursor, Stop>,
     ) -> Result<(), AllocError>
-        requires there { AreThere (length self.old.cursors.items) numbers.old.entries }
-        requires new { IsNew «module».now.name self.old.cursors.items name }
-        requires apart { AreApart [] self.old.cursors.items }
-
-        // Other cursors stay where they are, and procedures as they are; each number is of a cursor.
         ensures procedures { self.new.procedures ≡ self.old.procedures }
-        ensures grows { OnOk result (Grow self.old.cursors.items self.new.cursors.items) }
-        ensures there { OnOk result (AreThere (length self.new.cursors.items) numbers.new.entries) }
-        ensures apart { OnOk result (AreApart [] self.new.cursors.items) }
-        ensures others { (name : AnyName) → same_name name «module».now.name ≡ false
-            → AreOfOthers name self.old.cursors.items
-            → OnOk result (AreOfOthers name self.new.cursors.items) }
-        ensures opened_by { (procedures : List AnyProcedure)
-            → list_any (is_some_name name) (openings procedures)
-            ≡ true
-            → OpenedBy «module».now.name procedures self.old.cursors.items
-            → OnOk result (OpenedBy «module».now.name procedures self.new.cursors.items) }
-
-        // What is bound fits the catalog and is well formed.
-        ensures fits { (bases : List BaseTable) → FitsProgram bases self.old → IfOk bound (FitsCursor bases)
-            → OnOk result (FitsProgram bases self.new) }
-        ensures well_formed { (table_kinds : TableKinds) (parameters : List Kind)
-            → ProgramIsWellFormed table_kinds self.old
-            → IfOk bound (IsCursor table_kinds parameters)
-            → OnOk result (ProgramIsWellFormed table_kinds self.new) }
-        ensures openable { (table_kinds : TableKinds) (kinds : List Kind) (procedures : List AnyProcedure)
-            → IfOk bound (IsCursor table_kinds kinds)
-            → HaveKinds name kinds procedures
-            → AreOpenable table_kinds self.old.cursors.items numbers.old.entries procedures
-            → OnOk result (AreOpenable table_kinds self.new.cursors.items numbers.new.entries procedures) }
-
-        // What is bound is what the text says, and what is computed of it.
-        ensures written { (names : KnownTables) (m : ModuleText) → IsOfText m «module».now
-            → IsCursorNamed names m name bound
-            → AreNumbers names m self.old.cursors.items numbers.old.entries
-            → OnOk result (AreNumbers names m self.new.cursors.items numbers.new.entries) }
-        ensures named { (names : UserNames) (m : ModuleText) (before : List AnyProcedure) (p : AnyProcedure)
-            → IsNext names m before p name bound
-            → AreNamed names m before self.old.cursors.items numbers.old.entries
-            → OnOk result (AreNamed names m (before ++ p ∷ []) self.new.cursors.items numbers.new.entries) }
-        ensures computed { (names : AnyName → UserNames) (texts : List ModuleText) (m : ModuleText)
-            (before : List AnyProcedure) (p : AnyProcedure) → IsAmong texts m → IsOfText m «module».now
-            → IsNext (names m.authorization) m before p name bound
-            → AreComputedCursors names texts self.old.cursors.items
-            → OnOk result (AreComputedCursors names texts self.new.cursors.items) }
+        ensures adds { OnOk result (AddsCursor «module».now name bound self.old.cursors.items
+            numbers.old.entries self.new.cursors.items numbers.new.entries) }
     {
         match without_fault(bound)? {
             Some(cursor) => {

@@ -1,24 +1,19 @@
 -- What schema and module texts open, step by step.
-use Rattle.std.proofs.Common.{◌≡◌, ◌∙◌, ℕ, List, None, Result, Ok, Err, subst, sym}
+use Rattle.std.proofs.Common.{◌≡◌, ◌∙◌, ℕ, List, Result, Ok, Err, subst, sym}
 use Rattle.std.specs.Prelude.{IfOk}
 use Rattle.sq_tree.specs.Schema.{schema_tokens, schema_depth}
-use Rattle.sq_tree.specs.Module.{module_tokens, module_depth}
-use Rattle.sq_tree.specs.declared.module.ModuleText.{ModuleText}
 use Rattle.sq_tree.specs.declared.schema.SchemaText.{SchemaText}
-use Rattle.sq_rules.specs.ModuleRefusal.{first_module_refusal}
 use Rattle.sq_model.specs.Report.{Bytes}
 use Rattle.sq_catalog.specs.Catalog.{Catalog, declared_tables, known}
 use Rattle.sq_declaring.specs.Declaring.{catalog_of}
 use Rattle.sq_catalog.specs.Declares.{Declares}
 use Rattle.sq_catalog.specs.Exact.{declared}
 use Rattle.sq_catalog.specs.UserTables.{NamesStand, names_in}
-use Rattle.sq_module.specs.Program.{declared_procedures}
-use Rattle.sq_session.specs.Schemas.{Schemas, schemas_of}
-use Rattle.sq_session.specs.Session.{IsOfModules, Session, names_of}
+use Rattle.sq_session.specs.Schemas.{Schemas}
+use Rattle.sq_session.specs.Session.{Session}
 use Rattle.sq_perform.specs.Fault.{TextFault}
 use Rattle.sq_perform.specs.Opened.{Defined, Holds, Opened}
 use Rattle.sq_perform.specs.Refused.{AreDeclared}
-use Rattle.sq_perform.specs.Run.{IsStart}
 use Rattle.sq_perform.specs.Texts.{AllSpell}
 
 pub defined_if : (schemas : List Bytes) (trees : List SchemaText) (answer : Result Catalog TextFault) → AllSpell schema_tokens schema_depth schemas trees
@@ -34,14 +29,6 @@ declared_by schemas trees c spelled exact = record { trees = trees; spelled = sp
 
 pub declared_by_defined : (schemas : List Bytes) (c : Catalog) → Defined schemas c → AreDeclared schemas
 declared_by_defined schemas c d = declared_by schemas d.trees c d.spelled d.is_catalog
-
-pub holds_if : (row_numbers : ℕ) (c : Catalog) (modules : List Bytes) (trees : List ModuleText) (answer : Result Session TextFault) → AllSpell module_tokens module_depth modules trees
-    → IfOk answer (λ s. s.tables ≡ c.tables) → IfOk answer (λ s. s.schemas ≡ schemas_of c) → IfOk answer (λ s. names_of s.procedures ≡ declared_procedures trees)
-    → IfOk answer (IsOfModules (known c) (names_in c) trees) → IfOk answer (λ s. first_module_refusal trees ≡ None) → IfOk answer (IsStart row_numbers)
-    → IfOk answer (Holds row_numbers c modules)
-holds_if row_numbers c modules trees (Ok s) spelled tables schemas procedures written admitted start =
-    record { trees = trees; spelled = spelled; tables_are = tables; schemas_are = schemas; procedures = procedures; written = written; admitted = admitted; start = start }
-holds_if row_numbers c modules trees (Err fault) spelled tables schemas procedures written admitted start = tables
 
 pub opened_by : (row_numbers : ℕ) (schemas modules : List Bytes) (c : Catalog) (s : Session) → Defined schemas c → Holds row_numbers c modules s → Opened row_numbers schemas modules s
 opened_by row_numbers schemas modules c s defined holds = record {

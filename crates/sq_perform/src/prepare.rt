@@ -147,7 +147,6 @@ fn refused_part(tree: &SchemaText, schema: usize, element: Option<usize>) -> usi
 }
 
 /// A session of the modules over the tables of a catalog.
-#[tactic(auto, using(crate::proofs::Opened::holds_if))]
 fn session_of<S: Store>(
     alloc: Global,
     catalog: Catalog,
@@ -181,12 +180,7 @@ fn session_from<S: Store>(
 ) -> Result<Session<S>, TextFault>
     requires numbers { limits.row_numbers ≤ MOST_ROW_NUMBERS }
     requires spelled { AllSpell module_tokens module_depth (texts modules.now) trees.now }
-    ensures tables { IfOk result (λ s. s.tables ≡ catalog.tables) }
-    ensures procedures { IfOk result (λ s. names_of s.procedures ≡ declared_procedures trees.now) }
-    ensures schemas { IfOk result (λ s. s.schemas ≡ schemas_of catalog) }
-    ensures written { IfOk result (IsOfModules (known catalog) (names_in catalog) trees.now) }
-    ensures start { IfOk result (IsStart limits.row_numbers) }
-    ensures admitted { IfOk result (λ _. first_module_refusal trees.now ≡ None) }
+    ensures holds { IfOk result (Holds limits.row_numbers catalog (texts modules.now)) }
     ensures refused { IfErr result (SomeRefused module_tokens module_depth (texts modules.now)) }
     ensures first { IfErr result (IsModuleFault (texts modules.now)) }
 {

@@ -1,13 +1,15 @@
 -- What the parts of a statement ask for, where the statement is well formed and its parameters have values of their kinds.
 use Rattle.std.proofs.Common.{◌≡◌, ◌<◌, ℕ, zero, suc, Bool, true, false, if◌then◌else◌, List, [], ◌∷◌, length, get_or, None, Result, Ok, Err, IfOk, sym, subst, arith}
+use Rattle.std.specs.List.{AllByRecursion}
 use Rattle.sq_lex.specs.declared.name.Name.{Name}
 use Rattle.sq_value.specs.declared.domain.Kind.{Kind}
 use Rattle.sq_value.specs.declared.value.Value.{Value}
 use Rattle.sq_store.specs.Content.{Content}
 use Rattle.sq_meaning.specs.Status.{Outcome}
-use Rattle.sq_bound.specs.Fits.{AreInDomains, under}
+use Rattle.sq_bound.specs.Fits.{AreInDomains, IsColumnOf, are_columns, under}
 use Rattle.sq_meaning.specs.WellFormed.{AreRowsOf}
 use Rattle.sq_bound.specs.WellFormed.{IsChangeTarget, IsCursor, IsStatement, TableKinds, kinds_of_query, kinds_of_results}
+use Rattle.sq_bound.specs.declared.names.BaseTable.{BaseTable}
 use Rattle.sq_bound.specs.declared.query.BoundCursor.{BoundCursor}
 use Rattle.sq_bound.specs.declared.query.BoundQuery.{BoundQuery}
 use Rattle.sq_bound.specs.declared.query.Target.{Target}
@@ -17,14 +19,16 @@ use Rattle.sq_bound.specs.declared.statement.BoundUpdate.{BoundUpdate}
 use Rattle.sq_bound.specs.declared.statement.ChangeTarget.{ChangeTarget}
 use Rattle.sq_catalog.specs.Catalog.{Catalog, column_kinds}
 use Rattle.sq_change.specs.Given.{MayAssign, MayChoose, MayGive}
+use Rattle.sq_change.specs.Statement.{IsConsistent}
 use Rattle.sq_module.specs.Program.{OpensWellFormed}
 use Rattle.sq_module.specs.declared.program.DeclaredCursor.{DeclaredCursor}
 use Rattle.sq_expression.specs.declared.fault.Fault.{Fault}
-use Rattle.sq_session.specs.Cursors.{HasKept, HasListed, MayKeep}
+use Rattle.sq_session.specs.Cursors.{HasKept, HasListed, IsWhole, MayKeep}
 use Rattle.sq_session.specs.Kind.{Over, over_target}
 use Rattle.sq_session.specs.Open.{HasOpened, IsOpenOver, TargetIsMeant, numbers_opened, walk_before}
 use Rattle.sq_session.specs.Parameter.{AreGiven}
 use Rattle.sq_session.specs.Schemas.{Schemas}
+use Rattle.sq_session.specs.State.{State}
 use Rattle.sq_session.specs.declared.cursor.CursorState.{CursorState}
 use Rattle.sq_session.specs.declared.cursor.CursorState.TheVariants as cursor
 use Rattle.sq_session.proofs.Reading.{some_tables}
@@ -45,8 +49,22 @@ may_choose c tables user kinds values t given in_domains h =
     record { parameters = kinds; tables = some.0; reads = some.1; target = h }
 
 pub may_assign : (columns : TableKinds) (cursors : List (List Kind)) (kinds : List Kind) (values : List Value) (u : BoundUpdate) → AreGiven kinds values
-    → IsStatement columns cursors kinds (statement.Update u) → MayAssign columns values (under u.target).table u.assignments
-may_assign columns cursors kinds values u given h = record { parameters = kinds; inputs = given_row kinds values given; assigned = h.1 }
+    → IsStatement columns cursors kinds (statement.Update u) → are_columns (length (under u.target).table.columns) u.assignments ≡ true → AllByRecursion (λ a. IsColumnOf (under u.target).table a.column) u.assignments
+    → MayAssign columns values (under u.target).table u.assignments
+may_assign columns cursors kinds values u given h there own = record {
+  parameters = kinds;
+  inputs = given_row kinds values given;
+  assigned = h.1;
+  there = there;
+  own = own;
+}
+
+-- the store is consistent where a session is in order
+pub consistent : (columns : TableKinds) (bases : List BaseTable) (declared : List DeclaredCursor) (s : State) → IsWhole columns bases declared s → IsConsistent bases s.tables s.keys
+consistent columns bases declared s whole = record {
+  tables = record { rows = whole.0; in_domains = whole.4; constraints = whole.7 };
+  keys = whole.2;
+}
 
 -- ---- OPEN
 

@@ -1,4 +1,4 @@
-use Rattle.std.proofs.Common.{length, arith, rules, sym, ap}
+use Rattle.std.proofs.Common.{length, arith, refl, rules, sym, ap}
 use Rattle.std.proofs.lemmas.Grind.{common_steps}
 use Rattle.sq_store.specs.Change.{rows_put}
 use Rattle.sq_meaning.specs.Status.{each}
@@ -22,8 +22,10 @@ loop-values-preserved g c = record {
       c.loop-values.values-index c.values-item.result c.in_ok-row.row c.loop-values-test.true c.values-item.is c.loop-values.invariant.meant
       (rw (sym c.as_slice.ensures) c.in_ok-row.ensures.meant) (one_put c.loop-values.changes.items c.push.new.self.items c.in_ok-row.row c.in_ok-push.ensures.items);
   insertions = grind (arith, common_steps);
-  wide = rw c.in_ok-push.ensures.items (wide_inserted (length c.args.table.now.columns) c.loop-values.changes.items c.in_ok-row.row c.loop-values.invariant.wide c.in_ok-row.ensures.wide);
-  in_domains = rw c.in_ok-push.ensures.items (inserted_in c.args.table.now.columns c.loop-values.changes.items c.in_ok-row.row c.loop-values.invariant.in_domains c.in_ok-row.ensures.in_domains);
+  fit = rw c.in_ok-push.ensures.items (record {
+    wide = wide_inserted (length c.args.table.now.columns) c.loop-values.changes.items c.in_ok-row.row c.loop-values.invariant.fit.wide c.in_ok-row.ensures.wide;
+    in_domains = inserted_in c.args.table.now.columns c.loop-values.changes.items c.in_ok-row.row c.loop-values.invariant.fit.in_domains c.in_ok-row.ensures.in_domains;
+  });
   length = grind (arith, common_steps);
 }
 
@@ -31,8 +33,7 @@ pub loop-values-init : goal.loop-values-init
 loop-values-init g c = record {
   meant = made_none (row_completed c.args.setting.now.user c.args.table.now c.args.columns.now) c.args.given.now (new_rows_in c.in_ok-changes.changes) (ap rows_put c.in_ok-changes.ensures.items);
   insertions = search rules;
-  wide = search rules;
-  in_domains = search rules;
+  fit = rw c.in_ok-changes.ensures.items (record { wide = refl; in_domains = tt });
   length = search rules;
 }
 

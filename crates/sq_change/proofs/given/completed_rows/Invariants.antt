@@ -1,6 +1,5 @@
-use Rattle.std.proofs.Common.{◌≡◌, true, length, vec_len}
-use Rattle.sq_store.specs.Change.{rows_put}
-use Rattle.sq_change.specs.Changed.{AreRowsPut, are_insertions, are_wide, new_rows_in}
+use Rattle.std.proofs.Common.{◌≡◌, true, vec_len}
+use Rattle.sq_change.specs.Changed.{FitTable, are_insertions, new_rows_in}
 use Rattle.sq_change.specs.Made.{row_completed}
 use Rattle.sq_change.proofs.InTurn.{MadeTo}
 use Rattle.sq_change.proofs.given.completed_rows.Given as goal
@@ -8,8 +7,7 @@ use Rattle.sq_change.proofs.given.completed_rows.Given as goal
 abbrev pub invariant-loop-values : goal.invariant-loop-values
 invariant-loop-values g l = record {
   insertions : are_insertions l.changes.items ≡ true;
-  wide : are_wide (length l.table.columns) (rows_put l.changes.items) ≡ true;
-  in_domains : AreRowsPut l.table.columns l.changes.items;
+  fit : FitTable l.table l.changes.items;
   meant : MadeTo (row_completed l.setting.user l.table l.columns) l.given l.values-index (new_rows_in l.changes);
   length : vec_len l.changes ≡ l.values-index;
 }

@@ -5,8 +5,6 @@ use Rattle.sq_bound.specs.Fits.{under}
 use Rattle.sq_change.specs.Constraints.{completed}
 use Rattle.sq_change.specs.Made.{Seen, numbers_changed, seen_by}
 use Rattle.sq_change.specs.Statement.{without}
-use Rattle.sq_change.proofs.Applied.{removed_few}
-use Rattle.sq_change.proofs.Domains.{removals_in}
 use Rattle.sq_change.proofs.Endings.{ends_so}
 use Rattle.sq_change.proofs.Obeyed.{keeps_tables}
 use Rattle.sq_change.proofs.OnRows.{leaf_well}
@@ -14,36 +12,30 @@ use Rattle.sq_change.proofs.Outcomes.{stops_as}
 use Rattle.sq_change.proofs.Performed.{delete_meets}
 use Rattle.sq_change.proofs.statement.delete.Goals as goal
 
-pub complete-requires-clause-domains : goal.complete-requires-clause-domains
-complete-requires-clause-domains g c = removals_in _ c.args.target.now c.args.on c.in_ok-changed.changed.changes.items _ c.in_ok-changed.ensures.removals
-
-pub complete-requires-clause-numbers : goal.complete-requires-clause-numbers
-complete-requires-clause-numbers g c = removed_few _ c.args.target.now c.args.on c.in_ok-changed.changed.changes.items _ c.in_ok-changed.ensures.removals
-
 pub deleted-requires-clause-kept : goal.deleted-requires-clause-kept
 deleted-requires-clause-kept g c =
     let is = c.new-setting.ensures in
-    rw (is.names, is.store) (keeps_tables (g.N.Names.base_tables c.args.names.now) (g.S.Store.content_now c.args.store.now) (g.S.Store.key_columns c.args.store.now) c.requires.tables c.requires.in_domains c.requires.keys c.requires.constraints)
+    rw (is.names, is.store) (keeps_tables (g.N.Names.base_tables c.args.names.now) (g.S.Store.content_now c.args.store.now) (g.S.Store.key_columns c.args.store.now) c.requires.kept)
 
-pub deleted-requires-clause-may : goal.deleted-requires-clause-may
-deleted-requires-clause-may g c = let is = c.new-setting.ensures in rw (is.names, is.store, is.user, is.parameters) c.requires.may
+pub deleted-requires-clause-can : goal.deleted-requires-clause-can
+deleted-requires-clause-can g c = let is = c.new-setting.ensures in rw (is.names, is.store, is.user, is.parameters) c.requires.can
 
 pub complete-requires-clause-leaf : goal.complete-requires-clause-leaf
-complete-requires-clause-leaf g c = rw c.leaf_under-leaf.ensures (leaf_well (g.N.Names.column_kinds c.args.names.now) c.requires.may.parameters c.args.target.now c.requires.may.target)
-
-pub complete-requires-clause-there : goal.complete-requires-clause-there
-complete-requires-clause-there g c = c.requires.may.reads.there
+complete-requires-clause-leaf g c =
+    let can = c.requires.can.may in
+    rw c.leaf_under-leaf.ensures
+    (record { there = can.reads.there; well_formed = leaf_well (g.N.Names.column_kinds c.args.names.now) can.parameters c.args.target.now can.target; base = c.requires.can.base })
 
 pub returns-in_err-changed-clause-right : goal.returns-in_err-changed-clause-right
 returns-in_err-changed-clause-right g c = ends_so c.from_residual.result c.in_err-changed.field-0.0 c.from_residual.ensures.1 c.in_err-changed.ensures.right
 
 pub returns-clause-right : goal.returns-clause-right
-returns-clause-right g c = c.complete.ensures.right c.requires.may.parameters c.requires.may.tables c.requires.may.reads
+returns-clause-right g c = c.complete.ensures.right c.requires.can.may.parameters c.requires.can.may.tables c.requires.can.may.reads
 
-pub complete-requires-clause-keeps : goal.complete-requires-clause-keeps
-complete-requires-clause-keeps g c =
+pub complete-requires-clause-changes : goal.complete-requires-clause-changes
+complete-requires-clause-changes g c =
     let same = c.new-setting.ensures in
-    rw (c.leaf_under-leaf.ensures, ← same.store) c.in_ok-changed.ensures.keeps
+    rw (c.leaf_under-leaf.ensures, ← same.store) c.in_ok-changed.ensures.changes
 
 pub returns-clause-meant : goal.returns-clause-meant
 returns-clause-meant g c = λ shown is.
@@ -53,11 +45,11 @@ returns-clause-meant g c = λ shown is.
     let seen : Seen = seen_by (g.N.Names.view_queries names) content c.args.inputs.user c.args.inputs.parameters.now in
     let same = c.new-setting.ensures in
     let t = c.args.target.now in
-    let reads = c.requires.may.reads in
+    let reads = c.requires.can.may.reads in
     let changes = c.in_ok-changed.changed.changes.items in
     let after = g.S.Store.content_now c.complete.new.store in
     let removals : Removals seen t c.args.on changes = rw (same.names, same.store, same.user, same.parameters) at c.in_ok-changed.ensures.removals in
-    let done = rw c.leaf_under-leaf.ensures at (c.complete.ensures.meant c.requires.may.parameters shown (record { inputs = reads.inputs; there = reads.there; in_domains = reads.in_domains; meant = is }) c.requires.constraints) in
+    let done = rw c.leaf_under-leaf.ensures at (c.complete.ensures.meant c.requires.can.may.parameters shown (record { inputs = reads.inputs; there = reads.there; in_domains = reads.in_domains; meant = is })) in
     delete_meets shown seen bases after c.complete.result t c.args.on changes removals (removals.chosen shown is) done
 
 pub returns-in_err-changed-clause-meant : goal.returns-in_err-changed-clause-meant

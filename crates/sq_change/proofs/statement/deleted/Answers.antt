@@ -4,7 +4,7 @@ use Rattle.sq_query.specs.Target.{numbers_in}
 use Rattle.sq_change.specs.Made.{Seen, numbers_changed, seen_by}
 use Rattle.sq_change.specs.Statement.{Chosen}
 use Rattle.sq_change.proofs.Endings.{ends_so, hands_on, memory_fails, memory_right}
-use Rattle.sq_change.proofs.KeptRest.{removed_rest}
+use Rattle.sq_change.proofs.KeptRest.{removed_made, removed_rest}
 use Rattle.sq_change.proofs.Made.{removals_kept}
 use Rattle.sq_change.proofs.statement.deleted.Goals as goal
 
@@ -32,15 +32,15 @@ returns-clause-removals g c =
     removals_kept c.removed-changes.result c.changed.result c.changed.ensures.changes s c.args.target.now c.args.on c.as_slice.result.now
     (subst (Chosen s c.args.target.now c.args.on) (sym c.as_slice.ensures.value) c.in_ok-numbers.ensures.meant) c.removed-changes.ensures.removals
 
-pub returns-clause-keeps : goal.returns-clause-keeps
-returns-clause-keeps g c =
+pub returns-clause-changes : goal.returns-clause-changes
+returns-clause-changes g c =
     let t = c.args.target.now in
     let setting = c.args.setting.now in
     let s : Seen = seen_by (g.N.Names.view_queries setting.names.now) (g.S.Store.content_now setting.store.now) setting.user setting.parameters.now in
-    removed_rest c.all_keys.result c.changed.result c.changed.ensures.lost s t c.args.on
-    (removals_kept c.removed-changes.result c.changed.result c.changed.ensures.changes s t c.args.on c.as_slice.result.now
-    (subst (Chosen s t c.args.on) (sym c.as_slice.ensures.value) c.in_ok-numbers.ensures.meant) c.removed-changes.ensures.removals)
-    (rw (c.get-table.ensures, c.leaf_under.ensures) at c.all_keys.ensures.lost)
+    let removals = removals_kept c.removed-changes.result c.changed.result c.changed.ensures.changes s t c.args.on c.as_slice.result.now
+    (subst (Chosen s t c.args.on) (sym c.as_slice.ensures.value) c.in_ok-numbers.ensures.meant) c.removed-changes.ensures.removals in
+    removed_made c.changed.result s t c.args.on (g.S.Store.row_numbers setting.store.now) removals
+    (removed_rest c.all_keys.result c.changed.result c.changed.ensures.lost s t c.args.on removals (rw (c.get-table.ensures, c.leaf_under.ensures) at c.all_keys.ensures.lost))
 
 pub returns-in_err-numbers-clause-read : goal.returns-in_err-numbers-clause-read
 returns-in_err-numbers-clause-read g c = c.in_err-numbers.ensures.read

@@ -6,7 +6,6 @@ use Rattle.sq_bound.specs.Fits.{under}
 use Rattle.sq_change.specs.Constraints.{completed}
 use Rattle.sq_change.specs.Made.{Seen, seen_by}
 use Rattle.sq_change.specs.Statement.{update_made, with_replaced}
-use Rattle.sq_change.proofs.Applied.{replaced_few}
 use Rattle.sq_change.proofs.Endings.{ends_so}
 use Rattle.sq_change.proofs.Obeyed.{keeps_tables}
 use Rattle.sq_change.proofs.OnRows.{leaf_well}
@@ -14,33 +13,30 @@ use Rattle.sq_change.proofs.Outcomes.{stops_as}
 use Rattle.sq_change.proofs.Performed.{update_meets}
 use Rattle.sq_change.proofs.statement.update.Goals as goal
 
-pub complete-requires-clause-numbers : goal.complete-requires-clause-numbers
-complete-requires-clause-numbers g c = replaced_few _ c.args.update.now c.args.on c.in_ok-changed.changed.changes.items _ c.in_ok-changed.ensures.replacements
-
 pub updated-requires-clause-kept : goal.updated-requires-clause-kept
 updated-requires-clause-kept g c =
     let is = c.new-setting.ensures in
-    rw (is.names, is.store) (keeps_tables (g.N.Names.base_tables c.args.names.now) (g.S.Store.content_now c.args.store.now) (g.S.Store.key_columns c.args.store.now) c.requires.tables c.requires.in_domains c.requires.keys c.requires.constraints)
+    rw (is.names, is.store) (keeps_tables (g.N.Names.base_tables c.args.names.now) (g.S.Store.content_now c.args.store.now) (g.S.Store.key_columns c.args.store.now) c.requires.kept)
 
-pub updated-requires-clause-may : goal.updated-requires-clause-may
-updated-requires-clause-may g c = let is = c.new-setting.ensures in rw (is.names, is.store, is.user, is.parameters) c.requires.may
+pub updated-requires-clause-can : goal.updated-requires-clause-can
+updated-requires-clause-can g c = let is = c.new-setting.ensures in rw (is.names, is.store, is.user, is.parameters) c.requires.can
 
 pub complete-requires-clause-leaf : goal.complete-requires-clause-leaf
-complete-requires-clause-leaf g c = rw c.leaf_under-leaf.ensures (leaf_well (g.N.Names.column_kinds c.args.names.now) c.requires.may.parameters c.args.update.now.target c.requires.may.target)
-
-pub complete-requires-clause-there : goal.complete-requires-clause-there
-complete-requires-clause-there g c = c.requires.may.reads.there
+complete-requires-clause-leaf g c =
+    let can = c.requires.can.choose.may in
+    rw c.leaf_under-leaf.ensures
+    (record { there = can.reads.there; well_formed = leaf_well (g.N.Names.column_kinds c.args.names.now) can.parameters c.args.update.now.target can.target; base = c.requires.can.choose.base })
 
 pub returns-in_err-changed-clause-right : goal.returns-in_err-changed-clause-right
 returns-in_err-changed-clause-right g c = ends_so c.from_residual.result c.in_err-changed.field-0.0 c.from_residual.ensures.1 c.in_err-changed.ensures.right
 
 pub returns-clause-right : goal.returns-clause-right
-returns-clause-right g c = c.complete.ensures.right c.requires.may.parameters c.requires.may.tables c.requires.may.reads
+returns-clause-right g c = c.complete.ensures.right c.requires.can.choose.may.parameters c.requires.can.choose.may.tables c.requires.can.choose.may.reads
 
-pub complete-requires-clause-keeps : goal.complete-requires-clause-keeps
-complete-requires-clause-keeps g c =
+pub complete-requires-clause-changes : goal.complete-requires-clause-changes
+complete-requires-clause-changes g c =
     let same = c.new-setting.ensures in
-    rw (c.leaf_under-leaf.ensures, ← same.store) c.in_ok-changed.ensures.keeps
+    rw (c.leaf_under-leaf.ensures, ← same.store) c.in_ok-changed.ensures.changes
 
 pub returns-clause-meant : goal.returns-clause-meant
 returns-clause-meant g c = λ shown is.
@@ -50,12 +46,12 @@ returns-clause-meant g c = λ shown is.
     let seen : Seen = seen_by (g.N.Names.view_queries names) content c.args.inputs.user c.args.inputs.parameters.now in
     let same = c.new-setting.ensures in
     let u = c.args.update.now in
-    let reads = c.requires.may.reads in
+    let reads = c.requires.can.choose.may.reads in
     let changes = c.in_ok-changed.changed.changes.items in
     let after = g.S.Store.content_now c.complete.new.store in
     let meant = rw (same.names, same.store, same.user, same.parameters) at c.in_ok-changed.ensures.meant in
     let replacements = rw (same.names, same.store, same.user, same.parameters) at c.in_ok-changed.ensures.replacements in
-    let done = rw c.leaf_under-leaf.ensures at (c.complete.ensures.meant c.requires.may.parameters shown (record { inputs = reads.inputs; there = reads.there; in_domains = reads.in_domains; meant = is }) c.requires.constraints) in
+    let done = rw c.leaf_under-leaf.ensures at (c.complete.ensures.meant c.requires.can.choose.may.parameters shown (record { inputs = reads.inputs; there = reads.there; in_domains = reads.in_domains; meant = is })) in
     update_meets shown seen bases after c.complete.result u c.args.on changes replacements (meant shown is) done
 
 pub returns-in_err-changed-clause-meant : goal.returns-in_err-changed-clause-meant

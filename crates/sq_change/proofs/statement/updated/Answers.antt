@@ -9,7 +9,7 @@ use Rattle.sq_change.proofs.Applied.{base_under}
 use Rattle.sq_change.proofs.Endings.{ends_so}
 use Rattle.sq_change.proofs.Made.{changed_meets, replacements_kept}
 use Rattle.sq_change.proofs.Outcomes.{stops_as}
-use Rattle.sq_change.proofs.KeptRest.{replaced_rest}
+use Rattle.sq_change.proofs.KeptRest.{replaced_made, replaced_rest}
 use Rattle.sq_change.proofs.statement.updated.Goals as goal
 
 pub returns-clause-replacements : goal.returns-clause-replacements
@@ -52,11 +52,11 @@ returns-in_err-rows-clause-right g c = ends_so c.from_residual.result c.in_err-r
 pub replaced-changes-requires-clause-there : goal.replaced-changes-requires-clause-there
 replaced-changes-requires-clause-there g c = rw (c.as_slice.ensures.value, c.get-table.ensures, c.leaf_under.ensures) c.in_ok-rows.ensures.there
 
-pub replaced-changes-requires-clause-domains : goal.replaced-changes-requires-clause-domains
-replaced-changes-requires-clause-domains g c = rw (c.as_slice-assignments.ensures, c.get-table.ensures, c.leaf_under.ensures) c.requires.domains
+pub replaced-changes-requires-clause-assigned : goal.replaced-changes-requires-clause-assigned
+replaced-changes-requires-clause-assigned g c = rw (c.as_slice-assignments.ensures, c.get-table.ensures, c.leaf_under.ensures) c.requires.can.assign
 
-pub returns-clause-keeps : goal.returns-clause-keeps
-returns-clause-keeps g c =
+pub returns-clause-changes : goal.returns-clause-changes
+returns-clause-changes g c =
     let u = c.args.update.now in
     let setting = c.args.setting.now in
     let s : Seen = seen_by (g.N.Names.view_queries setting.names.now) (g.S.Store.content_now setting.store.now) setting.user setting.parameters.now in
@@ -64,8 +64,10 @@ returns-clause-keeps g c =
     (subst (λ (rows : List (ℕ × Bor Row)). Chosen s u.target c.args.on (map (λ (f : ℕ × Bor Row). f.0) rows)) (sym c.as_slice.ensures.value) c.in_ok-rows.ensures.meant)
     c.replaced-changes.ensures.replacements
     (λ shown. rw (base_under u.target, ← c.leaf_under.ensures, ← c.get-table.ensures, ← c.as_slice-assignments.ensures) (c.replaced-changes.ensures.meant shown)) in
-    replaced_rest c.keys_assigned.result c.changed.result c.changed.ensures.lost s u c.args.on (g.S.Store.row_numbers setting.store.now) (g.met.S.Store.rises setting.store.now) replacements
-    (rw (c.as_slice-assignments.ensures, c.get-table.ensures, c.leaf_under.ensures) at c.keys_assigned.ensures.lost)
+    let keeps = replaced_rest c.keys_assigned.result c.changed.result c.changed.ensures.lost s u c.args.on (g.S.Store.row_numbers setting.store.now) (g.met.S.Store.rises setting.store.now) replacements
+    (rw (c.as_slice-assignments.ensures, c.get-table.ensures, c.leaf_under.ensures) at c.keys_assigned.ensures.lost) in
+    let fit = rw (c.get-table.ensures, c.leaf_under.ensures) at c.replaced-changes.ensures.fit in
+    replaced_made c.replaced-changes.result c.changed.result c.changed.ensures.changes s u c.args.on (g.S.Store.row_numbers setting.store.now) fit replacements keeps
 
 pub returns-in_err-rows-clause-read : goal.returns-in_err-rows-clause-read
 returns-in_err-rows-clause-read g c = c.in_err-rows.ensures.read

@@ -24,13 +24,13 @@ use Rattle.sq_change.proofs.target.numbers_changed.Goals as goal
 pub numbers_of-requires-clause-finds : goal.numbers_of-requires-clause-finds
 numbers_of-requires-clause-finds g c =
     let names = c.args.setting.now.names.now in
-    let may = c.requires.may in
+    let may = c.requires.can.may in
     target_finds (g.N.Names.base_tables names) (g.N.Names.column_kinds names) may.reads.there may.parameters c.in-Searched.target
     (subst (IsChangeTarget (g.N.Names.column_kinds names) may.parameters) c.in-Searched.is may.target)
 
 pub returns-else-is_empty-clause-there : goal.returns-else-is_empty-clause-there
 returns-else-is_empty-clause-there g c = λ on.
-    let may = c.requires.may in
+    let may = c.requires.can.may in
     let t = c.in-Searched.target in
     let content = g.S.Store.content_now c.args.setting.now.store.now in
     let found = c.in_ok-numbers-in-Searched in
@@ -42,7 +42,7 @@ returns-else-is_empty-clause-there g c = λ on.
 pub returns-else-is_empty-clause-meant : goal.returns-else-is_empty-clause-meant
 returns-else-is_empty-clause-meant g c =
     let setting = c.args.setting.now in
-    let may = c.requires.may in
+    let may = c.requires.can.may in
     let t = c.in-Searched.target in
     let found = c.in_ok-numbers-in-Searched in
     let s : Seen = seen_by (g.N.Names.view_queries setting.names.now) (g.S.Store.content_now setting.store.now) setting.user setting.parameters.now in
@@ -56,7 +56,7 @@ returns-else-is_empty-clause-meant g c =
 pub returns-then-is_empty-clause-meant : goal.returns-then-is_empty-clause-meant
 returns-then-is_empty-clause-meant g c =
     let setting = c.args.setting.now in
-    let may = c.requires.may in
+    let may = c.requires.can.may in
     let t = c.in-Searched.target in
     let found = c.in_ok-numbers-in-Searched in
     let s : Seen = seen_by (g.N.Names.view_queries setting.names.now) (g.S.Store.content_now setting.store.now) setting.user setting.parameters.now in
@@ -70,7 +70,7 @@ returns-then-is_empty-clause-meant g c =
 pub returns-in_err-numbers-in-Searched-clause-meant : goal.returns-in_err-numbers-in-Searched-clause-meant
 returns-in_err-numbers-in-Searched-clause-meant g c =
     let setting = c.args.setting.now in
-    let may = c.requires.may in
+    let may = c.requires.can.may in
     let t = c.in-Searched.target in
     let found = c.in_err-numbers-in-Searched in
     let s : Seen = seen_by (g.N.Names.view_queries setting.names.now) (g.S.Store.content_now setting.store.now) setting.user setting.parameters.now in
@@ -90,7 +90,7 @@ returns-in-Some-clause-meant g c = λ shown is.
 pub returns-in_err-numbers-in-Searched-clause-right : goal.returns-in_err-numbers-in-Searched-clause-right
 returns-in_err-numbers-in-Searched-clause-right g c =
     let numbers = c.in_err-numbers-in-Searched in
-    let may = c.requires.may in
+    let may = c.requires.can.may in
     ends_so c.from_residual.result numbers.field-0.0 c.from_residual.ensures.1
     (numbers.ensures.right may.parameters may.tables (rw (c.inputs.ensures.user, c.inputs.ensures.parameters) may.reads)
     (subst (IsChangeTarget (g.N.Names.column_kinds c.args.setting.now.names.now) may.parameters) c.in-Searched.is may.target))

@@ -35,7 +35,7 @@ updated_row-requires-clause-columns g c =
     (all_unmapped (λ (r : Numbered). row_at (table_at content table.place) r.number ≡ Some r) numbered_row c.args.rows.now c.requires.there) c.loop-found-test.true c.found-item.is in
     let wide : length found.1.now ≡ length table.columns
     = row_at_wide (g.N.Names.base_tables setting.names.now) content table found.0 found.1.now c.requires.kept.tables c.requires.base there in
-    rw wide c.requires.columns
+    rw wide c.requires.assigned.there
 
 pub updated_row-requires-clause-assignable : goal.updated_row-requires-clause-assignable
 updated_row-requires-clause-assignable g c =
@@ -54,8 +54,7 @@ pub loop-found-init : goal.loop-found-init
 loop-found-init g c = record {
   meant = λ shown. made_none _ c.args.rows.now _ (rw c.new-changes.ensures.items refl);
   replacements = rw c.new-changes.ensures.items tt;
-  wide = rw c.new-changes.ensures.items refl;
-  in_domains = rw c.new-changes.ensures.items tt;
+  fit = rw c.new-changes.ensures.items (record { wide = refl; in_domains = tt });
 }
 
 pub loop-found-preserved : goal.loop-found-preserved
@@ -82,9 +81,10 @@ loop-found-preserved g c =
           (replaced_more c.loop-found.changes.items found.0 c.in_ok-row.row));
       replacements = rw c.in_ok-push.ensures.items
           (zipped_push (λ (f : Found). IsReplacement f.0) rows i c.loop-found.changes.items found (Replace found.0 c.in_ok-row.row) c.loop-found-test.true c.found-item.is c.loop-found.invariant.replacements refl);
-      wide = rw c.in_ok-push.ensures.items (wide_replaced (length table.columns) c.loop-found.changes.items _ c.in_ok-row.row c.loop-found.invariant.wide (c.in_ok-row.ensures.wide ∙ wide));
-      in_domains = rw c.in_ok-push.ensures.items
-          (replaced_in table.columns c.loop-found.changes.items _ c.in_ok-row.row c.loop-found.invariant.in_domains (c.in_ok-row.ensures.in_domains table c.requires.domains is));
+      fit = rw c.in_ok-push.ensures.items (record {
+        wide = wide_replaced (length table.columns) c.loop-found.changes.items _ c.in_ok-row.row c.loop-found.invariant.fit.wide (c.in_ok-row.ensures.wide ∙ wide);
+        in_domains = replaced_in table.columns c.loop-found.changes.items _ c.in_ok-row.row c.loop-found.invariant.fit.in_domains (c.in_ok-row.ensures.in_domains table c.requires.assigned.own is);
+      });
     }
 
 pub returns-clause-replacements : goal.returns-clause-replacements

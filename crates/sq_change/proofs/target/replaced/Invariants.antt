@@ -1,9 +1,8 @@
-use Rattle.std.proofs.Common.{◌≡◌, ℕ, true, Bor, length, take}
+use Rattle.std.proofs.Common.{ℕ, Bor, take}
 use Rattle.std.specs.List.{AllZip}
-use Rattle.sq_store.specs.Change.{rows_put}
 use Rattle.sq_store.specs.Content.{table_at}
 use Rattle.sq_meaning.specs.Environment.{Row}
-use Rattle.sq_change.specs.Changed.{AreRowsPut, IsReplacement, are_wide, rows_replaced}
+use Rattle.sq_change.specs.Changed.{FitTable, IsReplacement, rows_replaced}
 use Rattle.sq_change.specs.Made.{Seen, Shown, seen_by, updated_under}
 use Rattle.sq_change.proofs.InTurn.{MadeTo}
 use Rattle.sq_change.proofs.target.replaced.Given as goal
@@ -14,6 +13,5 @@ invariant-loop-found g l =
     record {
       replacements : AllZip (λ (f : ℕ × Bor Row). IsReplacement f.0) (take l.found-index l.rows) l.changes.items;
       meant : (shown : Shown) → MadeTo (λ (f : ℕ × Bor Row). updated_under shown s l.assignments (table_at s.tables l.table.place) f.0) l.rows l.found-index (rows_replaced l.changes.items);
-      wide : are_wide (length l.table.columns) (rows_put l.changes.items) ≡ true;
-      in_domains : AreRowsPut l.table.columns l.changes.items;
+      fit : FitTable l.table l.changes.items;
     }

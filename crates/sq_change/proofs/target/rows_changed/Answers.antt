@@ -30,13 +30,13 @@ use Rattle.sq_change.proofs.target.rows_changed.Goals as goal
 pub rows_of-requires-clause-finds : goal.rows_of-requires-clause-finds
 rows_of-requires-clause-finds g c =
     let names = c.args.setting.now.names.now in
-    let may = c.requires.may in
+    let may = c.requires.can.may in
     target_finds (g.N.Names.base_tables names) (g.N.Names.column_kinds names) may.reads.there may.parameters c.in-Searched.target
     (subst (IsChangeTarget (g.N.Names.column_kinds names) may.parameters) c.in-Searched.is may.target)
 
 pub returns-else-is_empty-clause-there : goal.returns-else-is_empty-clause-there
 returns-else-is_empty-clause-there g c =
-    let may = c.requires.may in
+    let may = c.requires.can.may in
     let t = c.in-Searched.target in
     let content = g.S.Store.content_now c.args.setting.now.store.now in
     let found = c.in_ok-rows-in-Searched in
@@ -48,7 +48,7 @@ returns-else-is_empty-clause-there g c =
 pub returns-else-is_empty-clause-meant : goal.returns-else-is_empty-clause-meant
 returns-else-is_empty-clause-meant g c =
     let setting = c.args.setting.now in
-    let may = c.requires.may in
+    let may = c.requires.can.may in
     let t = c.in-Searched.target in
     let found = c.in_ok-rows-in-Searched in
     let s : Seen = seen_by (g.N.Names.view_queries setting.names.now) (g.S.Store.content_now setting.store.now) setting.user setting.parameters.now in
@@ -62,7 +62,7 @@ returns-else-is_empty-clause-meant g c =
 pub returns-then-is_empty-clause-meant : goal.returns-then-is_empty-clause-meant
 returns-then-is_empty-clause-meant g c =
     let setting = c.args.setting.now in
-    let may = c.requires.may in
+    let may = c.requires.can.may in
     let t = c.in-Searched.target in
     let found = c.in_ok-rows-in-Searched in
     let s : Seen = seen_by (g.N.Names.view_queries setting.names.now) (g.S.Store.content_now setting.store.now) setting.user setting.parameters.now in
@@ -76,7 +76,7 @@ returns-then-is_empty-clause-meant g c =
 pub returns-in_err-rows-in-Searched-clause-meant : goal.returns-in_err-rows-in-Searched-clause-meant
 returns-in_err-rows-in-Searched-clause-meant g c =
     let setting = c.args.setting.now in
-    let may = c.requires.may in
+    let may = c.requires.can.may in
     let t = c.in-Searched.target in
     let found = c.in_err-rows-in-Searched in
     let s : Seen = seen_by (g.N.Names.view_queries setting.names.now) (g.S.Store.content_now setting.store.now) setting.user setting.parameters.now in
@@ -102,7 +102,7 @@ only_row-requires-clause-place g c =
     let setting = c.args.setting.now in
     let content = g.S.Store.content_now setting.store.now in
     let leaf = under c.args.target.now in
-    rw (c.get.ensures, c.leaf_under.ensures) (is_there (g.N.Names.base_tables setting.names.now) content leaf.table.place leaf.table c.requires.kept.tables c.requires.base)
+    rw (c.get.ensures, c.leaf_under.ensures) (is_there (g.N.Names.base_tables setting.names.now) content leaf.table.place leaf.table c.requires.kept.tables c.requires.can.base)
 
 pub only_row-requires-clause-there : goal.only_row-requires-clause-there
 only_row-requires-clause-there g c =
@@ -112,7 +112,7 @@ only_row-requires-clause-there g c =
 pub returns-in_err-rows-in-Searched-clause-right : goal.returns-in_err-rows-in-Searched-clause-right
 returns-in_err-rows-in-Searched-clause-right g c =
     let numbers = c.in_err-rows-in-Searched in
-    let may = c.requires.may in
+    let may = c.requires.can.may in
     ends_so c.from_residual.result numbers.field-0.0 c.from_residual.ensures.1
     (numbers.ensures.right may.parameters may.tables (rw (c.inputs.ensures.user, c.inputs.ensures.parameters) may.reads)
     (subst (IsChangeTarget (g.N.Names.column_kinds c.args.setting.now.names.now) may.parameters) c.in-Searched.is may.target))

@@ -28,10 +28,10 @@ pub loop-text-preserved : goal.loop-text-preserved
 loop-text-preserved c =
     let next = modules_next c.args.modules.now c.loop-text.text c.index-modules-text.result c.loop-text.names.keys c.admit_next.new.names.keys
     c.loop-text-test.true c.index-modules-text.is c.loop-text.invariant.keys c.loop-text.invariant.names
-    c.in_default.ensures.new c.in_default.ensures.last c.in_default.ensures.names in
+    c.in_default.ensures.new.0 c.in_default.ensures.new.1 c.in_default.ensures.names in
     let one = c.in_default.ensures.written in
     let apart = admitted_next c.loop-text.admitted.items c.admit_next.new.admitted.items one.0 c.index-modules-text.result.name c.loop-text.names.keys c.admit_next.new.names.keys
-    one.1 one.2.name one.3 c.loop-text.invariant.named c.in_default.ensures.new c.in_default.ensures.last c.loop-text.invariant.admitted in
+    one.1 one.2.name one.3 c.loop-text.invariant.named c.in_default.ensures.new.0 c.in_default.ensures.new.1 c.loop-text.invariant.admitted in
     record {
       keys = next.0;
       names = next.1;
@@ -47,8 +47,8 @@ loop-text-preserved c =
           c.loop-text.invariant.taken c.in_default.ensures.taken;
     }
 
-pub returns-clause-taken : goal.returns-clause-taken
-returns-clause-taken c = all_taken c.args.modules.now c.loop-text.text (omega (arith, c.loop-text-test.false)) c.loop-text.invariant.taken
+pub returns-clause-first : goal.returns-clause-first
+returns-clause-first c = all_taken c.args.modules.now c.loop-text.text (omega (arith, c.loop-text-test.false)) c.loop-text.invariant.taken
 
 pub returns-in-Err-clause-first : goal.returns-in-Err-clause-first
 returns-in-Err-clause-first c =

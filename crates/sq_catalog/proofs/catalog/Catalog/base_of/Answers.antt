@@ -23,7 +23,7 @@ assembled-requires-clause-references c =
 pub returns-clause-checks : goal.returns-clause-checks
 returns-clause-checks c =
     let parts = rw c.in_ok-bound.ensures.values.1 at c.base_parts-parts.ensures.checks in
-    subst (λ (cs : List BoundCond). AreChecksMade c.args.user c.args.name.now c.args.columns.now (conditions_lent c.args.draft.now.written.checks.items) cs) (sym c.assembled.ensures.checks) parts
+    subst (λ (cs : List BoundCond). AreChecksMade c.args.user c.args.name.now c.args.columns.now (conditions_lent c.args.draft.now.written.checks.items) cs) (sym c.assembled.ensures.parts.checks) parts
 
 pub returns-in_err-bound-clause-exact : goal.returns-in_err-bound-clause-exact
 returns-in_err-bound-clause-exact c =
@@ -50,7 +50,7 @@ returns-clause-exact c =
     c.as_slice.ensures.value c.bound_references-bound.ensures.exact in
     base_is catalog c.args.user c.args.name.now draft columns before c.requires.draft.of c.requires.draft.named c.requires.columns.seen (ap length c.bases.ensures ∙ sym c.next_base-place.ensures.place ∙ c.next_base-place.ensures.exact)
     c.assembled.result.0 c.assembled.result.1 parts.columns parts.checks
-    (subst (Makes (λ bound. (bound.references, bound.are_permitted)) (references_here catalog c.args.user c.args.name.now draft columns before)) c.in_ok-bound.ensures.values.0 references ∙ (λ i. Ok (sym c.assembled.ensures.references i, sym c.assembled.ensures.permitted i)))
+    (subst (Makes (λ bound. (bound.references, bound.are_permitted)) (references_here catalog c.args.user c.args.name.now draft columns before)) c.in_ok-bound.ensures.values.0 references ∙ (λ i. Ok (sym c.assembled.ensures.references.0 i, sym c.assembled.ensures.references.1 i)))
     (subst (Makes (λ parts. (map cond_seen parts.checks, held_declared draft.columns.items parts.columns)) (parts_here catalog c.args.user c.args.name.now draft columns before)) c.in_ok-bound.ensures.values.1 c.base_parts-parts.ensures.exact)
-    (c.assembled.ensures.place ∙ c.next_base-place.ensures.exact) c.assembled.ensures.columns
-    (c.assembled.ensures.keys ∙ subst (λ r. IfOk r (λ parts. parts.keys ≡ draft.keys.columns)) c.in_ok-bound.ensures.values.1 c.base_parts-parts.ensures.keys) c.assembled.ensures.primary c.assembled.ensures.checks
+    (c.assembled.ensures.place ∙ c.next_base-place.ensures.exact) c.assembled.ensures.parts.columns
+    (c.assembled.ensures.parts.keys ∙ subst (λ r. IfOk r (λ parts. parts.keys ≡ draft.keys.columns)) c.in_ok-bound.ensures.values.1 c.base_parts-parts.ensures.keys) c.assembled.ensures.primary c.assembled.ensures.parts.checks

@@ -15,17 +15,31 @@ use Rattle.sq_catalog.proofs.Stored.{named_at, stored_at}
 use Rattle.sq_catalog.proofs.ViewQueries.{base_among, view_read}
 use Rattle.sq_catalog.proofs.catalog.Catalog.entry.Goals as goal
 
-pub returns-in-Some-clause-well_formed : goal.returns-in-Some-clause-well_formed
-returns-in-Some-clause-well_formed c = table_read _ _ c.self.inside.bases.entries c.in-Some.place c.in-Some.field-0-1.now c.in-Some.table.now c.self.view_is c.self.invariant.2 c.in-Some.ensures.entry
+pub returns-in-Some-clause-of : goal.returns-in-Some-clause-of
+returns-in-Some-clause-of c =
+    let entries = c.self.inside.bases.entries in
+    let place = c.in-Some.place in
+    let key = c.in-Some.field-0-1.now in
+    let table = c.in-Some.table.now in
+    let is = c.in-Some.ensures.entry in
+    record {
+      stored = subst (λ (s : Catalog). IsStored s.bases table) c.self.view_is (stored_at c.self.inside.base_tables.items entries place key table c.self.invariant.0 is);
+      view = base_among _ place table.body (stands_at Base entries place key table c.self.invariant.5 is);
+      well_formed = table_read _ _ entries place key table c.self.view_is c.self.invariant.2 is;
+    }
 
-pub returns-in-Some-get_full-clause-stored : goal.returns-in-Some-get_full-clause-stored
-returns-in-Some-get_full-clause-stored c =
-    subst (λ (s : Catalog). IsStored s.bases c.in-Some-get_full.table.now) c.self.view_is
-    (stored_at c.self.inside.base_tables.items c.self.inside.views.entries c.in-Some-get_full.place c.in-Some-get_full.field-0-1.now c.in-Some-get_full.table.now c.self.invariant.1 c.in-Some-get_full.ensures.entry)
-
-pub returns-in-Some-get_full-clause-well_formed : goal.returns-in-Some-get_full-clause-well_formed
-returns-in-Some-get_full-clause-well_formed c =
-    table_read _ _ c.self.inside.views.entries c.in-Some-get_full.place c.in-Some-get_full.field-0-1.now c.in-Some-get_full.table.now c.self.view_is c.self.invariant.3 c.in-Some-get_full.ensures.entry
+pub returns-in-Some-get_full-clause-of : goal.returns-in-Some-get_full-clause-of
+returns-in-Some-get_full-clause-of c =
+    let entries = c.self.inside.views.entries in
+    let place = c.in-Some-get_full.place in
+    let key = c.in-Some-get_full.field-0-1.now in
+    let table = c.in-Some-get_full.table.now in
+    let is = c.in-Some-get_full.ensures.entry in
+    record {
+      stored = subst (λ (s : Catalog). IsStored s.bases table) c.self.view_is (stored_at c.self.inside.base_tables.items entries place key table c.self.invariant.1 is);
+      view = subst (λ (s : Catalog). IsViewAmong s.views table.body) c.self.view_is (view_read entries place key table c.self.invariant.6 is);
+      well_formed = table_read _ _ entries place key table c.self.view_is c.self.invariant.3 is;
+    }
 
 pub returns-in-Some-clause-named : goal.returns-in-Some-clause-named
 returns-in-Some-clause-named c =
@@ -34,15 +48,6 @@ returns-in-Some-clause-named c =
 pub returns-in-Some-get_full-clause-named : goal.returns-in-Some-get_full-clause-named
 returns-in-Some-get_full-clause-named c =
     named_at c.self.inside.views.entries c.in-Some-get_full.place c.args.full_name.now c.in-Some-get_full.field-0-1.now c.in-Some-get_full.table.now c.self.invariant.8 c.in-Some-get_full.ensures.entry (sym c.in-Some-get_full.ensures.key)
-
-pub returns-in-Some-clause-view : goal.returns-in-Some-clause-view
-returns-in-Some-clause-view c =
-    base_among _ c.in-Some.place c.in-Some.table.now.body (stands_at Base c.self.inside.bases.entries c.in-Some.place c.in-Some.field-0-1.now c.in-Some.table.now c.self.invariant.5 c.in-Some.ensures.entry)
-
-pub returns-in-Some-get_full-clause-view : goal.returns-in-Some-get_full-clause-view
-returns-in-Some-get_full-clause-view c =
-    subst (λ (s : Catalog). IsViewAmong s.views c.in-Some-get_full.table.now.body) c.self.view_is
-    (view_read c.self.inside.views.entries c.in-Some-get_full.place c.in-Some-get_full.field-0-1.now c.in-Some-get_full.table.now c.self.invariant.6 c.in-Some-get_full.ensures.entry)
 
 pub returns-in-Some-clause-known : goal.returns-in-Some-clause-known
 returns-in-Some-clause-known c =

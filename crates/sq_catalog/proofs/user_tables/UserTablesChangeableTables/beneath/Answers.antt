@@ -4,7 +4,7 @@ use Rattle.sq_catalog.specs.UserTables.{beneath_in}
 use Rattle.sq_catalog.proofs.user_tables.UserTablesChangeableTables.beneath.Goals as goal
 
 pub beneath_table-requires : goal.beneath_table-requires
-beneath_table-requires c = c.in-Some.ensures.stored.itself
+beneath_table-requires c = c.in-Some.ensures.of.stored.itself
 
 pub returns-in-None : goal.returns-in-None
 returns-in-None c = ap (option_and_then beneath_in) c.in-None.ensures.described

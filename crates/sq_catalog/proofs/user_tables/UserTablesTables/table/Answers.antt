@@ -11,4 +11,4 @@ returns-in-None c = ap (option_map (definition.named_table (declared c.args.self
 pub returns-in-Some : goal.returns-in-Some
 returns-in-Some c =
     lent c.args.self.now.catalog.now c.args.self.now.user (record { user = c.args.user; name = c.args.name }) c.in-Some.table.now c.place.result c.as_slice.result.now c.may.result c.may-in-Some.result
-    c.in-Some.ensures.stored c.in-Some.ensures.well_formed c.place.ensures c.as_slice.ensures c.may.ensures c.may-in-Some.ensures c.in-Some.ensures.exact
+    c.in-Some.ensures.of.stored c.in-Some.ensures.of.well_formed c.place.ensures c.as_slice.ensures c.may.ensures c.may-in-Some.ensures c.in-Some.ensures.exact

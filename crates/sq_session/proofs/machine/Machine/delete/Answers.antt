@@ -9,7 +9,7 @@ use Rattle.sq_bound.specs.declared.statement.ChangeTarget.{ChangeTarget}
 use Rattle.sq_bound.specs.declared.statement.ChangeTarget.TheVariants as target
 use Rattle.sq_change.specs.Made.{Shown}
 use Rattle.sq_change.specs.Performed.{delete_outcome}
-use Rattle.sq_change.specs.Statement.{IsShown}
+use Rattle.sq_change.specs.Statement.{IsConsistent, IsShown}
 use Rattle.sq_expression.specs.Fault.{Meets}
 use Rattle.sq_expression.proofs.Views.{failed_as}
 use Rattle.sq_session.specs.Kind.{Caller, caller_of}
@@ -21,19 +21,27 @@ use Rattle.sq_session.specs.declared.cursor.CursorState.{CursorState}
 use Rattle.sq_session.specs.declared.cursor.CursorState.TheVariants as cursor
 use Rattle.sq_session.proofs.Changing.{deletes_done, deletes_not, left_behind, same_but_tables}
 use Rattle.sq_session.proofs.Ending.{fault_right}
-use Rattle.sq_session.proofs.Asking.{may_choose}
+use Rattle.sq_session.proofs.Asking.{consistent, may_choose}
 use Rattle.sq_session.proofs.Metering.{delete_read}
 use Rattle.sq_session.proofs.machine.Machine.delete.Goals as goal
 use Rattle.sq_session.proofs.machine.Machine.delete.Goals.{in-Positioned, in_default-target}
 
-pub delete-deleted-requires-clause-may : goal.delete-deleted-requires-clause-may
-delete-deleted-requires-clause-may g c =
+pub delete-deleted-requires-clause-can : goal.delete-deleted-requires-clause-can
+delete-deleted-requires-clause-can g c =
     let called = c.args.called.now in
     let kinds = kinds_of_parameters called.procedure.now.parameters in
     let inputs = c.inputs.result in
     let given = subst (λ (vs : List Value). AreGiven kinds vs) (sym c.inputs.ensures.parameters) c.requires.given in
     let in_domains = subst (λ (m : State). AreInDomains called.catalog.now.bases m.tables) (sym c.self.view_is) c.requires.whole.4 in
-    may_choose called.catalog.now _ inputs.user kinds inputs.parameters.now c.args.target.now given in_domains c.requires.asked
+    record {
+      base = c.requires.target.0;
+      given = c.in_ok-on.ensures.given;
+      may = may_choose called.catalog.now _ inputs.user kinds inputs.parameters.now c.args.target.now given in_domains c.requires.asked;
+    }
+
+pub delete-deleted-requires-clause-kept : goal.delete-deleted-requires-clause-kept
+delete-deleted-requires-clause-kept g c =
+    subst (λ (m : State). IsConsistent c.args.called.now.catalog.now.bases m.tables m.keys) (sym c.self.view_is) (consistent _ _ _ c.args.self.now c.requires.whole)
 
 pub returns-in-Err-clause-right : goal.returns-in-Err-clause-right
 returns-in-Err-clause-right g c = let right = rw c.in-Err.is at c.delete-deleted.ensures.right in fault_right c.in-Err.fault right

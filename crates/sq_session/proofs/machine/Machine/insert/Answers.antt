@@ -6,7 +6,7 @@ use Rattle.sq_module.specs.Program.{kinds_of_cursors}
 use Rattle.sq_store.specs.Content.{Content}
 use Rattle.sq_change.specs.Made.{Shown}
 use Rattle.sq_change.specs.Performed.{insert_outcome}
-use Rattle.sq_change.specs.Statement.{IsShown}
+use Rattle.sq_change.specs.Statement.{IsConsistent, IsShown}
 use Rattle.sq_expression.specs.Fault.{Meets}
 use Rattle.sq_expression.proofs.Views.{failed_as}
 use Rattle.sq_session.specs.Kind.{Caller, caller_of}
@@ -14,22 +14,28 @@ use Rattle.sq_session.specs.Parameter.{AreGiven}
 use Rattle.sq_session.specs.Schemas.{schemas_of}
 use Rattle.sq_session.specs.Step.{seen_in}
 use Rattle.sq_session.specs.State.{State}
-use Rattle.sq_session.proofs.Asking.{may_give}
+use Rattle.sq_session.proofs.Asking.{consistent, may_give}
 use Rattle.sq_session.proofs.Changing.{inserts_done, inserts_not}
 use Rattle.sq_session.proofs.Ending.{fault_right}
 use Rattle.sq_session.proofs.machine.Machine.insert.Goals as goal
 
-pub insert-inserted-requires-clause-given : goal.insert-inserted-requires-clause-given
-insert-inserted-requires-clause-given g c =
+pub insert-inserted-requires-clause-can : goal.insert-inserted-requires-clause-can
+insert-inserted-requires-clause-can g c =
     let called = c.args.called.now in
     let kinds = kinds_of_parameters called.procedure.now.parameters in
     let inputs = c.inputs.result in
     let given = subst (λ (vs : List Value). AreGiven kinds vs) (sym c.inputs.ensures.parameters) c.requires.given in
     let in_domains = subst (λ (m : State). AreInDomains called.catalog.now.bases m.tables) (sym c.self.view_is) c.requires.whole.4 in
-    may_give called.catalog.now (kinds_of_cursors called.cursors.now) _ inputs.user kinds inputs.parameters.now c.args.statement.now given in_domains c.requires.asked
+    record {
+      leaf = c.requires.asked.0;
+      base = c.requires.fits;
+      columns = c.requires.asked.1;
+      given = may_give called.catalog.now (kinds_of_cursors called.cursors.now) _ inputs.user kinds inputs.parameters.now c.args.statement.now given in_domains c.requires.asked;
+    }
 
-pub insert-inserted-requires-clause-leaf : goal.insert-inserted-requires-clause-leaf
-insert-inserted-requires-clause-leaf g c = c.requires.asked.0
+pub insert-inserted-requires-clause-kept : goal.insert-inserted-requires-clause-kept
+insert-inserted-requires-clause-kept g c =
+    subst (λ (m : State). IsConsistent c.args.called.now.catalog.now.bases m.tables m.keys) (sym c.self.view_is) (consistent _ _ _ c.args.self.now c.requires.whole)
 
 pub returns-in-Err-clause-right : goal.returns-in-Err-clause-right
 returns-in-Err-clause-right g c = let right = rw c.in-Err.is at c.insert-inserted.ensures.right in fault_right c.in-Err.fault right

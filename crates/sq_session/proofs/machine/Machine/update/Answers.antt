@@ -9,7 +9,7 @@ use Rattle.sq_catalog.specs.Catalog.{column_kinds}
 use Rattle.sq_module.specs.Program.{kinds_of_cursors}
 use Rattle.sq_change.specs.Made.{Shown}
 use Rattle.sq_change.specs.Performed.{update_outcome}
-use Rattle.sq_change.specs.Statement.{IsShown}
+use Rattle.sq_change.specs.Statement.{IsConsistent, IsShown}
 use Rattle.sq_expression.specs.Fault.{Meets}
 use Rattle.sq_expression.proofs.Views.{failed_as}
 use Rattle.sq_session.specs.Kind.{Caller, caller_of, updating}
@@ -17,7 +17,7 @@ use Rattle.sq_session.specs.Parameter.{AreGiven}
 use Rattle.sq_session.specs.Schemas.{schemas_of}
 use Rattle.sq_session.specs.Step.{seen_in, walks_listed}
 use Rattle.sq_session.specs.State.{State}
-use Rattle.sq_session.proofs.Asking.{may_assign, may_choose}
+use Rattle.sq_session.proofs.Asking.{consistent, may_assign, may_choose}
 use Rattle.sq_session.specs.Cursors.{go_on, put_all}
 use Rattle.sq_session.specs.declared.cursor.CursorState.{CursorState}
 use Rattle.sq_session.proofs.Changing.{put_as_many, same_but_tables, updates_done, updates_not}
@@ -25,25 +25,27 @@ use Rattle.sq_session.proofs.Ending.{fault_right}
 use Rattle.sq_session.proofs.Metering.{update_read}
 use Rattle.sq_session.proofs.machine.Machine.update.Goals as goal
 
-pub update-updated-requires-clause-assigned : goal.update-updated-requires-clause-assigned
-update-updated-requires-clause-assigned g c =
+pub update-updated-requires-clause-can : goal.update-updated-requires-clause-can
+update-updated-requires-clause-can g c =
     let called = c.args.called.now in
-    let kinds = kinds_of_parameters called.procedure.now.parameters in
-    let given = subst (λ (vs : List Value). AreGiven kinds vs) (sym c.inputs.ensures.parameters) c.requires.given in
-    may_assign (column_kinds called.catalog.now) (kinds_of_cursors called.cursors.now) kinds c.inputs.result.parameters.now c.args.statement.now given c.requires.asked
-
-pub update-updated-requires-clause-may : goal.update-updated-requires-clause-may
-update-updated-requires-clause-may g c =
-    let called = c.args.called.now in
+    let u = c.args.statement.now in
     let kinds = kinds_of_parameters called.procedure.now.parameters in
     let inputs = c.inputs.result in
     let given = subst (λ (vs : List Value). AreGiven kinds vs) (sym c.inputs.ensures.parameters) c.requires.given in
     let in_domains = subst (λ (m : State). AreInDomains called.catalog.now.bases m.tables) (sym c.self.view_is) c.requires.whole.4 in
-    may_choose called.catalog.now _ inputs.user kinds inputs.parameters.now c.args.statement.now.target given in_domains c.requires.asked.0
+    record {
+      choose = record {
+        base = c.requires.target.0;
+        given = c.in_ok-on.ensures.given;
+        may = may_choose called.catalog.now _ inputs.user kinds inputs.parameters.now u.target given in_domains c.requires.asked.0;
+      };
+      there = subst (λ (m : State). IfSome c.in_ok-on.on (λ n. IsSome (row_at (table_at m.tables (under u.target).table.place) n))) (sym c.self.view_is) c.in_ok-on.ensures.there;
+      assign = may_assign (column_kinds called.catalog.now) (kinds_of_cursors called.cursors.now) kinds inputs.parameters.now u given c.requires.asked c.requires.columns c.requires.domains;
+    }
 
-pub update-updated-requires-clause-there : goal.update-updated-requires-clause-there
-update-updated-requires-clause-there g c =
-    subst (λ (m : State). IfSome c.in_ok-on.on (λ n. IsSome (row_at (table_at m.tables (under c.args.statement.now.target).table.place) n))) (sym c.self.view_is) c.in_ok-on.ensures.there
+pub update-updated-requires-clause-kept : goal.update-updated-requires-clause-kept
+update-updated-requires-clause-kept g c =
+    subst (λ (m : State). IsConsistent c.args.called.now.catalog.now.bases m.tables m.keys) (sym c.self.view_is) (consistent _ _ _ c.args.self.now c.requires.whole)
 
 pub returns-in-Err-clause-right : goal.returns-in-Err-clause-right
 returns-in-Err-clause-right g c = let right = rw c.in-Err.is at c.update-updated.ensures.right in fault_right c.in-Err.fault right
