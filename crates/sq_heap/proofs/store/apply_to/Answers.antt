@@ -1,4 +1,4 @@
-use Rattle.std.proofs.Common.{◌≡◌, ◌∙◌, ap, length, slice_set, sym, take}
+use Rattle.std.proofs.Common.{◌≡◌, ◌∙◌, ap, slice_set, sym, take}
 use Rattle.std.specs.List.{list_all}
 use Rattle.sq_store.specs.Change.{rows_put}
 use Rattle.sq_store.specs.Content.{changed_by, table_at}
