@@ -198,14 +198,13 @@ map_at_set f [] i u lt = absurd (omega arith)
 map_at_set f (v ∷ ts) zero u lt = refl
 map_at_set f (v ∷ ts) (suc i) u lt = map_at_set f ts i u (omega arith)
 
-pub applied_before : (ts : List HeapTable) (i : ℕ) (t u : HeapTable) (from : ℕ) → i < length ts → t ≡ get_or ts i t → from ≡ length t.undo.items → back u.slots.list.items (drop (length t.undo.items) u.undo.items) ≡ t.slots.list.items
+pub applied_before : (ts : List HeapTable) (i : ℕ) (t u : HeapTable) (from : ℕ) → i < length ts → t ≡ get_or ts i t → back u.slots.list.items (drop from u.undo.items) ≡ t.slots.list.items
     → all_before (Some (record { table = i; from = from })) (slice_set ts i u) ≡ Some (all_now ts)
-applied_before ts i t u from lt e f undone =
+applied_before ts i t u from lt e undone =
     let long : length (all_now ts) ≡ length ts = length_map now_of ts in
-    let back_to : before_of from u ≡ now_of t = ap (λ (n : ℕ). table_of (back u.slots.list.items (drop n u.undo.items))) f ∙ ap table_of undone in
     ap Some (ap (λ (content : Content). slice_set content i (table_at (map (before_of from) (slice_set ts i u)) i)) (map_set now_of ts i u)
     ∙ set_twice (all_now ts) i (now_of u) (table_at (map (before_of from) (slice_set ts i u)) i)
-    ∙ ap (slice_set (all_now ts) i) (map_at_set (before_of from) ts i u lt ∙ back_to)
+    ∙ ap (slice_set (all_now ts) i) (map_at_set (before_of from) ts i u lt ∙ ap table_of undone)
     ∙ set_same (all_now ts) i (now_of t) (omega arith) (sym (map_at now_of ts i t lt e)))
 
 -- a table goes back

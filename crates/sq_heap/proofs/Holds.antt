@@ -34,7 +34,15 @@ holds_at P n (Some r ∷ ss) (suc j) q h e =
     let k : n + suc j ≡ n + 1 + j = omega arith in
     ap (P q) k ∙ holds_at P (n + 1) ss j q (right_of (P r n) (slots_hold P (n + 1) ss) h) e
 
--- what holds of all slots holds of the slot at a place
+-- what holds of all slots holds of the slot at a place, also past the last one
+pub holds_there : (P : Test) (ss : List Slot) (j : ℕ) → slots_hold P 0 ss ≡ true → slot_holds P j (slot_at ss j) ≡ true
+holds_there P ss j h = by_slot (slot_at ss j) refl
+  where
+    by_slot : (s : Slot) → slot_at ss j ≡ s → slot_holds P j (slot_at ss j) ≡ true
+    by_slot None e = ap (slot_holds P j) e
+    by_slot (Some row) e = let k : j ≡ 0 + j = omega arith in ap (slot_holds P j) e ∙ ap (P row) k ∙ holds_at P 0 ss j row h e
+
+-- the same where the slot is known
 pub holds_of : (P : Test) (n : ℕ) (ss : List Slot) (i : ℕ) (old : Slot) (k : ℕ) → k ≡ n + i → i < length ss → old ≡ get_or ss i old → slots_hold P n ss ≡ true → slot_holds P k old ≡ true
 holds_of P n [] i old k e lt o h = absurd (omega arith)
 holds_of P n (s ∷ ss) zero old k e lt o h =

@@ -6,4 +6,6 @@ pub mod Heap
 pub mod Index
 pub mod Room
 pub mod Slots
+pub mod Store
+pub mod Table
 pub mod Undo

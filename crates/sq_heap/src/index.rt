@@ -2,11 +2,12 @@
 
 ghost use Rattle.std.specs.Prelude.{◌≡◌, ◌<◌, ◌≤◌, ◌^◌, ◌∷◌, [], length, true, IfOk, MatchOption, OnOk};
 ghost use Rattle.std.specs.List.{list_all};
+ghost use Rattle.std.specs.Option.{option_copied};
 ghost use Rattle.sq_heap.specs.Chain.{are_falling, chain_of, is_within};
 
 use crate::hash::hash_of_row;
 use sq_items::Items;
-use sq_value::Value;
+use sq_value::{Row, Value};
 use std::alloc::{AllocError, Global};
 
 /// A slot's place, under the hash of the key of a row that was put there.
@@ -35,7 +36,7 @@ pub(crate) struct Index {
 
 impl Index {
     ghost use Rattle.std.specs.Prelude.{ℕ};
-    ghost use Rattle.sq_heap.specs.Index.{bucket_of, has_entry, is_in};
+    ghost use Rattle.sq_heap.specs.Index.{bucket_of, has_entry, is_in, slot_holds};
 
     /// An index without entries, and with room for `count`.
     pub(crate) fn new(
@@ -91,15 +92,25 @@ impl Index {
         }
     }
 
-    /// Adds an entry for a row.
-    pub(crate) fn enter(&mut self, row: &[Value], at: usize) -> Result<(), AllocError>
+    /// Adds an entry for a row. The entry of the row that was in its slot before serves where the hash is the same.
+    pub(crate) fn enter(
+        &mut self,
+        before: Option<&Row>,
+        row: &[Value],
+        at: usize,
+    ) -> Result<(), AllocError>
+        requires { slot_holds (is_in self.old) at (option_copied before) ≡ true }
         ensures columns { self.new.columns ≡ self.old.columns }
         ensures keeps { (hash place : ℕ) → has_entry self.old hash place ≡ true
             → has_entry self.new hash place ≡ true }
         ensures entered { OnOk result (is_in self.new row.now at ≡ true) }
     {
-        let hash = hash_of_row(row, self.columns.as_slice());
-        self.add(hash, at)
+        let columns = self.columns.as_slice();
+        let hash = hash_of_row(row, columns);
+        match before {
+            Some(old) if hash_of_row(old.as_slice(), columns) == hash => Ok(()),
+            _ => self.add(hash, at),
+        }
     }
 
     /// Adds an entry under a hash, in front of its chain.

@@ -1,11 +1,13 @@
 //! The indexes of a table, and how they get their entries.
 
 ghost use Rattle.std.specs.Prelude.{◌≡◌, ◌<◌, ◌+◌, ◌++◌, ◌^◌, [], ℕ, List, length, slice_index_or, true, IfOk, IfSome, OnOk};
+ghost use Rattle.std.specs.Option.{option_copied};
 ghost use Rattle.sq_value.specs.declared.value.Value.{Value as SqlValue};
 ghost use Rattle.sq_heap.specs.Entered.{change_holds, changes_hold, next_slot};
 ghost use Rattle.sq_heap.specs.Index.{in_all, is_in, keys_of, slot_holds, slots_hold, undo_holds};
 
 use crate::index::Index;
+use crate::slots::Slots;
 use crate::undo::Undo;
 use sq_items::Items;
 use sq_store::Change;
@@ -84,7 +86,7 @@ fn enter_slot(index: &mut Index, slot: &Option<Row>, at: usize) -> Result<(), Al
     ensures entered { OnOk result (slot_holds (is_in index.new) at slot.now ≡ true) }
 {
     match slot {
-        Some(row) => index.enter(row.as_slice(), at),
+        Some(row) => index.enter(None, row.as_slice(), at),
         None => Ok(()),
     }
 }
@@ -113,22 +115,34 @@ fn enter_undo(index: &mut Index, undo: &[Undo]) -> Result<(), AllocError>
     Ok(())
 }
 
-/// Adds entries for a row to each index.
-fn enter_all(indexes: &mut Vec<Index>, row: &[Value], at: usize) -> Result<(), AllocError>
+/// Adds entries for a row to each index, also where another row was in its slot before.
+fn enter_all(
+    indexes: &mut Vec<Index>,
+    before: Option<&Row>,
+    row: &[Value],
+    at: usize,
+) -> Result<(), AllocError>
+    requires { slot_holds (in_all indexes.old.items) at (option_copied before) ≡ true }
     ensures keys { keys_of indexes.new.items ≡ keys_of indexes.old.items }
     ensures keeps { (r : List SqlValue) (place : ℕ) → in_all indexes.old.items r place ≡ true
         → in_all indexes.new.items r place ≡ true }
     ensures entered { OnOk result (in_all indexes.new.items row.now at ≡ true) }
 {
     for place in 0..indexes.len() {
-        indexes[place].enter(row, at)?;
+        indexes[place].enter(before, row, at)?;
     }
     Ok(())
 }
 
 /// Adds the entries of the row that a change puts in, where a new row gets a slot. Says which slot the next new row gets.
-fn enter_change(indexes: &mut Vec<Index>, change: &Change, next: usize) -> Result<usize, AllocError>
-    requires { next + 1 < 2 ^ 64 }
+fn enter_change(
+    indexes: &mut Vec<Index>,
+    slots: &Slots,
+    change: &Change,
+    next: usize,
+) -> Result<usize, AllocError>
+    requires next { next + 1 < 2 ^ 64 }
+    requires entered { slots_hold (in_all indexes.old.items) 0 slots.now.list.items ≡ true }
     ensures keys { keys_of indexes.new.items ≡ keys_of indexes.old.items }
     ensures keeps { (r : List SqlValue) (place : ℕ) → in_all indexes.old.items r place ≡ true
         → in_all indexes.new.items r place ≡ true }
@@ -137,33 +151,36 @@ fn enter_change(indexes: &mut Vec<Index>, change: &Change, next: usize) -> Resul
 {
     match change {
         Change::Insert(row) => {
-            enter_all(indexes, row.as_slice(), next)?;
+            enter_all(indexes, None, row.as_slice(), next)?;
             Ok(next + 1)
         }
         Change::Replace(number, row) => {
             // No row has the number 0, and an entry for a row that isn't put in does no harm.
-            enter_all(indexes, row.as_slice(), number.saturating_sub(1) as usize)?;
+            let at = number.saturating_sub(1) as usize;
+            enter_all(indexes, slots.get(at), row.as_slice(), at)?;
             Ok(next)
         }
         Change::Remove(_) => Ok(next),
     }
 }
 
-/// Adds the entries of the rows that changes put in, where the first new row gets a slot.
+/// Adds the entries of the rows that changes of these slots put in.
 pub(crate) fn enter_changes(
     indexes: &mut Vec<Index>,
+    slots: &Slots,
     changes: &[Change],
-    first: usize,
 ) -> Result<(), AllocError>
-    requires { first + length changes.now < 2 ^ 64 }
+    requires room { length slots.now.list.items + length changes.now < 2 ^ 64 }
+    requires entered { slots_hold (in_all indexes.old.items) 0 slots.now.list.items ≡ true }
     ensures keys { keys_of indexes.new.items ≡ keys_of indexes.old.items }
     ensures keeps { (r : List SqlValue) (place : ℕ) → in_all indexes.old.items r place ≡ true
         → in_all indexes.new.items r place ≡ true }
-    ensures entered { OnOk result (changes_hold (in_all indexes.new.items) first changes.now ≡ true) }
+    ensures entered { OnOk result
+        (changes_hold (in_all indexes.new.items) (length slots.now.list.items) changes.now ≡ true) }
 {
-    let mut next = first;
+    let mut next = slots.len();
     for change in changes {
-        next = enter_change(indexes, change, next)?;
+        next = enter_change(indexes, slots, change, next)?;
     }
     Ok(())
 }

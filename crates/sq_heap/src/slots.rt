@@ -57,7 +57,7 @@ impl Slots {
 
     /// The row in a slot.
     #[tactic(auto, using(crate::proofs::Rows::slot_is, crate::proofs::Rows::slot_past))]
-    fn get(&self, at: usize) -> Option<&Row>
+    pub(crate) fn get(&self, at: usize) -> Option<&Row>
         ensures { option_copied result ≡ slot_at self.now.list.items at }
     {
         if at < self.list.len() {

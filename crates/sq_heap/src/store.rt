@@ -1,15 +1,15 @@
 //! The store that keeps its tables as slots with indexes.
 
-ghost use Rattle.std.specs.Prelude.{◌≡◌, ◌≤◌, ◌<◌, ◌+◌, ◌++◌, ◌∷◌, [], ℕ, List, Option, false, true, Some, None, length, slice_set, take, IfOk, OnErr, OnOk};
-ghost use Rattle.std.specs.List.{list_all};
-ghost use Rattle.sq_store.specs.Change.{rows_put};
+ghost use Rattle.std.specs.Prelude.{◌≡◌, ◌≤◌, ◌<◌, ◌+◌, [], ℕ, List, Option, false, true, Some, None, length, take, IfOk, OnErr};
 ghost use Rattle.sq_store.specs.Content.{changed_by, no_rows, table_at};
-ghost use Rattle.sq_store.specs.Keys.{has_distinct_keys, has_keys, have_keys, keys_at, keys_of};
+ghost use Rattle.sq_store.specs.Keys.{has_distinct_keys, keys_at};
 ghost use Rattle.sq_store.specs.Saved.{is_sound_if};
 ghost use Rattle.sq_store.specs.Sound.{is_sound};
 ghost use Rattle.sq_store.specs.declared.store.TheConstants.{MOST_ROW_NUMBERS};
 ghost use Rattle.sq_heap.specs.declared.mark.Mark.{Mark};
 ghost use Rattle.sq_heap.specs.Heap.{all_before, all_committed, all_keys, all_now, are_listed, are_within, first_keys, is_mark_of};
+ghost use Rattle.sq_heap.specs.Store.{AreApplied, AreKept, AreLeft};
+ghost use Rattle.sq_heap.specs.Table.{MayApply};
 
 use crate::mark::Mark;
 use crate::table::HeapTable;
@@ -205,34 +205,16 @@ fn apply_to(
 ) -> Result<usize, ApplyFault>
     requires known { table < length tables.old.items }
     requires keys { keys ≤ length (keys_at (all_keys tables.old.items) table) }
-    requires columns { have_keys (take keys (keys_at (all_keys tables.old.items) table))
-        (table_at (all_now tables.old.items) table).rows ≡ true }
-    requires new_columns { list_all (has_keys (take keys (keys_at (all_keys tables.old.items) table)))
-        (rows_put changes.items) ≡ true }
-    requires distinct { has_distinct_keys (take keys (keys_at (all_keys tables.old.items) table))
-        (table_at (all_now tables.old.items) table) ≡ true }
-    ensures ok { OnOk result (all_now tables.new.items
-        ≡ slice_set (all_now tables.old.items) table
-        (changed_by (table_at (all_now tables.old.items) table) changes.items)) }
-    ensures distinct { OnOk result
-        (has_distinct_keys (take keys (keys_at (all_keys tables.old.items) table))
-        (changed_by (table_at (all_now tables.old.items) table) changes.items) ≡ true) }
+    requires changes { MayApply (take keys (keys_at (all_keys tables.old.items) table))
+        (table_at (all_now tables.old.items) table) changes.items }
+    ensures ok { IfOk result
+        (λ from. AreApplied (take keys (keys_at (all_keys tables.old.items) table)) changes.items
+        (record { table = table; from = from }) tables.old.items tables.new.items) }
     ensures duplicate { result ≡ Err ApplyFault.Duplicate
         → has_distinct_keys (take keys (keys_at (all_keys tables.old.items) table))
         (changed_by (table_at (all_now tables.old.items) table) changes.items) ≡ false }
-    ensures before { IfOk result
-        (λ from. all_before (Some (record { table = table; from = from })) tables.new.items
-        ≡ Some (all_now tables.old.items)) }
-    ensures committed { all_committed tables.new.items ≡ all_committed tables.old.items }
-    ensures err { OnErr result (all_now tables.new.items ≡ all_now tables.old.items) }
-    ensures err_before { OnErr result ((mark : Option Mark)
-        → all_before mark tables.new.items ≡ all_before mark tables.old.items) }
-    ensures err_listed { OnErr result ((listed : List ℕ) → are_listed listed 0 tables.old.items ≡ true
-        → are_listed listed 0 tables.new.items ≡ true) }
-    ensures listed { OnOk result ((listed : List ℕ) → are_listed listed 0 tables.old.items ≡ true
-        → are_listed (listed ++ table ∷ []) 0 tables.new.items ≡ true) }
-    ensures tables { length tables.new.items ≡ length tables.old.items }
-    ensures keys { all_keys tables.new.items ≡ all_keys tables.old.items }
+    ensures err { OnErr result (AreLeft tables.old.items tables.new.items) }
+    ensures kept { AreKept tables.old.items tables.new.items }
 {
     tables[table].apply(alloc, keys, changes)
 }

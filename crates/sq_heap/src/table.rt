@@ -2,14 +2,14 @@
 
 ghost use Rattle.std.specs.Prelude.{◌≡◌, ◌<◌, ◌≤◌, ◌+◌, ◌-◌, ◌++◌, ◌^◌, [], ℕ, false, true, drop, is_some, length, slice_index_or, slice_set, take, vec_capacity, vec_len, IfOk, MatchOption, None, Some, OnErr, OnOk};
 ghost use Rattle.std.specs.List.{list_all};
-ghost use Rattle.sq_store.specs.Change.{rows_put};
 ghost use Rattle.sq_store.specs.Content.{changed, changed_by, inserted, removed, replaced};
-ghost use Rattle.sq_store.specs.Keys.{are_distinct, has_distinct_keys, has_keys, have_keys, with_key};
+ghost use Rattle.sq_store.specs.Keys.{are_distinct, has_distinct_keys, have_keys, with_key};
 ghost use Rattle.sq_heap.specs.Alone.{all_alone, slots_have};
 ghost use Rattle.sq_heap.specs.Entered.{change_holds, changes_hold};
 ghost use Rattle.sq_heap.specs.Index.{in_all, keys_of, slot_holds, slots_hold, undo_holds};
 ghost use Rattle.sq_heap.specs.Room.{HasSlots, KeepsRoom, KeepsSlots};
 ghost use Rattle.sq_heap.specs.Slots.{slot_at, table_of};
+ghost use Rattle.sq_heap.specs.Table.{IsApplied, IsLeft, IsStart, MayApply};
 ghost use Rattle.sq_heap.specs.Undo.{GoesBack, back, fits};
 
 use crate::index::Index;
@@ -185,29 +185,19 @@ impl HeapTable {
         changes: Vec<Change>,
     ) -> Result<usize, ApplyFault>
         requires keys { keys ≤ length self.old.indexes.items }
-        requires columns { have_keys (take keys (keys_of self.old.indexes.items))
-            (table_of self.old.slots.list.items).rows ≡ true }
-        requires new_columns { list_all (has_keys (take keys (keys_of self.old.indexes.items)))
-            (rows_put changes.items) ≡ true }
-        requires distinct { has_distinct_keys (take keys (keys_of self.old.indexes.items))
-            (table_of self.old.slots.list.items) ≡ true }
-        ensures ok { OnOk result
-            (table_of self.new.slots.list.items
-            ≡ changed_by (table_of self.old.slots.list.items) changes.items) }
-        ensures distinct { OnOk result
-            (has_distinct_keys (take keys (keys_of self.old.indexes.items))
-            (changed_by (table_of self.old.slots.list.items) changes.items) ≡ true) }
+        requires changes { MayApply (take keys (keys_of self.old.indexes.items))
+            (table_of self.old.slots.list.items) changes.items }
+        ensures ok { OnOk result (IsApplied (take keys (keys_of self.old.indexes.items))
+            (table_of self.old.slots.list.items) changes.items (table_of self.new.slots.list.items)) }
+        ensures from { IfOk result (IsStart self.old.slots.list.items self.old.undo.items
+            self.new.slots.list.items self.new.undo.items) }
         ensures duplicate { result ≡ Err ApplyFault.Duplicate
             → has_distinct_keys (take keys (keys_of self.old.indexes.items))
             (changed_by (table_of self.old.slots.list.items) changes.items) ≡ false }
-        ensures from { IfOk result (λ from. from ≡ length self.old.undo.items) }
-        ensures before { OnOk result
-            (back self.new.slots.list.items (drop (length self.old.undo.items) self.new.undo.items)
-            ≡ self.old.slots.list.items) }
+        ensures err { OnErr result (IsLeft self.old.slots.list.items self.old.undo.items
+            self.new.slots.list.items self.new.undo.items) }
         ensures committed { back self.new.slots.list.items self.new.undo.items
             ≡ back self.old.slots.list.items self.old.undo.items }
-        ensures err { OnErr result (self.new.slots.list.items ≡ self.old.slots.list.items) }
-        ensures err_undo { OnErr result (self.new.undo.items ≡ self.old.undo.items) }
         ensures keys { keys_of self.new.indexes.items ≡ keys_of self.old.indexes.items }
     {
         if let Err(refused) = self.prepare(alloc, changes.as_slice()) {
@@ -252,7 +242,7 @@ impl HeapTable {
             (changes_hold (in_all self.new.indexes.items) (length self.old.slots.list.items) changes.now
             ≡ true) }
     {
-        enter_changes(&mut self.indexes, changes, self.slots.len())
+        enter_changes(&mut self.indexes, &self.slots, changes)
     }
 
     /// Rebuilds each index that `count` more entries would make slow.

@@ -9,4 +9,5 @@ pub mod Refused
 pub mod Spelled
 pub mod Steps
 pub mod Taken
+pub mod Written
 pub mod Wrote

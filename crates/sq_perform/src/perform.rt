@@ -11,7 +11,7 @@ use crate::action::Action;
 use crate::limits::Limits;
 use crate::prepare::{open_session, read_script};
 use crate::refusal::RunFault;
-use crate::report::{call_line, table_lines};
+use crate::report::{write_call, write_table};
 use sq_out::{Out, write_whole};
 use sq_session::Session;
 use sq_store::{MOST_ROW_NUMBERS, Store};
@@ -95,8 +95,9 @@ fn perform_all<S: Store, W: Out>(
     ensures failed { IfErr result (λ fault. W.failed out.new ≡ is_write fault) }
 {
     let mut written = 0u128;
+    let mut lines = Vec::new(alloc);
     for (done, action) in actions.iter().enumerate() {
-        let Ok(lines) = perform(alloc, session, action) else {
+        let Ok(()) = perform(alloc, session, action, &mut lines) else {
             return Err(RunFault::NoMemory(done));
         };
         if let Err(taken) = write_whole(out, lines.as_slice()) {
@@ -107,22 +108,24 @@ fn perform_all<S: Store, W: Out>(
     Ok(())
 }
 
-/// Performs an item, and gives its lines.
+/// Performs an item, and writes its lines in the place of those before.
 fn perform<S: Store>(
     alloc: Global,
     session: &mut Session<S>,
     action: &Action,
-) -> Result<Vec<u8>, AllocError>
+    lines: &mut Vec<u8>,
+) -> Result<(), AllocError>
     requires { IsPrepared session.old action.now }
-    ensures step { IfOk result (λ lines. Step action.now session.old lines.items session.new) }
+    ensures step { OnOk result (Step action.now session.old lines.new.items session.new) }
     ensures procedures { session.new.procedures ≡ session.old.procedures }
     ensures tables { session.new.tables ≡ session.old.tables }
 {
+    lines.clear();
     match action {
         Action::Call(call) => {
             let reply = session.call(alloc, call.procedure, call.values.as_slice())?;
-            call_line(alloc, call, &reply)
+            write_call(alloc, call, &reply, lines)
         }
-        Action::Show(shown) => table_lines(alloc, session, shown),
+        Action::Show(shown) => write_table(alloc, session, shown, lines),
     }
 }

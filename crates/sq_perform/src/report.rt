@@ -1,6 +1,7 @@
 //! The lines of the report.
-ghost use Rattle.std.specs.Prelude.{◌≡◌, ◌++◌, codes, decimal, map, OnOk, IfOk, Some};
+ghost use Rattle.std.specs.Prelude.{◌≡◌, ◌++◌, codes, decimal, map, OnOk, Some};
 ghost use Rattle.std.specs.List.{flat_map};
+ghost use Rattle.sq_value.specs.Spelling.{written};
 ghost use Rattle.sq_store.specs.Content.{table_at};
 ghost use Rattle.sq_catalog.specs.Catalog.{table_number};
 ghost use Rattle.sq_model.specs.Report as report;
@@ -14,6 +15,7 @@ use sq_session::{Output, Reply, Session, TableRows};
 use sq_store::Store;
 use sq_value::{Decimal, Value};
 use std::alloc::{AllocError, Global};
+use std::io::Write;
 
 /// Adds SQLSTATE and SQLCODE.
 fn write_status(alloc: Global, status: Status, line: &mut Vec<u8>) -> Result<(), AllocError>
@@ -22,7 +24,19 @@ fn write_status(alloc: Global, status: Status, line: &mut Vec<u8>) -> Result<(),
     let code = Decimal::new(status.sqlcode() as i64, 0);
     line.extend_from_slice(&status.sqlstate())?;
     line.push(b' ')?;
-    line.extend_from_slice(code.write(alloc)?.as_slice())
+    write_number(alloc, code, line)
+}
+
+/// Adds a number as it is spelled. A whole one takes no memory of its own.
+#[tactic(auto, using(crate::proofs::Written::whole_is))]
+fn write_number(alloc: Global, number: Decimal, line: &mut Vec<u8>) -> Result<(), AllocError>
+    ensures { OnOk result (line.new.items ≡ line.old.items ++ written number) }
+{
+    if number.scale() == 0 {
+        write!(line, "{}", number.unscaled()).map_err(|_| AllocError)
+    } else {
+        line.extend_from_slice(number.write(alloc)?.as_slice())
+    }
 }
 
 /// Adds a value as it is spelled: digits, a quoted text or `NULL`.
@@ -31,7 +45,7 @@ fn write_value(alloc: Global, value: &Value, line: &mut Vec<u8>) -> Result<(), A
 {
     match value {
         Value::Null => line.extend_from_slice(b"NULL"),
-        Value::Num(number) => line.extend_from_slice(number.write(alloc)?.as_slice()),
+        Value::Num(number) => write_number(alloc, *number, line),
         Value::Chars(text) => write_text(text.codes(), line),
     }
 }
@@ -62,20 +76,21 @@ fn write_names(first: Name, second: Name, line: &mut Vec<u8>) -> Result<(), Allo
     Ok(())
 }
 
-/// The line of a call.
-pub(crate) fn call_line(
+/// Adds the line of a call.
+pub(crate) fn write_call(
     alloc: Global,
     call: &CallAction,
     reply: &Reply,
-) -> Result<Vec<u8>, AllocError>
-    ensures { IfOk result (λ line. line.items ≡ report.call_line (call_of call.now) (told reply.now)) }
+    line: &mut Vec<u8>,
+) -> Result<(), AllocError>
+    ensures { OnOk result
+        (line.new.items ≡ line.old.items ++ report.call_line (call_of call.now) (told reply.now)) }
 {
-    let mut line = Vec::new(alloc);
-    write_names(call.module, call.name, &mut line)?;
-    write_status(alloc, reply.status, &mut line)?;
-    write_outputs(alloc, reply.outputs.as_slice(), &mut line)?;
+    write_names(call.module, call.name, line)?;
+    write_status(alloc, reply.status, line)?;
+    write_outputs(alloc, reply.outputs.as_slice(), line)?;
     line.push(b'\n')?;
-    Ok(line)
+    Ok(())
 }
 
 fn write_outputs(alloc: Global, outputs: &[Output], line: &mut Vec<u8>) -> Result<(), AllocError>
@@ -91,20 +106,20 @@ fn write_outputs(alloc: Global, outputs: &[Output], line: &mut Vec<u8>) -> Resul
     Ok(())
 }
 
-/// The lines of a table: its names, how many rows it has, and the rows.
-pub(crate) fn table_lines<S: Store>(
+/// Adds the lines of a table: its names, how many rows it has, and the rows.
+pub(crate) fn write_table<S: Store>(
     alloc: Global,
     session: &Session<S>,
     shown: &ShowAction,
-) -> Result<Vec<u8>, AllocError>
+    lines: &mut Vec<u8>,
+) -> Result<(), AllocError>
     requires { table_number session.now.tables shown.now.user shown.now.name ≡ Some shown.now.table }
-    ensures { IfOk result (λ lines. lines.items ≡ report.table_lines (table_of shown.now)
+    ensures { OnOk result (lines.new.items ≡ lines.old.items ++ report.table_lines (table_of shown.now)
         (table_at session.now.state.tables shown.now.table)) }
 {
     let rows = rows_shown(session, shown);
-    let mut lines = table_line(alloc, shown.user, shown.name, rows.len())?;
-    write_rows(alloc, rows, &mut lines)?;
-    Ok(lines)
+    write_heading(shown.user, shown.name, rows.len(), lines)?;
+    write_rows(alloc, rows, lines)
 }
 
 /// The rows of the base table that is shown.
@@ -118,17 +133,14 @@ fn rows_shown<'s, S: Store>(session: &'s Session<S>, shown: &ShowAction) -> Tabl
     }
 }
 
-/// The line before a table's rows.
-fn table_line(alloc: Global, user: Name, table: Name, rows: usize) -> Result<Vec<u8>, AllocError>
-    ensures { IfOk result
-        (λ line. line.items ≡ codes "TABLE " ++ user ++ codes "." ++ table ++ codes " " ++ decimal rows
-        ++ codes "\n") }
+/// Adds the line before a table's rows.
+fn write_heading(user: Name, table: Name, rows: usize, line: &mut Vec<u8>) -> Result<(), AllocError>
+    ensures { OnOk result (line.new.items ≡ line.old.items
+        ++ codes "TABLE " ++ user ++ codes "." ++ table ++ codes " " ++ decimal rows ++ codes "\n") }
 {
-    let mut line = Vec::from_slice(alloc, b"TABLE ")?;
-    write_names(user, table, &mut line)?;
-    line.extend_from_slice(rows.to_string(alloc)?.as_bytes())?;
-    line.push(b'\n')?;
-    Ok(line)
+    line.extend_from_slice(b"TABLE ")?;
+    write_names(user, table, line)?;
+    writeln!(line, "{rows}").map_err(|_| AllocError)
 }
 
 fn write_rows<S: Store>(

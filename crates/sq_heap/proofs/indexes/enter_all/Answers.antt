@@ -1,7 +1,17 @@
 use Rattle.std.proofs.Common.{◌∙◌, ◌<◌, arith, length}
-use Rattle.sq_heap.specs.Index.{is_in}
-use Rattle.sq_heap.proofs.Entries.{all_set, all_taken, in_keeps, keys_set, length_put}
+use Rattle.std.specs.Option.{option_copied}
+use Rattle.sq_heap.specs.Index.{in_all, is_in}
+use Rattle.sq_heap.proofs.Entries.{all_at, all_set, all_taken, in_keeps, keys_set, length_put}
+use Rattle.sq_heap.proofs.Holds.{slot_gives}
 use Rattle.sq_heap.proofs.indexes.enter_all.Goals as goal
+
+pub enter-requires : goal.enter-requires
+enter-requires c =
+    let xs = c.loop-place.indexes.items in
+    let x = c.index_mut.result.now in
+    let lt : c.loop-place.place < length c.loop-place.indexes.items = omega (arith, c.loop-place-test.true, c.loop-place.invariant.tables) in
+    slot_gives (in_all c.args.indexes.now.items) (is_in x) (λ r at h. all_at (λ index. is_in index r at) xs c.loop-place.place x lt c.index_mut.ensures.value (c.loop-place.invariant.keeps r at h))
+    c.args.at (option_copied c.args.before) c.requires
 
 pub returns-in_err-enter-clause-keys : goal.returns-in_err-enter-clause-keys
 returns-in_err-enter-clause-keys c =

@@ -2,7 +2,12 @@ use Rattle.std.proofs.Common.{◌∙◌, ◌+◌, ◌≤◌, ℕ, ap, arith, dro
 use Rattle.sq_heap.specs.Entered.{changes_hold, next_slot}
 use Rattle.sq_heap.specs.Index.{in_all}
 use Rattle.sq_heap.proofs.Entering.{change_gives, holds_from, next_at_most}
+use Rattle.sq_heap.proofs.Holds.{slots_give}
 use Rattle.sq_heap.proofs.indexes.enter_changes.Goals as goal
+
+pub enter_change-requires-clause-entered : goal.enter_change-requires-clause-entered
+enter_change-requires-clause-entered c =
+    slots_give (in_all c.args.indexes.now.items) (in_all c.loop-change.indexes.items) c.loop-change.invariant.keeps 0 c.args.slots.now.list.items c.requires.entered
 
 pub loop-change-preserved : goal.loop-change-preserved
 loop-change-preserved c =

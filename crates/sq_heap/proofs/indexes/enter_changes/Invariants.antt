@@ -1,4 +1,4 @@
-use Rattle.std.proofs.Common.{◌≡◌, ◌≤◌, ◌+◌, ℕ, List, drop, true}
+use Rattle.std.proofs.Common.{◌≡◌, ◌≤◌, ◌+◌, ℕ, List, drop, length, true}
 use Rattle.sq_value.specs.declared.value.Value.{Value}
 use Rattle.sq_heap.specs.Entered.{changes_hold}
 use Rattle.sq_heap.specs.Index.{Test, in_all, keys_of}
@@ -10,6 +10,6 @@ invariant-loop-change l = record {
   keys : keys_of l.indexes.items ≡ keys_of l.initial.indexes.items;
   keeps : (r : List Value) (at : ℕ) → in_all l.initial.indexes.items r at ≡ true → in_all l.indexes.items r at ≡ true;
   entered : (test : Test) → ((r : List Value) (at : ℕ) → in_all l.indexes.items r at ≡ true → test r at ≡ true)
-      → changes_hold test l.next (drop l.change-index l.changes) ≡ true → changes_hold test l.first l.changes ≡ true;
-  bound : l.next ≤ l.first + l.change-index;
+      → changes_hold test l.next (drop l.change-index l.changes) ≡ true → changes_hold test (length l.slots.list.items) l.changes ≡ true;
+  bound : l.next ≤ length l.slots.list.items + l.change-index;
 }

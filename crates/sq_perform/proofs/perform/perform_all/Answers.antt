@@ -21,7 +21,7 @@ pub loop-done-preserved : goal.loop-done-preserved
 loop-done-preserved g c =
     let taken = g.W.Out.taken in
     let step : Step c.index-actions-done.result c.loop-done.session c.as_slice.result.now c.perform.new.session = rw c.as_slice.ensures.value c.in-Ok.ensures.step in
-    let size : c.len.result ≡ length c.as_slice.result.now = c.len.ensures ∙ c.in-Ok.lines.ok.0 ∙ ap length (sym c.as_slice.ensures.value) in
+    let size : c.len.result ≡ length c.as_slice.result.now = c.len.ensures ∙ c.perform.new.lines.ok.0 ∙ ap length (sym c.as_slice.ensures.value) in
     record {
       so_far = wrote_more c.args.actions.now c.loop-done.done c.index-actions-done.result c.args.session.now c.loop-done.session c.perform.new.session c.loop-done.written c.len.result
           (taken c.args.out.now) (taken c.loop-done.out) (taken c.write_whole.new.out) c.as_slice.result.now

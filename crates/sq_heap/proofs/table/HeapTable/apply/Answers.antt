@@ -13,4 +13,4 @@ has_distinct_keys-requires-clause-columns c =
     let keys : keys_of c.make_all.new.self.indexes.items ≡ keys_of c.args.self.now.indexes.items = ap (λ xs. keys_of xs.items) c.make_all.ensures.indexes ∙ c.prepare.ensures.keys in
     let table : table_of c.make_all.new.self.slots.list.items ≡ changed_by (table_of c.args.self.now.slots.list.items) c.args.changes.items
     = c.make_all.ensures.table ∙ ap (λ (ss : List Slot). changed_by (table_of ss) changes) c.prepare.ensures.slots in
-    (λ i. have_keys (take c.args.keys (keys i)) (table i).rows) ∙ have_keys_changed_by (take c.args.keys (keys_of s.indexes.items)) (table_of s.slots.list.items) changes c.requires.columns c.requires.new_columns
+    (λ i. have_keys (take c.args.keys (keys i)) (table i).rows) ∙ have_keys_changed_by (take c.args.keys (keys_of s.indexes.items)) (table_of s.slots.list.items) changes c.requires.changes.columns c.requires.changes.new_columns
