@@ -67,7 +67,7 @@ impl<'a, N: Names, S: Store> Setting<'a, N, S> {
         ensures { HasValueOn result expr.now
             (line_of (option_copied row.entry)) self.now.parameters.now self.now.user }
     {
-        value_of(self.alloc, self.names, expr, row, self.store, self.inputs())
+        value_of(self.alloc, expr, row, self.inputs())
     }
 
     /// Whether a condition holds of a row of a base table.
