@@ -31,9 +31,9 @@ delete-deleted-requires-clause-may g c =
     let called = c.args.called.now in
     let kinds = kinds_of_parameters called.procedure.now.parameters in
     let inputs = c.inputs.result in
-    let given = subst (λ (vs : List Value). AreGiven kinds vs) (sym c.inputs.ensures.parameters) c.requires.given in
+    let given = subst (λ (vs : List Value). AreGiven kinds vs) (sym c.inputs.ensures.parameters) c.requires.may.given in
     let in_domains = subst (λ (m : State). AreInDomains called.catalog.now.bases m.tables) (sym c.self.view_is) c.requires.whole.4 in
-    may_choose called.catalog.now _ inputs.user kinds inputs.parameters.now c.args.target.now given in_domains c.requires.asked
+    may_choose called.catalog.now _ inputs.user kinds inputs.parameters.now c.args.target.now given in_domains c.requires.may.asked.well_formed
 
 pub returns-in-Err-clause-right : goal.returns-in-Err-clause-right
 returns-in-Err-clause-right g c = let right = rw c.in-Err.is at c.delete-deleted.ensures.right in fault_right c.in-Err.fault right

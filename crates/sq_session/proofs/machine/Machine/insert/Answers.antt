@@ -24,12 +24,12 @@ insert-inserted-requires-clause-given g c =
     let called = c.args.called.now in
     let kinds = kinds_of_parameters called.procedure.now.parameters in
     let inputs = c.inputs.result in
-    let given = subst (λ (vs : List Value). AreGiven kinds vs) (sym c.inputs.ensures.parameters) c.requires.given in
+    let given = subst (λ (vs : List Value). AreGiven kinds vs) (sym c.inputs.ensures.parameters) c.requires.may.given in
     let in_domains = subst (λ (m : State). AreInDomains called.catalog.now.bases m.tables) (sym c.self.view_is) c.requires.whole.4 in
-    may_give called.catalog.now (kinds_of_cursors called.cursors.now) _ inputs.user kinds inputs.parameters.now c.args.statement.now given in_domains c.requires.asked
+    may_give called.catalog.now (kinds_of_cursors called.cursors.now) _ inputs.user kinds inputs.parameters.now c.args.statement.now given in_domains c.requires.may.asked.well_formed
 
 pub insert-inserted-requires-clause-leaf : goal.insert-inserted-requires-clause-leaf
-insert-inserted-requires-clause-leaf g c = c.requires.asked.0
+insert-inserted-requires-clause-leaf g c = c.requires.may.asked.well_formed.0
 
 pub returns-in-Err-clause-right : goal.returns-in-Err-clause-right
 returns-in-Err-clause-right g c = let right = rw c.in-Err.is at c.insert-inserted.ensures.right in fault_right c.in-Err.fault right

@@ -29,17 +29,17 @@ pub update-updated-requires-clause-assigned : goal.update-updated-requires-claus
 update-updated-requires-clause-assigned g c =
     let called = c.args.called.now in
     let kinds = kinds_of_parameters called.procedure.now.parameters in
-    let given = subst (λ (vs : List Value). AreGiven kinds vs) (sym c.inputs.ensures.parameters) c.requires.given in
-    may_assign (column_kinds called.catalog.now) (kinds_of_cursors called.cursors.now) kinds c.inputs.result.parameters.now c.args.statement.now given c.requires.asked
+    let given = subst (λ (vs : List Value). AreGiven kinds vs) (sym c.inputs.ensures.parameters) c.requires.may.given in
+    may_assign (column_kinds called.catalog.now) (kinds_of_cursors called.cursors.now) kinds c.inputs.result.parameters.now c.args.statement.now given c.requires.may.asked.well_formed
 
 pub update-updated-requires-clause-may : goal.update-updated-requires-clause-may
 update-updated-requires-clause-may g c =
     let called = c.args.called.now in
     let kinds = kinds_of_parameters called.procedure.now.parameters in
     let inputs = c.inputs.result in
-    let given = subst (λ (vs : List Value). AreGiven kinds vs) (sym c.inputs.ensures.parameters) c.requires.given in
+    let given = subst (λ (vs : List Value). AreGiven kinds vs) (sym c.inputs.ensures.parameters) c.requires.may.given in
     let in_domains = subst (λ (m : State). AreInDomains called.catalog.now.bases m.tables) (sym c.self.view_is) c.requires.whole.4 in
-    may_choose called.catalog.now _ inputs.user kinds inputs.parameters.now c.args.statement.now.target given in_domains c.requires.asked.0
+    may_choose called.catalog.now _ inputs.user kinds inputs.parameters.now c.args.statement.now.target given in_domains c.requires.may.asked.well_formed.0
 
 pub update-updated-requires-clause-there : goal.update-updated-requires-clause-there
 update-updated-requires-clause-there g c =
