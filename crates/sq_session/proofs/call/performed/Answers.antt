@@ -15,7 +15,7 @@ close-requires g c =
 pub returns-in-Close-clause-left : goal.returns-in-Close-clause-left
 returns-in-Close-clause-left g c = record {
   tables =
-      still_legal (column_kinds c.args.catalog.now) c.args.catalog.now.bases c.args.program.now.cursors.items c.args.machine.now c.close.new.machine.tables c.requires.whole c.close.ensures.tables;
+      still_legal (column_kinds c.args.catalog.now) c.args.catalog.now.bases c.args.program.now.cursors.items c.args.machine.now c.close.new.self.tables c.requires.whole c.close.ensures.tables;
   opened = rw c.in-Close.is tt;
 }
 
@@ -26,13 +26,13 @@ returns-in-Close-clause-performed g c =
 pub returns-in-Commit-clause-left : goal.returns-in-Commit-clause-left
 returns-in-Commit-clause-left g c = record {
   tables =
-      committed_legal (column_kinds c.args.catalog.now) c.args.catalog.now.bases c.args.program.now.cursors.items c.args.machine.now c.commit.new.machine c.requires.whole c.commit.ensures.state;
+      committed_legal (column_kinds c.args.catalog.now) c.args.catalog.now.bases c.args.program.now.cursors.items c.args.machine.now c.commit.new.self c.requires.whole c.commit.ensures.state;
   opened = rw c.in-Commit.is tt;
 }
 
 pub returns-in-Rollback-clause-left : goal.returns-in-Rollback-clause-left
 returns-in-Rollback-clause-left g c = record {
   tables =
-      rolled_back_legal (column_kinds c.args.catalog.now) c.args.catalog.now.bases c.args.program.now.cursors.items c.args.machine.now c.rollback.new.machine c.requires.whole c.rollback.ensures.state;
+      rolled_back_legal (column_kinds c.args.catalog.now) c.args.catalog.now.bases c.args.program.now.cursors.items c.args.machine.now c.rollback.new.self c.requires.whole c.rollback.ensures.state;
   opened = rw c.in-Rollback.is tt;
 }

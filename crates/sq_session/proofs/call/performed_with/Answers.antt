@@ -10,7 +10,7 @@ pub returns-in-Open-clause-left : goal.returns-in-Open-clause-left
 returns-in-Open-clause-left g c =
     let called = c.args.called.now in
     record {
-      tables = still_legal (column_kinds called.catalog.now) called.catalog.now.bases called.cursors.now c.args.machine.now c.open.new.machine.tables c.requires.whole c.open.ensures.left.tables;
+      tables = still_legal (column_kinds called.catalog.now) called.catalog.now.bases called.cursors.now c.args.machine.now c.open.new.self.tables c.requires.whole c.open.ensures.left.tables;
       opened = rw c.in-Open.is c.open.ensures.left.kept;
     }
 
@@ -18,7 +18,7 @@ pub returns-in-Fetch-clause-left : goal.returns-in-Fetch-clause-left
 returns-in-Fetch-clause-left g c =
     let called = c.args.called.now in
     record {
-      tables = still_legal (column_kinds called.catalog.now) called.catalog.now.bases called.cursors.now c.args.machine.now c.fetch.new.machine.tables c.requires.whole c.fetch.ensures.tables;
+      tables = still_legal (column_kinds called.catalog.now) called.catalog.now.bases called.cursors.now c.args.machine.now c.fetch.new.self.tables c.requires.whole c.fetch.ensures.tables;
       opened = rw c.in-Fetch.is tt;
     }
 

@@ -40,6 +40,9 @@ next_chosen-requires-clause-rows g c =
 pub returns-in-Some-clause-first : goal.returns-in-Some-clause-first
 returns-in-Some-clause-first g c = rw (c.requires.over, c.as_slice.ensures) at c.chosen_by_key-found.ensures.first
 
+pub returns-in-None-clause-first : goal.returns-in-None-clause-first
+returns-in-None-clause-first g c = rw c.as_slice.ensures at c.next_chosen.ensures.first
+
 pub returns-in-None-clause-once : goal.returns-in-None-clause-once
 returns-in-None-clause-once g c = λ keyed.
     let user = c.args.called.now.procedure.now.user in
