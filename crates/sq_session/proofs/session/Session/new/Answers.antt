@@ -1,4 +1,4 @@
-use Rattle.std.proofs.Common.{ap, length, refl, subst, sym, true, ◌∙◌, ◌≡◌}
+use Rattle.std.proofs.Common.{ap, length, subst, sym, true, ◌∙◌, ◌≡◌}
 use Rattle.sq_session.specs.Cursors.{are_over}
 use Rattle.sq_session.specs.Session.{names_of}
 use Rattle.sq_session.specs.State.{AreClosed, State}
