@@ -57,3 +57,8 @@ invalid_right f h = subst (λ (x : Fault). IfSome (ending (Err x)) EndsRight) (s
 pub all_if : {D : Type 0} (P Q : D → Type 0) (R : Type 0) (o : Option D) → IfSome o P → IfSome o Q → R → IfSome o (λ d. P d × Q d × R)
 all_if P Q R None h k there = tt
 all_if P Q R (Some d) h k there = (h, k, there)
+
+-- A fact that is no matter of the ending, beside one of each ending.
+pub also_if : {D : Type 0} (P : D → Type 0) (R : Type 0) (o : Option D) → R → IfSome o P → IfSome o (λ d. R × P d)
+also_if P R None there h = tt
+also_if P R (Some d) there h = (there, h)

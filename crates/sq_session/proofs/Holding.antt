@@ -12,11 +12,12 @@ use Rattle.sq_store.specs.Content.{Content, empty, no_rows, row_at, table_at}
 use Rattle.sq_store.specs.Keys.{keys_of}
 use Rattle.sq_store.specs.declared.table.Numbered.{Numbered}
 use Rattle.sq_store.specs.declared.table.Table.{Table}
-use Rattle.sq_bound.specs.Fits.{AreInDomains, AreRowsIn, FitsQuery, FitsTarget, has_its_values, have_width, holds, keys_of_bases, not_nulls_hold}
+use Rattle.sq_bound.specs.Fits.{AreInDomains, AreRowsIn, FitsQuery, FitsTarget, IsBase, has_its_values, have_width, holds, keys_of_bases, not_nulls_hold}
 use Rattle.sq_bound.specs.Names.{are_positions}
 use Rattle.sq_bound.specs.declared.names.BaseColumn.{BaseColumn}
 use Rattle.sq_bound.specs.declared.names.BaseTable.{BaseTable}
 use Rattle.sq_bound.specs.declared.names.Reference.{Reference}
+use Rattle.sq_bound.specs.declared.query.Target.{Target}
 use Rattle.sq_bound.specs.declared.query.UpdatableQuery.{UpdatableQuery}
 use Rattle.sq_bound.specs.declared.statement.ChangeTarget.TheVariants as target
 use Rattle.sq_bound.specs.declared.statement.PositionedTarget.{PositionedTarget}
@@ -130,8 +131,9 @@ HasColumns bases p columns = (b : BaseTable) × (slice_get bases p ≡ Some b) �
 pub query_over : (bases : List BaseTable) (q : UpdatableQuery) → FitsQuery bases q → HasColumns bases q.target.base q.columns
 query_over bases q fits = (q.target.leaf.table, subst (λ (p : ℕ). slice_get bases p ≡ Some q.target.leaf.table) (sym q.target.is_under) fits.0, fits.1)
 
-pub query_there : (bases : List BaseTable) (tables : Content) (q : UpdatableQuery) → holds bases tables ≡ true → FitsQuery bases q → q.target.base < length tables
-query_there bases tables q held fits = let over = query_over bases q fits in is_there bases tables q.target.base over.0 held over.1
+-- The base table of a target is there.
+pub target_there : (bases : List BaseTable) (tables : Content) (t : Target) → holds bases tables ≡ true → IsBase bases t.leaf.table → t.base < length tables
+target_there bases tables t held base = subst (λ (n : ℕ). n < length tables) (sym t.is_under) (is_there bases tables t.leaf.table.place t.leaf.table held base)
 
 -- ---- what a positioned statement is over
 

@@ -93,12 +93,16 @@ rows_under : (columns : List BaseColumn) (rows : List Numbered) → AreRowsIn co
 rows_under columns [] h = tt
 rows_under columns (r ∷ rows) h = (row_kinds columns r.row h.0, rows_under columns rows h.1)
 
+-- The rows of the base table of a target.
+pub rows_of_base : (bases : List BaseTable) (tables : Content) (t : Target) (table : ℕ) → AreInDomains bases tables → IsBase bases t.leaf.table → t.base ≡ table → AreRowsUnder t (table_at tables table).rows
+rows_of_base bases tables t table in_domains base over =
+    let place : t.leaf.table.place ≡ table = sym t.is_under ∙ over in
+    let there : slice_get bases table ≡ Some t.leaf.table = subst (λ (p : ℕ). slice_get bases p ≡ Some t.leaf.table) place base in
+    rows_under t.leaf.table.columns (table_at tables table).rows (rows_in bases tables table t.leaf.table in_domains there)
+
 pub are_under : (bases : List BaseTable) (tables : Content) (u : UpdatableQuery) (table : ℕ) → AreInDomains bases tables → FitsBody bases (body.Updatable u) → u.target.base ≡ table
     → AreRowsUnder u.target (table_at tables table).rows
-are_under bases tables u table in_domains fits over =
-    let place : u.target.leaf.table.place ≡ table = sym u.target.is_under ∙ over in
-    let there : slice_get bases table ≡ Some u.target.leaf.table = subst (λ (p : ℕ). slice_get bases p ≡ Some u.target.leaf.table) place fits.0 in
-    rows_under u.target.leaf.table.columns (table_at tables table).rows (rows_in bases tables table u.target.leaf.table in_domains there)
+are_under bases tables u table in_domains fits over = rows_of_base bases tables u.target table in_domains fits.0 over
 
 -- ---- a cursor that is declared
 
@@ -175,12 +179,6 @@ pub quiet_at : (columns : TableKinds) (ds : List DeclaredCursor) (n : ℕ) (u : 
     → is_over (over_at ds n) (cursor.Walking w) ≡ true → IsQuietWith columns u.target w.values
 quiet_at columns ds n u w is kept over =
     quiet_with columns is.declared.cursor u w.values w.table is.body_is (rw is.at at kept) (over_declared ds n is.declared w is.at over)
-
-pub under_at : (bases : List BaseTable) (tables : Content) (ds : List DeclaredCursor) (n : ℕ) (u : UpdatableQuery) (w : WalkingCursor) → AreInDomains bases tables → CursorsFit bases ds
-    → IsDeclaredAt ds n u → is_over (over_at ds n) (cursor.Walking w) ≡ true → AreRowsUnder u.target (table_at tables w.table).rows
-under_at bases tables ds n u w in_domains fit is over =
-    are_under bases tables u w.table in_domains (subst (λ (b : CursorBody). FitsBody bases b) is.body_is (body_fits bases ds n is.declared fit is.at))
-    (over_that is.declared.cursor u w.table is.body_is (over_declared ds n is.declared w is.at over))
 
 pub base_at : (ds : List DeclaredCursor) (n : ℕ) (u : UpdatableQuery) (w : WalkingCursor) → IsDeclaredAt ds n u → is_over (over_at ds n) (cursor.Walking w) ≡ true → u.target.base ≡ w.table
 base_at ds n u w is over = over_that is.declared.cursor u w.table is.body_is (over_declared ds n is.declared w is.at over)

@@ -1,13 +1,19 @@
--- What is known of the statement of a procedure before it is performed: it is well formed (ISO/IEC 9075:1992, clause 13).
-use Rattle.std.specs.Prelude.{List}
-use Rattle.sq_value.specs.declared.domain.Kind.{Kind}
-use Rattle.sq_bound.specs.WellFormed.{IsStatement, TableKinds}
+-- What is known of the statement of a procedure before it is performed (ISO/IEC 9075:1992, clause 13).
+use Rattle.std.specs.Prelude.{List, length}
+use Rattle.sq_bound.specs.Fits.{FitsStatement}
+use Rattle.sq_bound.specs.WellFormed.{IsStatement, TableKinds, kinds_of_parameters}
+use Rattle.sq_bound.specs.declared.names.BaseTable.{BaseTable}
+use Rattle.sq_bound.specs.declared.names.ParameterDesc.{ParameterDesc}
 use Rattle.sq_bound.specs.declared.statement.BoundStatement.{BoundStatement}
-use Rattle.sq_module.specs.Program.{OpensWellFormed, kinds_of_cursors}
+use Rattle.sq_module.specs.Program.{CursorsAreWellFormed, CursorsFit, OpensWellFormed, kinds_of_cursors}
 use Rattle.sq_module.specs.declared.program.DeclaredCursor.{DeclaredCursor}
 
--- A statement of a procedure whose parameters have these kinds, and the cursor that it opens, are well formed.
-abbrev pub IsAsked : TableKinds → List DeclaredCursor → List Kind → BoundStatement → Type 0
-IsAsked columns cursors parameters s =
-    IsStatement columns (kinds_of_cursors cursors) parameters s
-    × OpensWellFormed columns cursors parameters s
+-- A statement of a procedure with these parameters, and the cursors that modules declare, are in order: what they name
+-- is there, and they are well formed, a cursor that the statement opens for these parameters.
+pub record IsAsked (columns : TableKinds) (bases : List BaseTable) (cursors : List DeclaredCursor)
+    (parameters : List ParameterDesc) (s : BoundStatement) : Type 0 where
+  pub fits : FitsStatement bases (length cursors) (length parameters) s
+  pub well_formed : IsStatement columns (kinds_of_cursors cursors) (kinds_of_parameters parameters) s
+  pub opens : OpensWellFormed columns cursors (kinds_of_parameters parameters) s
+  pub cursors_fit : CursorsFit bases cursors
+  pub cursors_well_formed : CursorsAreWellFormed columns cursors

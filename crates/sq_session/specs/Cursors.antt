@@ -101,6 +101,19 @@ OpenHaveKept columns declared _ cursors = ⊤
 
 -- ---- a session
 
+-- Tables are legal for base tables: each of these has its rows, every value is in the domain of its column, and all
+-- constraints hold (11.4, 11.8).
+pub record AreLegal (bases : List BaseTable) (tables : Content) : Type 0 where
+  pub rows : holds bases tables ≡ true
+  pub in_domains : AreInDomains bases tables
+  pub constraints : constraints_hold bases tables ≡ true
+
+-- What a statement leaves of a session: legal tables, and after an OPEN cursors that keep what they were declared to.
+pub record IsLeftBy (columns : TableKinds) (bases : List BaseTable) (declared : List DeclaredCursor)
+    (performed : BoundStatement) (s : State) : Type 0 where
+  pub tables : AreLegal bases s.tables
+  pub opened : OpenHaveKept columns declared performed s.cursors
+
 -- The state of a session that is in order: its tables, now and as committed, are those of the base tables with
 -- their keys; every value in them is in the domain of its column, and all constraints hold (11.4, 11.8); each
 -- cursor is over what is declared, and what open cursors keep is of the kinds of their columns and parameters.

@@ -1,8 +1,10 @@
 -- FETCH (ISO/IEC 9075:1992, 13.3): where a cursor comes, and how the statement ends then. Where a rule of the
 -- language is broken, the statement ends with 42000, and the cursor stays where it is.
-use Rattle.std.specs.Prelude.{◌≡◌, ◌+◌, ⊤, ℕ, ℤ, List, length, slice_get, Option, None, Some, Result, Ok, Err}
+use Rattle.std.specs.Prelude.{◌≡◌, ◌≤◌, ◌<◌, ◌+◌, ⊤, ℕ, ℤ, List, length, slice_get, IfSome, Option, None, Some, Result, Ok, Err}
+use Rattle.std.specs.Borrow.{Bor}
 use Rattle.std.specs.List.{AllByRecursion}
 use Rattle.std.specs.Option.{option_and_then, option_map}
+use Rattle.sq_lex.specs.declared.name.Name.{Name}
 use Rattle.sq_value.specs.Key.{in_columns}
 use Rattle.sq_value.specs.declared.domain.Kind.{Kind}
 use Rattle.sq_value.specs.declared.value.Value.{Value}
@@ -11,15 +13,18 @@ use Rattle.sq_store.specs.Content.{Content, row_at, table_at}
 use Rattle.sq_store.specs.declared.table.Numbered.{Numbered}
 use Rattle.sq_store.specs.declared.table.Table.{Table}
 use Rattle.sq_bound.specs.WellFormed.{IsOrientation, TakeKinds}
+use Rattle.sq_bound.specs.declared.condition.BoundCond.{BoundCond}
 use Rattle.sq_bound.specs.declared.statement.BoundFetch.{BoundFetch}
 use Rattle.sq_bound.specs.declared.statement.Distance.{Distance}
 use Rattle.sq_bound.specs.declared.statement.Distance.TheVariants as distance
 use Rattle.sq_bound.specs.declared.statement.FetchOrientation.{FetchOrientation}
 use Rattle.sq_bound.specs.declared.statement.FetchOrientation.TheVariants as orientation
+use Rattle.sq_meaning.specs.Environment.{Row}
 use Rattle.sq_meaning.specs.Status.{Outcome, and_then, not_well_formed, well_formed}
 use Rattle.sq_meaning.specs.declared.status.Status.TheVariants as status
 use Rattle.sq_meaning.specs.WellFormed.{Has, HasValue}
 use Rattle.sq_model.specs.Cursor.{Move, bounded, wanted, row_at as row_of}
+use Rattle.sq_query.specs.Table.{numbered_row}
 use Rattle.sq_expression.specs.Fault.{status_of}
 use Rattle.sq_expression.specs.declared.fault.Failure.TheVariants as failure
 use Rattle.sq_expression.specs.declared.fault.Fault.{Fault}
@@ -86,6 +91,14 @@ shown_fetched f row = row_fetched f (option_map (λ r. in_columns r f.columns) r
 -- the row under the number that a cursor is on, as it is now
 abbrev pub row_on : Table → Option ℕ → Option (List Value)
 row_on t on = option_map (λ r. r.row) (option_and_then (row_at t) on)
+
+-- The row that a walk comes to: the first of which the conditions are true, with a number in a range. It is there,
+-- under its number.
+pub record IsFirstMeant (conditions : List BoundCond) (values : List Value) (user : Name) (from mark : ℕ)
+    (t : Table) (found : Option (ℕ × Bor Row)) : Type 0 where
+  pub meant : option_map numbered_row found ≡ first_meant conditions values user from mark t.rows
+  pub within : IfSome found (λ r. (from ≤ r.0) × (r.0 < mark))
+  pub there : IfSome found (λ r. row_on t (Some r.0) ≡ Some r.1.now)
 
 -- ---- a FETCH that is well formed (13.3)
 

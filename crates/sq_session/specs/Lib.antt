@@ -8,6 +8,7 @@ pub mod Lent
 pub mod Metered
 pub mod Open
 pub mod Parameter
+pub mod Performed
 pub mod Reads
 pub mod Retrieved
 pub mod Schemas

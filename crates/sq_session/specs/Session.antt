@@ -4,13 +4,17 @@ use Rattle.std.specs.Cmp.Lexicographic.{pointwise}
 use Rattle.std.specs.Option.{option_map}
 use Rattle.std.specs.Result.{result_map_both}
 use Rattle.sq_lex.specs.declared.name.Name.{Name}
-use Rattle.sq_store.specs.Content.{table_at}
+use Rattle.sq_store.specs.Content.{Content, table_at}
+use Rattle.sq_store.specs.Keys.{Keys}
 use Rattle.sq_store.specs.declared.table.Numbered.{Numbered}
 use Rattle.sq_tree.specs.declared.module.ModuleText.{ModuleText}
-use Rattle.sq_bound.specs.Fits.{keys_of_bases}
+use Rattle.sq_bound.specs.Fits.{AreInDomains, keys_of_bases}
+use Rattle.sq_bound.specs.WellFormed.{TableKinds}
+use Rattle.sq_bound.specs.declared.names.BaseTable.{BaseTable}
 use Rattle.sq_bound.specs.Known.{KnownTables}
 use Rattle.sq_binding.specs.Changeable.{UserNames}
 use Rattle.sq_catalog.specs.Catalog.{table_number}
+use Rattle.sq_change.specs.Constraints.{constraints_hold}
 use Rattle.sq_catalog.specs.declared.catalog.FullName.{FullName}
 use Rattle.sq_module.specs.Computed.{IsProgramOf}
 use Rattle.sq_module.specs.declared.program.BoundProcedure.{BoundProcedure}
@@ -19,7 +23,7 @@ use Rattle.sq_module.specs.declared.program.ProcedureName.{ProcedureName}
 use Rattle.sq_module.specs.declared.program.Program.{Program}
 use Rattle.sq_module.specs.Program.{FitsProgram, ProgramIsWellFormed}
 use Rattle.sq_module.specs.Written.{IsOfTexts}
-use Rattle.sq_session.specs.Cursors.{are_over}
+use Rattle.sq_session.specs.Cursors.{IsWhole, are_over}
 use Rattle.sq_session.specs.Kind.{Procedure, kind_of}
 use Rattle.sq_session.specs.Parameter.{declared}
 use Rattle.sq_session.specs.Schemas.{Schemas, columns_of}
@@ -32,6 +36,24 @@ pub record Session : Type 0 where
   pub tables : List FullName
   pub schemas : Schemas
   pub state : State
+
+-- The tables of a store with which a session may start: they are legal now and as committed, and the keys are those
+-- of the base tables.
+pub record MayStart (bases : List BaseTable) (tables committed : Content)
+    (own_keys : List Keys) : Type 0 where
+  pub in_domains : AreInDomains bases tables
+  pub committed_in_domains : AreInDomains bases committed
+  pub constraints : constraints_hold bases tables ≡ true
+  pub committed_constraints : constraints_hold bases committed ≡ true
+  pub keys : own_keys ≡ keys_of_bases bases
+
+-- What a session keeps from call to call: what its program names is there, its cursors and statements are well formed,
+-- and its state is in order.
+pub record SessionIsWhole (columns : TableKinds) (bases : List BaseTable) (program : Program)
+    (s : State) : Type 0 where
+  pub fits : FitsProgram bases program
+  pub well_formed : ProgramIsWellFormed columns program
+  pub whole : IsWhole columns bases program.cursors.items s
 
 -- ---- what names mean
 

@@ -17,6 +17,17 @@ pub record State : Type 0 where
   pub row_numbers : ℕ
   pub cursors : List CursorState
 
+-- The state of a store that has these tables, now and as committed, these keys and row numbers, with these cursors.
+abbrev pub state_of : Content → Content → List Keys → ℕ → List CursorState → State
+state_of tables committed keys row_numbers cursors =
+    record {
+      tables = tables;
+      committed = committed;
+      keys = keys;
+      row_numbers = row_numbers;
+      cursors = cursors;
+    }
+
 -- ---- cursors
 
 abbrev pub is_open : CursorState → Bool

@@ -1,21 +1,18 @@
 //! A call: a procedure's statement with the values that are handed in (ISO/IEC 9075:1992, 12.3).
 
-ghost use Rattle.std.specs.Prelude.{◌≡◌, false, length, map, IfOk, IfSome, IsSome, None, OnErr, Some, true};
-ghost use Rattle.sq_bound.specs.Fits.{AreInDomains, FitsStatement, holds};
-ghost use Rattle.sq_bound.specs.WellFormed.{kinds_of_parameters};
+ghost use Rattle.std.specs.Prelude.{◌≡◌, false, map, IfOk, IfSome, IsSome, None, OnErr, Some, true};
 ghost use Rattle.sq_catalog.specs.Catalog.{column_kinds};
-ghost use Rattle.sq_change.specs.Constraints.{constraints_hold};
-ghost use Rattle.sq_module.specs.Program.{CursorsAreWellFormed, CursorsFit, FitsProgram, ProgramIsWellFormed};
 ghost use Rattle.sq_rules.specs.Script.{fit};
 ghost use Rattle.sq_session.specs.Asked.{IsAsked};
-ghost use Rattle.sq_session.specs.Called.{HasValues, IsWholeFor, kind_for, parameter_kinds};
-ghost use Rattle.sq_session.specs.Cursors.{IsWhole, OpenHaveKept};
+ghost use Rattle.sq_session.specs.Called.{IsWholeFor, MayPerform, kind_for};
+ghost use Rattle.sq_session.specs.Cursors.{IsLeftBy, IsWhole};
 ghost use Rattle.sq_session.specs.Kind.{fits_at, kind_at, kind_of, needs_memory, takes_memory};
-ghost use Rattle.sq_session.specs.Metered.{CallReads, StepReads};
+ghost use Rattle.sq_session.specs.Metered.{CallReads};
 ghost use Rattle.sq_session.specs.Parameter.{declared, started_values};
+ghost use Rattle.sq_session.specs.Performed.{IsPerformed};
 ghost use Rattle.sq_session.specs.Schemas.{schemas_of};
-ghost use Rattle.sq_session.specs.Session.{procedures_of};
-ghost use Rattle.sq_session.specs.Step.{EndsRight, MayCall, MayStep, ending};
+ghost use Rattle.sq_session.specs.Session.{SessionIsWhole, procedures_of};
+ghost use Rattle.sq_session.specs.Step.{MayCall, ending};
 
 use crate::called::Called;
 use crate::machine::Machine;
@@ -39,12 +36,9 @@ pub(crate) fn call<S: Store>(
     machine: &mut Machine<S>,
     meter: &mut Meter,
 ) -> Result<Done, Fault>
-    requires fits { FitsProgram catalog.now.bases program.now }
-    requires well_formed { ProgramIsWellFormed (column_kinds catalog.now) program.now }
+    requires session { SessionIsWhole (column_kinds catalog.now) catalog.now.bases program.now machine.old }
     requires values_fit { fits_at
         (procedures_of program.now.cursors.items program.now.procedures.entries) procedure values.now ≡ true }
-    requires whole { IsWhole
-        (column_kinds catalog.now) catalog.now.bases program.now.cursors.items machine.old }
     requires meter { meter.old ≡ 0 }
     ensures step { IfSome (ending result) (λ d.
         MayCall (schemas_of catalog.now)
@@ -81,33 +75,21 @@ fn performed<S: Store>(
     machine: &mut Machine<S>,
     meter: &mut Meter,
 ) -> Result<Done, Fault>
-    requires fits { FitsStatement catalog.now.bases (length program.now.cursors.items)
-        (length procedure.now.parameters) statement.now }
-    requires asked { IsAsked (column_kinds catalog.now) program.now.cursors.items
-        (kinds_of_parameters procedure.now.parameters)
-        statement.now }
-    requires fit { CursorsFit catalog.now.bases program.now.cursors.items }
-    requires well_formed { CursorsAreWellFormed (column_kinds catalog.now) program.now.cursors.items }
+    requires asked { IsAsked (column_kinds catalog.now) catalog.now.bases program.now.cursors.items
+        procedure.now.parameters statement.now }
     requires values_fit { fit (map declared procedure.now.parameters) values.now ≡ true }
     requires whole { IsWhole
         (column_kinds catalog.now) catalog.now.bases program.now.cursors.items machine.old }
     requires meter { meter.old ≡ 0 }
-    ensures rows { holds catalog.now.bases machine.new.tables ≡ true }
-    ensures in_domains { AreInDomains catalog.now.bases machine.new.tables }
-    ensures constraints { constraints_hold catalog.now.bases machine.new.tables ≡ true }
-    ensures opened { OpenHaveKept
-        (column_kinds catalog.now) program.now.cursors.items statement.now machine.new.cursors }
-    ensures step { IfSome (ending result) (λ d. MayStep (schemas_of catalog.now)
+    ensures left { IsLeftBy (column_kinds catalog.now) catalog.now.bases program.now.cursors.items
+        statement.now machine.new }
+    ensures performed { IsPerformed (schemas_of catalog.now)
         (kind_of program.now.cursors.items procedure.now.user procedure.now.parameters statement.now)
-        (started_values procedure.now.parameters values.now) machine.old d machine.new) }
+        (started_values procedure.now.parameters values.now) machine.old result machine.new meter.new }
     ensures err { OnErr result (machine.new ≡ machine.old) }
-    ensures read { IfSome (ending result) (λ d. StepReads
-        (kind_of program.now.cursors.items procedure.now.user procedure.now.parameters statement.now)
-        (started_values procedure.now.parameters values.now) machine.old meter.new) }
     ensures memory { takes_memory
         (kind_of program.now.cursors.items procedure.now.user procedure.now.parameters statement.now) ≡ false
         → IsSome (ending result) }
-    ensures right { IfSome (ending result) EndsRight }
 {
     match statement {
         BoundStatement::Close(cursor) => machine.close(alloc, *cursor),
@@ -120,7 +102,7 @@ fn performed<S: Store>(
 }
 
 /// Stores the values in the parameters, and performs a statement that may read them.
-#[tactic(auto, using(crate::proofs::Kept::open_kept))]
+#[tactic(auto, using(crate::proofs::After::left_whole))]
 fn with_values<S: Store>(
     alloc: Global,
     catalog: &Catalog,
@@ -131,32 +113,20 @@ fn with_values<S: Store>(
     machine: &mut Machine<S>,
     meter: &mut Meter,
 ) -> Result<Done, Fault>
-    requires fits { FitsStatement catalog.now.bases (length program.now.cursors.items)
-        (length procedure.now.parameters) statement.now }
-    requires asked { IsAsked (column_kinds catalog.now) program.now.cursors.items
-        (kinds_of_parameters procedure.now.parameters)
-        statement.now }
-    requires fit { CursorsFit catalog.now.bases program.now.cursors.items }
-    requires well_formed { CursorsAreWellFormed (column_kinds catalog.now) program.now.cursors.items }
+    requires asked { IsAsked (column_kinds catalog.now) catalog.now.bases program.now.cursors.items
+        procedure.now.parameters statement.now }
     requires values_fit { fit (map declared procedure.now.parameters) values.now ≡ true }
     requires whole { IsWhole
         (column_kinds catalog.now) catalog.now.bases program.now.cursors.items machine.old }
     requires meter { meter.old ≡ 0 }
     requires memory { takes_memory
         (kind_of program.now.cursors.items procedure.now.user procedure.now.parameters statement.now) ≡ true }
-    ensures rows { holds catalog.now.bases machine.new.tables ≡ true }
-    ensures in_domains { AreInDomains catalog.now.bases machine.new.tables }
-    ensures constraints { constraints_hold catalog.now.bases machine.new.tables ≡ true }
-    ensures opened { OpenHaveKept
-        (column_kinds catalog.now) program.now.cursors.items statement.now machine.new.cursors }
-    ensures step { IfSome (ending result) (λ d. MayStep (schemas_of catalog.now)
+    ensures left { IsLeftBy (column_kinds catalog.now) catalog.now.bases program.now.cursors.items
+        statement.now machine.new }
+    ensures performed { IsPerformed (schemas_of catalog.now)
         (kind_of program.now.cursors.items procedure.now.user procedure.now.parameters statement.now)
-        (started_values procedure.now.parameters values.now) machine.old d machine.new) }
+        (started_values procedure.now.parameters values.now) machine.old result machine.new meter.new }
     ensures err { OnErr result (machine.new ≡ machine.old) }
-    ensures read { IfSome (ending result) (λ d. StepReads
-        (kind_of program.now.cursors.items procedure.now.user procedure.now.parameters statement.now)
-        (started_values procedure.now.parameters values.now) machine.old meter.new) }
-    ensures right { IfSome (ending result) EndsRight }
 {
     let values = started_values(alloc, procedure.parameters.as_slice(), values)?;
     let called = Called {
@@ -178,30 +148,15 @@ fn performed_with<S: Store>(
     machine: &mut Machine<S>,
     meter: &mut Meter,
 ) -> Result<Done, Fault>
-    requires fits { FitsStatement called.now.catalog.now.bases (length called.now.cursors.now)
-        (length called.now.procedure.now.parameters)
-        statement.now }
-    requires asked { IsAsked (column_kinds called.now.catalog.now) called.now.cursors.now
-        (parameter_kinds called.now) statement.now }
-    requires given { HasValues called.now }
-    requires fit { CursorsFit called.now.catalog.now.bases called.now.cursors.now }
-    requires well_formed { CursorsAreWellFormed (column_kinds called.now.catalog.now) called.now.cursors.now }
+    requires may { MayPerform called.now statement.now }
     requires whole { IsWholeFor called.now machine.old }
     requires meter { meter.old ≡ 0 }
     requires memory { takes_memory (kind_for called.now statement.now) ≡ true }
-    ensures rows { holds called.now.catalog.now.bases machine.new.tables ≡ true }
-    ensures in_domains { AreInDomains called.now.catalog.now.bases machine.new.tables }
-    ensures constraints { constraints_hold called.now.catalog.now.bases machine.new.tables ≡ true }
-    ensures opened { OpenHaveKept
-        (column_kinds called.now.catalog.now) called.now.cursors.now statement.now machine.new.cursors }
-    ensures step { IfSome (ending result) (λ d. MayStep (schemas_of called.now.catalog.now)
-        (kind_for called.now statement.now)
-        called.now.values.now machine.old d machine.new) }
+    ensures left { IsLeftBy (column_kinds called.now.catalog.now) called.now.catalog.now.bases
+        called.now.cursors.now statement.now machine.new }
+    ensures performed { IsPerformed (schemas_of called.now.catalog.now) (kind_for called.now statement.now)
+        called.now.values.now machine.old result machine.new meter.new }
     ensures err { OnErr result (machine.new ≡ machine.old) }
-    ensures read { IfSome (ending result) (λ d. StepReads
-        (kind_for called.now statement.now)
-        called.now.values.now machine.old meter.new) }
-    ensures right { IfSome (ending result) EndsRight }
 {
     match statement {
         BoundStatement::Open(cursor) => machine.open(called, *cursor, meter),

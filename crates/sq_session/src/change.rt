@@ -1,18 +1,14 @@
 //! INSERT, UPDATE and DELETE, on the tables and cursors of a session.
 
-ghost use Rattle.std.specs.Prelude.{◌≡◌, ◌<◌, true, length, is_ok, is_some, IfErr, IfOk, IfSome, IsSome, OnErr};
-ghost use Rattle.std.specs.List.{AllByRecursion};
-ghost use Rattle.sq_bound.specs.Fits.{AreInDomains, FitsTarget, IsBase, IsColumnOf, are_columns, holds, under};
-ghost use Rattle.sq_change.specs.Constraints.{constraints_hold};
-ghost use Rattle.sq_bound.specs.WellFormed.{IsStatement};
+ghost use Rattle.std.specs.Prelude.{◌≡◌, ◌<◌, length, is_ok, is_some, IfErr, IfOk, IfSome, IsSome, OnErr};
+ghost use Rattle.sq_bound.specs.Fits.{FitsTarget, under};
 ghost use Rattle.sq_bound.specs.declared.statement.BoundStatement.TheVariants.{Delete, Insert, Update};
-ghost use Rattle.sq_catalog.specs.Catalog.{column_kinds};
 ghost use Rattle.sq_change.specs.Statement.{IsGiven};
 ghost use Rattle.sq_store.specs.Content.{row_at, table_at};
-ghost use Rattle.sq_module.specs.Program.{CursorsFit, kinds_of_cursors};
 ghost use Rattle.sq_expression.specs.declared.fault.Failure.TheVariants as failure;
 ghost use Rattle.sq_expression.specs.declared.fault.Fault.TheVariants as fault;
-ghost use Rattle.sq_session.specs.Called.{HasValues, IsWholeFor, kind_for, parameter_kinds};
+ghost use Rattle.sq_session.specs.Called.{IsWholeFor, MayPerform, kind_for};
+ghost use Rattle.sq_session.specs.Cursors.{AreLegal};
 ghost use Rattle.sq_session.specs.Metered.{StepReads};
 ghost use Rattle.sq_session.specs.Schemas.{schemas_of};
 ghost use Rattle.sq_session.specs.Step.{EndsRight, MayStep, ending, is_on_row, is_ready, number_meant, on_row};
@@ -37,19 +33,13 @@ impl<S: Store> Machine<S> {
         statement: &BoundInsert,
         meter: &mut Meter,
     ) -> Result<Done, Fault>
-        requires fits { IsBase called.now.catalog.now.bases statement.now.leaf.table }
-        requires asked { IsStatement (column_kinds called.now.catalog.now)
-            (kinds_of_cursors called.now.cursors.now)
-            (parameter_kinds called.now) (Insert statement.now) }
-        requires given { HasValues called.now }
+        requires may { MayPerform called.now (Insert statement.now) }
         requires whole { IsWholeFor called.now self.old }
         ensures step { IfSome (ending result) (λ d. MayStep (schemas_of called.now.catalog.now)
             (kind_for called.now (Insert statement.now))
             called.now.values.now self.old d self.new) }
         ensures right { IfSome (ending result) EndsRight }
-        ensures rows { holds called.now.catalog.now.bases self.new.tables ≡ true }
-        ensures in_domains { AreInDomains called.now.catalog.now.bases self.new.tables }
-        ensures constraints { constraints_hold called.now.catalog.now.bases self.new.tables ≡ true }
+        ensures tables { AreLegal called.now.catalog.now.bases self.new.tables }
         ensures err { OnErr result (self.new ≡ self.old) }
     {
         let inserted = insert(
@@ -74,22 +64,10 @@ impl<S: Store> Machine<S> {
         statement: &BoundUpdate,
         meter: &mut Meter,
     ) -> Result<Done, Fault>
-        requires target { FitsTarget called.now.catalog.now.bases
-            (length called.now.cursors.now) statement.now.target }
-        requires columns { are_columns
-            (length (under statement.now.target).table.columns) statement.now.assignments ≡ true }
-        requires domains { AllByRecursion
-            (λ a. IsColumnOf (under statement.now.target).table a.column) statement.now.assignments }
-        requires asked { IsStatement (column_kinds called.now.catalog.now)
-            (kinds_of_cursors called.now.cursors.now)
-            (parameter_kinds called.now) (Update statement.now) }
-        requires given { HasValues called.now }
-        requires fit { CursorsFit called.now.catalog.now.bases called.now.cursors.now }
+        requires may { MayPerform called.now (Update statement.now) }
         requires whole { IsWholeFor called.now self.old }
         requires meter { meter.old ≡ 0 }
-        ensures rows { holds called.now.catalog.now.bases self.new.tables ≡ true }
-        ensures in_domains { AreInDomains called.now.catalog.now.bases self.new.tables }
-        ensures constraints { constraints_hold called.now.catalog.now.bases self.new.tables ≡ true }
+        ensures tables { AreLegal called.now.catalog.now.bases self.new.tables }
         ensures step { IfSome (ending result) (λ d. MayStep (schemas_of called.now.catalog.now)
             (kind_for called.now (Update statement.now))
             called.now.values.now self.old d self.new) }
@@ -130,16 +108,10 @@ impl<S: Store> Machine<S> {
         target: &ChangeTarget,
         meter: &mut Meter,
     ) -> Result<Done, Fault>
-        requires target { FitsTarget called.now.catalog.now.bases (length called.now.cursors.now) target.now }
-        requires asked { IsStatement (column_kinds called.now.catalog.now)
-            (kinds_of_cursors called.now.cursors.now)
-            (parameter_kinds called.now) (Delete target.now) }
-        requires given { HasValues called.now }
+        requires may { MayPerform called.now (Delete target.now) }
         requires whole { IsWholeFor called.now self.old }
         requires meter { meter.old ≡ 0 }
-        ensures rows { holds called.now.catalog.now.bases self.new.tables ≡ true }
-        ensures in_domains { AreInDomains called.now.catalog.now.bases self.new.tables }
-        ensures constraints { constraints_hold called.now.catalog.now.bases self.new.tables ≡ true }
+        ensures tables { AreLegal called.now.catalog.now.bases self.new.tables }
         ensures step { IfSome (ending result) (λ d. MayStep (schemas_of called.now.catalog.now)
             (kind_for called.now (Delete target.now))
             called.now.values.now self.old d self.new) }

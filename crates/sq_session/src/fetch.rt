@@ -1,18 +1,18 @@
 //! FETCH (ISO/IEC 9075:1992, 13.3).
 
-ghost use Rattle.std.specs.Prelude.{◌≡◌, ◌≤◌, ◌<◌, length, true, IfSome, OnErr};
+ghost use Rattle.std.specs.Prelude.{◌≡◌, length, true, IfSome, OnErr};
 ghost use Rattle.sq_value.specs.Key.{in_columns};
-ghost use Rattle.sq_bound.specs.Fits.{AreInDomains, are_parameters, holds, keys_of_bases, not_nulls_hold};
+ghost use Rattle.sq_bound.specs.Fits.{are_parameters};
 ghost use Rattle.sq_bound.specs.Names.{are_positions};
-ghost use Rattle.sq_catalog.specs.Catalog.{column_kinds};
-ghost use Rattle.sq_module.specs.Program.{CursorsAreWellFormed, CursorsFit, kinds_of_cursors};
+ghost use Rattle.sq_bound.specs.declared.statement.BoundStatement.TheVariants.{Fetch};
+ghost use Rattle.sq_change.specs.Statement.{KeepsTables};
 ghost use Rattle.sq_expression.specs.Fault.{Meets};
-ghost use Rattle.sq_store.specs.Content.{table_at};
-ghost use Rattle.sq_session.specs.Called.{HasValues, HaveKeptFor, fetching_for, parameter_kinds};
-ghost use Rattle.sq_session.specs.Cursors.{HasKeptAt, are_over, is_over, is_updatable};
-ghost use Rattle.sq_session.specs.Fetch.{HasCome, HasFetched, IsFetch, MayTakeFrom, MayTakeShown, MeansPlace, come_to_number, come_to_row, come_to_walk};
+ghost use Rattle.sq_session.specs.Called.{FindsCursor, IsWholeFor, MayPerform, fetching_for};
+ghost use Rattle.sq_session.specs.Cursors.{is_updatable};
+ghost use Rattle.sq_session.specs.Fetch.{HasCome, HasFetched, MeansPlace, come_to_number, come_to_row, come_to_walk};
 ghost use Rattle.sq_session.specs.Kind.{IsDeclaredAt, over_at};
 ghost use Rattle.sq_session.specs.Metered.{FetchReads, FetchReadsFrom};
+ghost use Rattle.sq_session.specs.State.{state_of};
 ghost use Rattle.sq_session.specs.Step.{EndsRight, MayFetch, ending};
 ghost use Rattle.sq_session.specs.Target.{MayTake, MayTakeRows, row_reply};
 
@@ -30,7 +30,7 @@ use sq_value::Row;
 
 /// FETCH of the cursor with this number. Where retrieving ends with a status, the cursor stays on the row that it
 /// reached.
-#[tactic(auto, using(crate::proofs::Put::put_same, crate::proofs::Over::as_many, crate::proofs::Over::over_there, crate::proofs::Coming::place_meant))]
+#[tactic(auto, using(crate::proofs::Put::put_same, crate::proofs::Over::as_many))]
 pub(crate) fn fetch_at<S: Store>(
     called: &Called<'_>,
     fetch: &BoundFetch,
@@ -38,48 +38,22 @@ pub(crate) fn fetch_at<S: Store>(
     store: &S,
     meter: &mut Meter,
 ) -> Result<Done, Fault>
-    requires there { fetch.now.cursor < length called.now.cursors.now }
-    requires targets { are_parameters (length called.now.procedure.now.parameters) fetch.now.outputs ≡ true }
-    requires fit { CursorsFit called.now.catalog.now.bases called.now.cursors.now }
-    requires cursors { are_over called.now.cursors.now cursors.old ≡ true }
-    requires keys { S.key_columns store.now ≡ keys_of_bases called.now.catalog.now.bases }
-    requires not_null { not_nulls_hold called.now.catalog.now.bases (S.content_now store.now) ≡ true }
-    requires rows { holds called.now.catalog.now.bases (S.content_now store.now) ≡ true }
-    requires asked { IsFetch (kinds_of_cursors called.now.cursors.now)
-        (parameter_kinds called.now) fetch.now }
-    requires given { HasValues called.now }
-    requires well_formed { CursorsAreWellFormed (column_kinds called.now.catalog.now) called.now.cursors.now }
-    requires in_domains { AreInDomains called.now.catalog.now.bases (S.content_now store.now) }
-    requires kept { HaveKeptFor called.now cursors.old }
+    requires may { MayPerform called.now (Fetch fetch.now) }
+    requires whole { IsWholeFor called.now (state_of (S.content_now store.now) (S.committed store.now)
+        (S.key_columns store.now) (S.row_numbers store.now) cursors.old) }
     requires meter { meter.old ≡ 0 }
     ensures step { IfSome (ending result) (λ d. MayFetch
         (fetching_for called.now fetch.now) called.now.values.now
-        (record {
-          tables = S.content_now store.now;
-          committed = S.committed store.now;
-          keys = S.key_columns store.now;
-          row_numbers = S.row_numbers store.now;
-          cursors = cursors.old;
-        }) d
-        (record {
-          tables = S.content_now store.now;
-          committed = S.committed store.now;
-          keys = S.key_columns store.now;
-          row_numbers = S.row_numbers store.now;
-          cursors = cursors.new;
-        })) }
+        (state_of (S.content_now store.now) (S.committed store.now)
+        (S.key_columns store.now) (S.row_numbers store.now) cursors.old) d
+        (state_of (S.content_now store.now) (S.committed store.now)
+        (S.key_columns store.now) (S.row_numbers store.now) cursors.new)) }
     ensures err { OnErr result (cursors.new ≡ cursors.old) }
     ensures right { IfSome (ending result) EndsRight }
     ensures read { IfSome (ending result) (λ d. FetchReads
         (fetching_for called.now fetch.now)
-        (record {
-          tables = S.content_now store.now;
-          committed = S.committed store.now;
-          keys = S.key_columns store.now;
-          row_numbers = S.row_numbers store.now;
-          cursors = cursors.old;
-        })
-        meter.new) }
+        (state_of (S.content_now store.now) (S.committed store.now)
+        (S.key_columns store.now) (S.row_numbers store.now) cursors.old) meter.new) }
 {
     fetch_cursor(called, fetch, &mut cursors[fetch.cursor], store, meter)
 }
@@ -92,17 +66,10 @@ fn fetch_cursor<S: Store>(
     store: &S,
     meter: &mut Meter,
 ) -> Result<Done, Fault>
-    requires over { is_over (over_at called.now.cursors.now fetch.now.cursor) cursor.old ≡ true }
-    requires targets { are_parameters (length called.now.procedure.now.parameters) fetch.now.outputs ≡ true }
-    requires fit { CursorsFit called.now.catalog.now.bases called.now.cursors.now }
-    requires keys { S.key_columns store.now ≡ keys_of_bases called.now.catalog.now.bases }
-    requires not_null { not_nulls_hold called.now.catalog.now.bases (S.content_now store.now) ≡ true }
-    requires rows { holds called.now.catalog.now.bases (S.content_now store.now) ≡ true }
-    requires place { MeansPlace called.now.values.now fetch.now.orientation }
-    requires taken { MayTakeFrom (fetching_for called.now fetch.now) (S.content_now store.now) cursor.old }
-    requires kept { HasKeptAt
-        (column_kinds called.now.catalog.now) called.now.cursors.now fetch.now.cursor cursor.old }
-    requires domains { AreInDomains called.now.catalog.now.bases (S.content_now store.now) }
+    requires may { MayPerform called.now (Fetch fetch.now) }
+    requires tables { KeepsTables called.now.catalog.now.bases (S.content_now store.now)
+        (S.key_columns store.now) }
+    requires finds { FindsCursor called.now fetch.now (S.content_now store.now) cursor.old }
     requires meter { meter.old ≡ 0 }
     ensures fetched { HasFetched
         (fetching_for called.now fetch.now) called.now.values.now (S.content_now store.now)
@@ -158,15 +125,11 @@ fn fetch_number<S: Store>(
     store: &S,
     meter: &mut Meter,
 ) -> Result<Done, Fault>
-    requires over { is_over (over_at called.now.cursors.now fetch.now.cursor)
-        (CursorState.Numbers cursor.old) ≡ true }
-    requires targets { are_parameters (length called.now.procedure.now.parameters) fetch.now.outputs ≡ true }
-    requires fit { CursorsFit called.now.catalog.now.bases called.now.cursors.now }
-    requires rows { holds called.now.catalog.now.bases (S.content_now store.now) ≡ true }
-    requires taken { MayTakeShown
-        (fetching_for called.now
-        fetch.now) (table_at (S.content_now store.now) cursor.old.table) }
-    requires passed { cursor.old.passed ≤ length cursor.old.numbers }
+    requires may { MayPerform called.now (Fetch fetch.now) }
+    requires tables { KeepsTables called.now.catalog.now.bases (S.content_now store.now)
+        (S.key_columns store.now) }
+    requires finds { FindsCursor called.now fetch.now (S.content_now store.now)
+        (CursorState.Numbers cursor.old) }
     ensures comes { HasCome result cursor.new
         (come_to_number (fetching_for called.now fetch.now) (S.content_now store.now) cursor.old) }
     ensures err { OnErr result (cursor.new ≡ cursor.old) }
@@ -189,7 +152,7 @@ fn fetch_number<S: Store>(
 }
 
 /// FETCH of a cursor that walks.
-#[tactic(auto, using(crate::proofs::Ending::no_row_right, crate::proofs::Over::walk_updatable, crate::proofs::Over::walk_there))]
+#[tactic(auto, using(crate::proofs::Ending::no_row_right, crate::proofs::Over::walk_updatable))]
 fn fetch_walk<S: Store>(
     called: &Called<'_>,
     fetch: &BoundFetch,
@@ -197,19 +160,11 @@ fn fetch_walk<S: Store>(
     store: &S,
     meter: &mut Meter,
 ) -> Result<Done, Fault>
-    requires over { is_over (over_at called.now.cursors.now fetch.now.cursor) (CursorState.Walking walk.old)
-        ≡ true }
-    requires targets { are_parameters (length called.now.procedure.now.parameters) fetch.now.outputs ≡ true }
-    requires fit { CursorsFit called.now.catalog.now.bases called.now.cursors.now }
-    requires keys { S.key_columns store.now ≡ keys_of_bases called.now.catalog.now.bases }
-    requires not_null { not_nulls_hold called.now.catalog.now.bases (S.content_now store.now) ≡ true }
-    requires rows { holds called.now.catalog.now.bases (S.content_now store.now) ≡ true }
-    requires taken { MayTakeShown
-        (fetching_for called.now
-        fetch.now) (table_at (S.content_now store.now) walk.old.table) }
-    requires kept { HasKeptAt (column_kinds called.now.catalog.now) called.now.cursors.now fetch.now.cursor
+    requires may { MayPerform called.now (Fetch fetch.now) }
+    requires tables { KeepsTables called.now.catalog.now.bases (S.content_now store.now)
+        (S.key_columns store.now) }
+    requires finds { FindsCursor called.now fetch.now (S.content_now store.now)
         (CursorState.Walking walk.old) }
-    requires domains { AreInDomains called.now.catalog.now.bases (S.content_now store.now) }
     requires meter { meter.old ≡ 0 }
     ensures comes { HasCome result walk.new
         (come_to_walk (fetching_for called.now fetch.now) (S.content_now store.now) walk.old) }

@@ -1,14 +1,9 @@
 //! The tables and cursors of a session, and the statements that work on cursors, select a row, or end a transaction.
 
-ghost use Rattle.std.specs.Prelude.{◌≡◌, ◌<◌, [], true, length, replicate, IfOk, IfSome, IsSome, OnErr};
-ghost use Rattle.sq_bound.specs.Fits.{are_parameters};
-ghost use Rattle.sq_bound.specs.WellFormed.{IsSelect, TakeKinds, kinds_of_select};
-ghost use Rattle.sq_bound.specs.declared.statement.BoundStatement.TheVariants.{Open};
-ghost use Rattle.sq_catalog.specs.Catalog.{column_kinds};
+ghost use Rattle.std.specs.Prelude.{◌≡◌, ◌<◌, length, replicate, IfOk, IfSome, IsSome, OnErr};
+ghost use Rattle.sq_bound.specs.declared.statement.BoundStatement.TheVariants.{Fetch, Open, Select};
 ghost use Rattle.sq_meaning.specs.declared.status.Status.TheVariants as status;
-ghost use Rattle.sq_module.specs.Program.{CursorsAreWellFormed, CursorsFit, OpensWellFormed, kinds_of_cursors};
-ghost use Rattle.sq_session.specs.Called.{HasValues, HaveKeptFor, IsWholeFor, fetching_for, opening_for, parameter_kinds, selecting_for};
-ghost use Rattle.sq_session.specs.Fetch.{IsFetch};
+ghost use Rattle.sq_session.specs.Called.{IsWholeFor, MayPerform, OnlyOpens, fetching_for, opening_for, selecting_for};
 ghost use Rattle.sq_session.specs.Kind.{over_at};
 ghost use Rattle.sq_session.specs.Metered.{FetchReads, OpenReads, SelectReads};
 ghost use Rattle.sq_session.specs.Schemas.{schemas_of};
@@ -80,19 +75,14 @@ impl<S: Store> Machine<S> {
         number: usize,
         meter: &mut Meter,
     ) -> Result<Done, Fault>
-        requires there { number < length called.now.cursors.now }
-        requires fit { CursorsFit called.now.catalog.now.bases called.now.cursors.now }
+        requires may { MayPerform called.now (Open number) }
         requires whole { IsWholeFor called.now self.old }
-        requires asked { OpensWellFormed (column_kinds called.now.catalog.now) called.now.cursors.now
-            (parameter_kinds called.now) (Open number) }
-        requires given { HasValues called.now }
         requires meter { meter.old ≡ 0 }
-        ensures kept { HaveKeptFor called.now self.new.cursors }
+        ensures left { OnlyOpens called.now self.old self.new }
         ensures step { IfSome (ending result) (λ d. MayOpen (schemas_of called.now.catalog.now)
             (opening_for called.now number)
             called.now.values.now self.old d self.new) }
         ensures right { IfSome (ending result) EndsRight }
-        ensures tables { self.new.tables ≡ self.old.tables }
         ensures err { OnErr result (self.new ≡ self.old) }
         ensures read { IfSome (ending result)
             (λ d. OpenReads (over_at called.now.cursors.now number) meter.new) }
@@ -110,19 +100,14 @@ impl<S: Store> Machine<S> {
         number: usize,
         meter: &mut Meter,
     ) -> Result<Done, Fault>
-        requires there { number < length called.now.cursors.now }
-        requires fit { CursorsFit called.now.catalog.now.bases called.now.cursors.now }
+        requires may { MayPerform called.now (Open number) }
         requires whole { IsWholeFor called.now self.old }
-        requires asked { OpensWellFormed (column_kinds called.now.catalog.now) called.now.cursors.now
-            (parameter_kinds called.now) (Open number) }
-        requires given { HasValues called.now }
         requires meter { meter.old ≡ 0 }
-        ensures kept { HaveKeptFor called.now self.new.cursors }
+        ensures left { OnlyOpens called.now self.old self.new }
         ensures step { IfSome (ending result) (λ d. MayOpenClosed (schemas_of called.now.catalog.now)
             (opening_for called.now number)
             called.now.values.now self.old d self.new) }
         ensures right { IfSome (ending result) EndsRight }
-        ensures tables { self.new.tables ≡ self.old.tables }
         ensures err { OnErr result (self.new ≡ self.old) }
         ensures read { OpenReads (over_at called.now.cursors.now number) meter.new }
     {
@@ -142,17 +127,8 @@ impl<S: Store> Machine<S> {
         fetch: &BoundFetch,
         meter: &mut Meter,
     ) -> Result<Done, Fault>
-        requires there { fetch.now.cursor < length called.now.cursors.now }
-        requires targets { are_parameters (length called.now.procedure.now.parameters) fetch.now.outputs
-            ≡ true }
-        requires fit { CursorsFit called.now.catalog.now.bases called.now.cursors.now }
+        requires may { MayPerform called.now (Fetch fetch.now) }
         requires whole { IsWholeFor called.now self.old }
-        requires asked { IsFetch (kinds_of_cursors called.now.cursors.now)
-            (parameter_kinds called.now)
-            fetch.now }
-        requires given { HasValues called.now }
-        requires well_formed { CursorsAreWellFormed
-            (column_kinds called.now.catalog.now) called.now.cursors.now }
         requires meter { meter.old ≡ 0 }
         ensures step { IfSome (ending result) (λ d. MayFetch
             (fetching_for called.now fetch.now)
@@ -198,15 +174,7 @@ impl<S: Store> Machine<S> {
         select: &BoundSelect,
         meter: &mut Meter,
     ) -> Result<Done, Fault>
-        requires targets { are_parameters (length called.now.procedure.now.parameters) select.now.outputs
-            ≡ true }
-        requires query { IsSelect (column_kinds called.now.catalog.now)
-            (parameter_kinds called.now) []
-            select.now.query }
-        requires taken { TakeKinds
-            (parameter_kinds called.now) select.now.outputs
-            (kinds_of_select select.now.query) }
-        requires given { HasValues called.now }
+        requires may { MayPerform called.now (Select select.now) }
         requires whole { IsWholeFor called.now self.now }
         requires meter { meter.old ≡ 0 }
         ensures step { IfSome (ending result) (Selects (schemas_of called.now.catalog.now)

@@ -1,18 +1,19 @@
 //! OPEN (ISO/IEC 9075:1992, 13.2).
 
-ghost use Rattle.std.specs.Prelude.{◌≡◌, ◌<◌, ⊤, length, true, IfErr, IfOk, IfSome, OnErr};
-ghost use Rattle.sq_bound.specs.Fits.{AreInDomains, FitsCursor, IsBase, holds, keys_of_bases, not_nulls_hold};
-ghost use Rattle.sq_bound.specs.WellFormed.{IsCursor, IsQuery, IsTarget, kinds_of_query};
+ghost use Rattle.std.specs.Prelude.{◌≡◌, ◌<◌, ⊤, length, IfErr, IfOk, IfSome, OnErr};
+ghost use Rattle.sq_bound.specs.Fits.{IsBase};
+ghost use Rattle.sq_bound.specs.WellFormed.{IsQuery, IsTarget, kinds_of_query};
 ghost use Rattle.sq_bound.specs.declared.statement.BoundStatement.TheVariants.{Open};
 ghost use Rattle.sq_catalog.specs.Catalog.{column_kinds};
-ghost use Rattle.sq_module.specs.Program.{CursorsFit, OpensWellFormed};
+ghost use Rattle.sq_change.specs.Statement.{KeepsTables};
 ghost use Rattle.sq_query.specs.MayRead.{MayEnd};
-ghost use Rattle.sq_session.specs.Called.{HasValues, HaveKeptFor, opening_for, parameter_kinds};
-ghost use Rattle.sq_session.specs.Cursors.{HasKept, HasListed, are_over};
+ghost use Rattle.sq_session.specs.Called.{HasValues, HaveKeptFor, IsWholeFor, MayOpenCursor, MayPerform, opening_for, parameter_kinds};
+ghost use Rattle.sq_session.specs.Cursors.{HasKept, HasListed};
 ghost use Rattle.sq_session.specs.Kind.{Over, over_at, over_of, over_target};
 ghost use Rattle.sq_session.specs.Metered.{OpenReads};
 ghost use Rattle.sq_session.specs.Open.{HasOpened, IsMeant, NumbersAreMeant, RowsAreMeant, TargetIsMeant};
 ghost use Rattle.sq_session.specs.Schemas.{schemas_of};
+ghost use Rattle.sq_session.specs.State.{state_of};
 ghost use Rattle.sq_session.specs.Step.{EndsRight, MayOpenClosed, ending};
 
 use crate::called::Called;
@@ -34,35 +35,17 @@ pub(crate) fn open_closed<S: Store>(
     store: &S,
     meter: &mut Meter,
 ) -> Result<Done, Fault>
-    requires there { number < length called.now.cursors.now }
-    requires fit { CursorsFit called.now.catalog.now.bases called.now.cursors.now }
-    requires cursors { are_over called.now.cursors.now cursors.old ≡ true }
-    requires rows { holds called.now.catalog.now.bases (S.content_now store.now) ≡ true }
-    requires keys { S.key_columns store.now ≡ keys_of_bases called.now.catalog.now.bases }
-    requires not_null { not_nulls_hold called.now.catalog.now.bases (S.content_now store.now) ≡ true }
-    requires kept { HaveKeptFor called.now cursors.old }
-    requires asked { OpensWellFormed (column_kinds called.now.catalog.now) called.now.cursors.now
-        (parameter_kinds called.now) (Open number) }
-    requires given { HasValues called.now }
-    requires domains { AreInDomains called.now.catalog.now.bases (S.content_now store.now) }
+    requires may { MayPerform called.now (Open number) }
+    requires whole { IsWholeFor called.now (state_of (S.content_now store.now) (S.committed store.now)
+        (S.key_columns store.now) (S.row_numbers store.now) cursors.old) }
     requires meter { meter.old ≡ 0 }
     ensures kept { HaveKeptFor called.now cursors.new }
     ensures step { IfSome (ending result) (λ d. MayOpenClosed (schemas_of called.now.catalog.now)
         (opening_for called.now number) called.now.values.now
-        (record {
-          tables = S.content_now store.now;
-          committed = S.committed store.now;
-          keys = S.key_columns store.now;
-          row_numbers = S.row_numbers store.now;
-          cursors = cursors.old;
-        }) d
-        (record {
-          tables = S.content_now store.now;
-          committed = S.committed store.now;
-          keys = S.key_columns store.now;
-          row_numbers = S.row_numbers store.now;
-          cursors = cursors.new;
-        })) }
+        (state_of (S.content_now store.now) (S.committed store.now)
+        (S.key_columns store.now) (S.row_numbers store.now) cursors.old) d
+        (state_of (S.content_now store.now) (S.committed store.now)
+        (S.key_columns store.now) (S.row_numbers store.now) cursors.new)) }
     ensures err { OnErr result (cursors.new ≡ cursors.old) }
     ensures right { IfSome (ending result) EndsRight }
     ensures read { OpenReads (over_at called.now.cursors.now number) meter.new }
@@ -84,14 +67,9 @@ fn opened<S: Store>(
     store: &S,
     meter: &mut Meter,
 ) -> Result<CursorState, Fault>
-    requires fits { FitsCursor called.now.catalog.now.bases cursor.now }
-    requires rows { holds called.now.catalog.now.bases (S.content_now store.now) ≡ true }
-    requires keys { S.key_columns store.now ≡ keys_of_bases called.now.catalog.now.bases }
-    requires not_null { not_nulls_hold called.now.catalog.now.bases (S.content_now store.now) ≡ true }
-    requires asked { IsCursor (column_kinds called.now.catalog.now)
-        (parameter_kinds called.now) cursor.now }
-    requires given { HasValues called.now }
-    requires domains { AreInDomains called.now.catalog.now.bases (S.content_now store.now) }
+    requires cursor { MayOpenCursor called.now cursor.now }
+    requires tables { KeepsTables called.now.catalog.now.bases (S.content_now store.now)
+        (S.key_columns store.now) }
     requires meter { meter.old ≡ 0 }
     ensures opened { HasOpened (over_of cursor.now.body)
         (IsMeant (schemas_of called.now.catalog.now) cursor.now.body
@@ -120,9 +98,8 @@ fn opened_over_rows<S: Store>(
 ) -> Result<CursorState, Fault>
     requires asked { IsQuery (column_kinds called.now.catalog.now) (parameter_kinds called.now) query.now }
     requires given { HasValues called.now }
-    requires domains { AreInDomains called.now.catalog.now.bases (S.content_now store.now) }
-    requires keys { S.key_columns store.now ≡ keys_of_bases called.now.catalog.now.bases }
-    requires not_null { not_nulls_hold called.now.catalog.now.bases (S.content_now store.now) ≡ true }
+    requires tables { KeepsTables called.now.catalog.now.bases (S.content_now store.now)
+        (S.key_columns store.now) }
     ensures opened { HasOpened Over.rows
         (RowsAreMeant (schemas_of called.now.catalog.now) query.now order.now called.now.procedure.now.user
         called.now.procedure.now.parameters called.now.values.now
@@ -157,15 +134,12 @@ fn opened_over<S: Store>(
     store: &S,
     meter: &mut Meter,
 ) -> Result<CursorState, Fault>
-    requires there { target.now.base < length (S.content_now store.now) }
-    requires rows { holds called.now.catalog.now.bases (S.content_now store.now) ≡ true }
-    requires keys { S.key_columns store.now ≡ keys_of_bases called.now.catalog.now.bases }
-    requires not_null { not_nulls_hold called.now.catalog.now.bases (S.content_now store.now) ≡ true }
+    requires tables { KeepsTables called.now.catalog.now.bases (S.content_now store.now)
+        (S.key_columns store.now) }
     requires base { IsBase called.now.catalog.now.bases target.now.leaf.table }
     requires asked { IsTarget (column_kinds called.now.catalog.now)
         (parameter_kinds called.now) target.now }
     requires given { HasValues called.now }
-    requires domains { AreInDomains called.now.catalog.now.bases (S.content_now store.now) }
     requires meter { meter.old ≡ 0 }
     ensures opened { HasOpened (over_target target.now)
         (TargetIsMeant (schemas_of called.now.catalog.now) target.now
@@ -184,7 +158,7 @@ fn opened_over<S: Store>(
 /// A walk of a base table.
 #[tactic(auto, using(crate::proofs::Opened::over_walk))]
 fn opened_walk<S: Store>(called: &Called<'_>, table: usize, store: &S) -> Result<CursorState, Fault>
-    requires there { table < length (S.content_now store.now) }
+    requires { table < length (S.content_now store.now) }
     ensures opened { HasOpened (Over.walk table) (λ opened. ⊤) called.now.values.now
         (S.content_now store.now) result }
     ensures right { IfErr result MayEnd }
@@ -202,14 +176,12 @@ fn opened_over_numbers<S: Store>(
     store: &S,
     meter: &mut Meter,
 ) -> Result<CursorState, Fault>
-    requires rows { holds called.now.catalog.now.bases (S.content_now store.now) ≡ true }
-    requires keys { S.key_columns store.now ≡ keys_of_bases called.now.catalog.now.bases }
-    requires not_null { not_nulls_hold called.now.catalog.now.bases (S.content_now store.now) ≡ true }
+    requires tables { KeepsTables called.now.catalog.now.bases (S.content_now store.now)
+        (S.key_columns store.now) }
     requires base { IsBase called.now.catalog.now.bases target.now.leaf.table }
     requires asked { IsTarget (column_kinds called.now.catalog.now)
         (parameter_kinds called.now) target.now }
     requires given { HasValues called.now }
-    requires domains { AreInDomains called.now.catalog.now.bases (S.content_now store.now) }
     ensures opened { HasOpened (Over.numbers target.now.base)
         (NumbersAreMeant (schemas_of called.now.catalog.now) target.now
         called.now.procedure.now.user called.now.values.now (S.content_now store.now)) called.now.values.now

@@ -1,12 +1,11 @@
 //! A session: the modules, the tables, and the cursors.
 
-ghost use Rattle.std.specs.Prelude.{◌≡◌, ◌<◌, false, true, length, IfErr, IfOk, IsOk, MatchResult, None, OnErr};
+ghost use Rattle.std.specs.Prelude.{◌≡◌, false, true, length, replicate, IfErr, IfOk, IsOk, MatchResult, None, OnErr};
 ghost use Rattle.sq_rules.specs.ModuleRefusal.{first_module_refusal};
 ghost use Rattle.sq_module.specs.FirstRefusal.{IsFaultFor};
 ghost use Rattle.sq_module.specs.Refusal.{IsOfSomeModule};
 ghost use Rattle.sq_catalog.specs.Catalog.{known, table_number};
 ghost use Rattle.sq_catalog.specs.UserTables.{names_in};
-ghost use Rattle.sq_session.specs.Cursors.{are_over};
 ghost use Rattle.sq_session.specs.Kind.{fault_at, fits_at, kind_at, needs_memory};
 ghost use Rattle.sq_session.specs.Metered.{CallReads};
 ghost use Rattle.std.specs.Map.{keys_of};
@@ -17,11 +16,12 @@ ghost use Rattle.sq_module.specs.Program.{FitsProgram, ProgramIsWellFormed, decl
 ghost use Rattle.sq_module.specs.Computed.{IsProgramOf};
 ghost use Rattle.sq_module.specs.Written.{IsOfTexts};
 ghost use Rattle.sq_session.specs.Schemas.{schemas_of};
-ghost use Rattle.sq_session.specs.Session.{IsOfModules, names_of, procedure_number, procedures_of, rows_named};
-ghost use Rattle.sq_session.specs.State.{AreClosed};
+ghost use Rattle.sq_session.specs.Session.{IsOfModules, MayStart, names_of, procedure_number, procedures_of, rows_named};
+ghost use Rattle.sq_session.specs.State.{AreClosed, state_of};
 ghost use Rattle.sq_session.specs.Step.{MayCall, is_success};
 
 use crate::call::{call, reply_of};
+use crate::cursor::CursorState;
 use crate::machine::Machine;
 use crate::parameter::all_fit;
 use crate::reply::Reply;
@@ -129,7 +129,7 @@ impl<S: Store> Session<S> {
     }
 
     /// A session of bound modules.
-    #[tactic(auto, using(crate::proofs::Closed::replicated_closed, crate::proofs::Named::names_are, crate::proofs::Over::start_over, crate::proofs::Kept::start_kept, crate::proofs::Holding::wide_where_in))]
+    #[tactic(auto, using(crate::proofs::Over::start_over, crate::proofs::Kept::start_kept, crate::proofs::Holding::wide_where_in))]
     fn with_program(
         alloc: Global,
         catalog: Catalog,
@@ -138,20 +138,13 @@ impl<S: Store> Session<S> {
     ) -> Result<Session<S>, AllocError>
         requires fits { FitsProgram catalog.bases program }
         requires well_formed { ProgramIsWellFormed (column_kinds catalog) program }
-        requires tables { AreInDomains catalog.bases (S.content_now store) }
-        requires committed { AreInDomains catalog.bases (S.committed store) }
-        requires constraints { constraints_hold catalog.bases (S.content_now store) ≡ true }
-        requires committed_constraints { constraints_hold catalog.bases (S.committed store) ≡ true }
-        requires keys { S.key_columns store ≡ keys_of_bases catalog.bases }
-        ensures start { IfOk result
-            (λ s. (s.state.tables ≡ S.content_now store) × (s.state.committed ≡ S.committed store) × AreClosed
-            s.state.cursors) }
-        ensures numbers { IfOk result (λ s. s.state.row_numbers ≡ S.row_numbers store) }
-        ensures procedures { IfOk result (λ s. names_of s.procedures ≡ keys_of program.procedures.entries) }
-        ensures program { IfOk result
+        requires store { MayStart catalog.bases (S.content_now store) (S.committed store)
+            (S.key_columns store) }
+        ensures state { IfOk result
+            (λ s. s.state ≡ state_of (S.content_now store) (S.committed store) (S.key_columns store)
+            (S.row_numbers store) (replicate (length program.cursors.items) CursorState.Closed)) }
+        ensures procedures { IfOk result
             (λ s. s.procedures ≡ procedures_of program.cursors.items program.procedures.entries) }
-        ensures cursors { IfOk result (λ s. are_over program.cursors.items s.state.cursors ≡ true) }
-        ensures keys { IfOk result (λ s. s.state.keys ≡ S.key_columns store) }
         ensures tables { IfOk result (λ s. s.tables ≡ catalog.tables) }
         ensures schemas { IfOk result (λ s. s.schemas ≡ schemas_of catalog) }
     {

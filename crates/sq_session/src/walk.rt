@@ -3,21 +3,21 @@
 //! Such a cursor yields the same rows as a list of row numbers made at OPEN would, as long as no UPDATE changes what its
 //! conditions read; `walk_list.rt` lists the rows that are left before such an UPDATE.
 
-ghost use Rattle.std.specs.Prelude.{◌≡◌, ◌≤◌, ◌<◌, ◌+◌, ◌-◌, ℕ, length, true, Some, IfOk, IfSome, IsSome, option_map};
-ghost use Rattle.sq_bound.specs.Fits.{IsBase, keys_of_bases, not_nulls_hold};
+ghost use Rattle.std.specs.Prelude.{◌≡◌, ◌≤◌, ◌<◌, ◌+◌, ◌-◌, ℕ, length, IfOk, IfSome, IsSome};
+ghost use Rattle.sq_bound.specs.Fits.{IsBase};
 ghost use Rattle.sq_bound.specs.WellFormed.{base_kinds};
 ghost use Rattle.sq_catalog.specs.Catalog.{column_kinds};
+ghost use Rattle.sq_change.specs.Statement.{KeepsTables};
 ghost use Rattle.sq_meaning.specs.WellFormed.{IsRowOf};
 ghost use Rattle.sq_query.specs.Keyed.{IsKeyedUnder};
 ghost use Rattle.sq_query.specs.Meant.{IsKeyUnder};
-ghost use Rattle.sq_query.specs.Table.{numbered_row};
 ghost use Rattle.sq_query.specs.Target.{conditions_of};
 ghost use Rattle.sq_store.specs.Content.{table_at};
 ghost use Rattle.sq_store.specs.Keys.{keys_at};
-ghost use Rattle.sq_session.specs.Fetch.{row_on};
+ghost use Rattle.sq_session.specs.Fetch.{IsFirstMeant};
 ghost use Rattle.sq_session.specs.Metered.{last_number};
 ghost use Rattle.sq_session.specs.Open.{walk_before};
-ghost use Rattle.sq_session.specs.Walk.{AreRowsUnder, IsQuietWith, first_meant, is_meant};
+ghost use Rattle.sq_session.specs.Walk.{AreRowsUnder, IsQuietWith, is_meant};
 
 use crate::called::Called;
 use sq_bound::Target;
@@ -137,20 +137,14 @@ fn chosen_by_key<'s, S: Store>(
     requires key { IsKeyUnder walk.now.target.now (S.content_now store.now)
         (S.key_columns store.now) walk.now.values.now walk.now.user
         known.now }
+    requires tables { KeepsTables walk.now.catalog.now.bases (S.content_now store.now)
+        (S.key_columns store.now) }
     requires base { IsBase walk.now.catalog.now.bases walk.now.target.now.leaf.table }
-    requires keys { S.key_columns store.now ≡ keys_of_bases walk.now.catalog.now.bases }
-    requires not_null { not_nulls_hold walk.now.catalog.now.bases (S.content_now store.now) ≡ true }
     requires quiet { IsQuietWith (column_kinds walk.now.catalog.now) walk.now.target.now walk.now.values.now }
     requires rows { AreRowsUnder walk.now.target.now
         (table_at (S.content_now store.now) walk.now.target.now.base).rows }
-    ensures meant { IfOk result
-        (λ found. option_map numbered_row found ≡ first_meant (conditions_of walk.now.target.now)
-        walk.now.values.now walk.now.user from mark
-        (table_at (S.content_now store.now) walk.now.target.now.base).rows) }
-    ensures found { IfOk result (λ found. IfSome found (λ r. (from ≤ r.0) × (r.0 < mark))) }
-    ensures there { IfOk result
-        (λ found. IfSome found (λ r. row_on (table_at (S.content_now store.now) walk.now.target.now.base)
-        (Some r.0) ≡ Some r.1.now)) }
+    ensures first { IfOk result (IsFirstMeant (conditions_of walk.now.target.now) walk.now.values.now
+        walk.now.user from mark (table_at (S.content_now store.now) walk.now.target.now.base)) }
     ensures read { IfOk result
         (λ found. IfSome found (λ r. (1 ≤ meter.new) × (meter.new ≤ meter.old + (r.0 - (from - 1))))) }
     ensures once { meter.new ≤ meter.old + 1 }
@@ -186,15 +180,8 @@ pub(crate) fn next_chosen<'s, S: Store>(
     requires quiet { IsQuietWith (column_kinds walk.now.catalog.now) walk.now.target.now walk.now.values.now }
     requires rows { AreRowsUnder walk.now.target.now
         (table_at (S.content_now store.now) walk.now.table).rows }
-    ensures meant { IfOk result
-        (λ found. option_map numbered_row found ≡ first_meant (conditions_of walk.now.target.now)
-        walk.now.values.now walk.now.user from mark
-        (table_at (S.content_now store.now) walk.now.table).rows) }
-    ensures found { IfOk result (λ found. IfSome found (λ r. (from ≤ r.0) × (r.0 < mark))) }
-    ensures there { IfOk result
-        (λ found. IfSome found
-        (λ r. row_on (table_at (S.content_now store.now) walk.now.table) (Some r.0) ≡ Some
-        r.1.now)) }
+    ensures first { IfOk result (IsFirstMeant (conditions_of walk.now.target.now) walk.now.values.now
+        walk.now.user from mark (table_at (S.content_now store.now) walk.now.table)) }
     ensures read { IfOk result
         (λ found. IfSome found (λ r. (1 ≤ meter.new) × (meter.new ≤ meter.old + (r.0 - (from - 1))))) }
 {
@@ -220,23 +207,14 @@ pub(crate) fn next_of_walk<'s, S: Store>(
     cursor: &WalkingCursor,
     meter: &mut Meter,
 ) -> Result<Option<(u64, &'s Row)>, AllocError>
-    requires there { cursor.now.table < length (S.content_now store.now) }
-    requires over { target.now.base ≡ cursor.now.table }
+    requires tables { KeepsTables called.now.catalog.now.bases (S.content_now store.now)
+        (S.key_columns store.now) }
     requires base { IsBase called.now.catalog.now.bases target.now.leaf.table }
-    requires keys { S.key_columns store.now ≡ keys_of_bases called.now.catalog.now.bases }
-    requires not_null { not_nulls_hold called.now.catalog.now.bases (S.content_now store.now) ≡ true }
+    requires over { target.now.base ≡ cursor.now.table }
     requires quiet { IsQuietWith (column_kinds called.now.catalog.now) target.now cursor.now.values }
-    requires rows { AreRowsUnder target.now (table_at (S.content_now store.now) cursor.now.table).rows }
-    ensures meant { IfOk result
-        (λ found. option_map numbered_row found ≡ first_meant (conditions_of target.now) cursor.now.values
+    ensures first { IfOk result (IsFirstMeant (conditions_of target.now) cursor.now.values
         called.now.procedure.now.user cursor.now.next cursor.now.mark
-        (table_at (S.content_now store.now) cursor.now.table).rows) }
-    ensures found { IfOk result
-        (λ found. IfSome found (λ r. (cursor.now.next ≤ r.0) × (r.0 < cursor.now.mark))) }
-    ensures there { IfOk result
-        (λ found. IfSome found
-        (λ r. row_on (table_at (S.content_now store.now) cursor.now.table) (Some r.0) ≡ Some
-        r.1.now)) }
+        (table_at (S.content_now store.now) cursor.now.table)) }
     ensures read { IfOk result (λ found. IfSome found (λ r. (1 ≤ meter.new) × (meter.new
         ≤ meter.old + (r.0 - last_number cursor.now)))) }
     ensures once { IsKeyedUnder target.now cursor.now.values called.now.procedure.now.user

@@ -1,4 +1,4 @@
-use Rattle.std.proofs.Common.{length, refl, sym, ◌∙◌}
+use Rattle.std.proofs.Common.{refl, sym, ◌∙◌}
 use Rattle.sq_catalog.specs.Catalog.{column_kinds}
 use Rattle.sq_module.specs.declared.program.BoundProcedure.{BoundProcedure}
 use Rattle.sq_module.specs.declared.program.ProcedureName.{ProcedureName}
@@ -6,7 +6,7 @@ use Rattle.sq_session.specs.Schemas.{schemas_of}
 use Rattle.sq_session.specs.Step.{EndsRight, ending}
 use Rattle.sq_session.proofs.After.{after}
 use Rattle.sq_session.proofs.Ending.{all_if}
-use Rattle.sq_session.proofs.Found.{asked_at, fitting_at, no_kind_is}
+use Rattle.sq_session.proofs.Found.{asked_at, no_kind_is}
 use Rattle.sq_session.proofs.Named.{entry_of, fits_are, fits_there, kind_is}
 use Rattle.sq_session.proofs.Metering.{call_read}
 use Rattle.sq_session.proofs.Read.{as_read}
@@ -18,20 +18,12 @@ index-procedure-requires g c =
     let program = c.args.program.now in
     fits_there program.cursors.items program.procedures.entries c.args.procedure c.args.values.now c.requires.values_fit
 
-pub performed-requires-clause-fits : goal.performed-requires-clause-fits
-performed-requires-clause-fits g c =
-    let program = c.args.program.now in
-    let found = entry_of program.procedures.entries c.args.procedure c.index-procedure.result.now c.index-procedure.ensures in
-    let entry : ProcedureName × BoundProcedure = (found.0, c.index-procedure.result.now) in
-    fitting_at c.args.catalog.now.bases (length program.cursors.items) program.procedures.entries c.args.procedure entry c.in-Ok.statement found.1 c.in-Ok.is c.requires.fits.1
-
 pub performed-requires-clause-asked : goal.performed-requires-clause-asked
 performed-requires-clause-asked g c =
     let program = c.args.program.now in
     let found = entry_of program.procedures.entries c.args.procedure c.index-procedure.result.now c.index-procedure.ensures in
     let entry : ProcedureName × BoundProcedure = (found.0, c.index-procedure.result.now) in
-    asked_at (column_kinds c.args.catalog.now) program.cursors.items program.procedures.entries c.args.procedure entry c.in-Ok.statement found.1 c.in-Ok.is
-    c.requires.well_formed.1 c.requires.well_formed.2
+    asked_at (column_kinds c.args.catalog.now) c.args.catalog.now.bases program c.args.procedure entry c.in-Ok.statement found.1 c.in-Ok.is c.requires.session.fits c.requires.session.well_formed
 
 pub performed-requires-clause-values_fit : goal.performed-requires-clause-values_fit
 performed-requires-clause-values_fit g c =
@@ -48,10 +40,10 @@ returns-in-Ok g c =
     let cursors = c.args.program.now.cursors.items in
     let kind = kind_is cursors entries c.args.procedure entry c.in-Ok.statement found.1 c.in-Ok.is in
     let schemas = schemas_of c.args.catalog.now in
-    let read = as_read schemas cursors entry.1.user entry.1.parameters c.in-Ok.statement c.args.values.now c.args.machine.now (ending c.performed.result) _ c.performed.ensures.step in
-    let step = all_if _ EndsRight _ (ending c.performed.result) read c.performed.ensures.right (has_tables c.args.catalog.now c.args.machine.now.tables) in
-    let kept = after schemas (column_kinds c.args.catalog.now) c.args.catalog.now.bases cursors entry.1.user entry.1.parameters c.in-Ok.statement _ c.args.machine.now c.performed.result c.performed.new.machine c.requires.whole c.performed.ensures.rows c.performed.ensures.in_domains c.performed.ensures.constraints c.performed.ensures.opened c.performed.ensures.step c.performed.ensures.err in
-    let read = call_read cursors entry.1.user entry.1.parameters c.in-Ok.statement c.args.values.now c.args.machine.now (ending c.performed.result) _ c.performed.ensures.read in
+    let read = as_read schemas cursors entry.1.user entry.1.parameters c.in-Ok.statement c.args.values.now c.args.machine.now (ending c.performed.result) _ c.performed.ensures.performed.step in
+    let step = all_if _ EndsRight _ (ending c.performed.result) read c.performed.ensures.performed.right (has_tables c.args.catalog.now c.args.machine.now.tables) in
+    let kept = after schemas (column_kinds c.args.catalog.now) c.args.catalog.now.bases cursors entry.1.user entry.1.parameters c.in-Ok.statement _ c.args.machine.now c.performed.result c.performed.new.machine c.requires.session.whole c.performed.ensures.left c.performed.ensures.performed.step c.performed.ensures.err in
+    let read = call_read cursors entry.1.user entry.1.parameters c.in-Ok.statement c.args.values.now c.args.machine.now (ending c.performed.result) _ c.performed.ensures.performed.read in
     record { step = rw kind step; whole = kept; err = c.performed.ensures.err; memory = rw kind c.performed.ensures.memory; read = rw kind read }
 
 pub returns-in-Err-clause-step : goal.returns-in-Err-clause-step

@@ -1,13 +1,19 @@
 use Rattle.std.proofs.Common.{subst, sym, ◌∙◌}
+use Rattle.sq_catalog.specs.Catalog.{column_kinds}
 use Rattle.sq_store.specs.Content.{table_at}
 use Rattle.sq_session.specs.Kind.{fetching}
 use Rattle.sq_session.proofs.Coming.{shown_taken_on}
 use Rattle.sq_session.proofs.Holding.{HasColumns}
 use Rattle.sq_session.proofs.Over.{numbers_over}
-use Rattle.sq_session.proofs.QuietWalks.{columns_are}
+use Rattle.sq_session.proofs.QuietWalks.{columns_are, passed_there}
 use Rattle.sq_session.proofs.Reached.{comes_to_fault, comes_to_none, comes_to_row}
 use Rattle.sq_session.proofs.Shown.{columns_there}
 use Rattle.sq_session.proofs.fetch.fetch_number.Goals as goal
+
+pub next_there-requires-clause-passed : goal.next_there-requires-clause-passed
+next_there-requires-clause-passed g c =
+    let called = c.args.called.now in
+    passed_there (column_kinds called.catalog.now) called.cursors.now c.args.fetch.now.cursor c.args.cursor.now c.requires.finds.over c.requires.finds.kept
 
 pub shown_row_retrieved-requires-clause-columns : goal.shown_row_retrieved-requires-clause-columns
 shown_row_retrieved-requires-clause-columns g c =
@@ -15,16 +21,16 @@ shown_row_retrieved-requires-clause-columns g c =
     let bases = called.catalog.now.bases in
     let cursor = c.args.cursor.now in
     let reached = c.in-Some.reached in
-    let over = numbers_over bases called.cursors.now c.args.fetch.now.cursor cursor c.requires.fit c.requires.over in
+    let over = numbers_over bases called.cursors.now c.args.fetch.now.cursor cursor c.requires.may.asked.cursors_fit c.requires.finds.over in
     let query = subst (HasColumns bases cursor.table) (columns_are called.cursors.now c.args.fetch.now.cursor c.updatable_query-query.result.now c.updatable_query-query.ensures) over in
-    columns_there bases (g.S.Store.content_now c.args.store.now) cursor.table reached.number c.updatable_query-query.result.now.columns reached.row.now c.requires.rows query c.in-Some.ensures.row
+    columns_there bases (g.S.Store.content_now c.args.store.now) cursor.table reached.number c.updatable_query-query.result.now.columns reached.row.now c.requires.tables.tables query c.in-Some.ensures.row
 
 pub shown_row_retrieved-requires-clause-taken : goal.shown_row_retrieved-requires-clause-taken
 shown_row_retrieved-requires-clause-taken g c =
     let called = c.args.called.now in
     let reached = c.in-Some.reached in
     shown_taken_on (fetching called.cursors.now called.procedure.now.user called.procedure.now.parameters c.args.fetch.now) (table_at (g.S.Store.content_now c.args.store.now) c.args.cursor.now.table) reached.number
-    c.updatable_query-query.result.now.columns reached.row.now c.requires.taken (columns_are called.cursors.now c.args.fetch.now.cursor c.updatable_query-query.result.now c.updatable_query-query.ensures) c.in-Some.ensures.row
+    c.updatable_query-query.result.now.columns reached.row.now c.requires.finds.taken (columns_are called.cursors.now c.args.fetch.now.cursor c.updatable_query-query.result.now c.updatable_query-query.ensures) c.in-Some.ensures.row
 
 pub returns-in_default-clause-comes : goal.returns-in_default-clause-comes
 returns-in_default-clause-comes g c =

@@ -3,6 +3,7 @@ use Rattle.std.specs.Option.{option_map, option_map_or}
 use Rattle.std.proofs.lemmas.Option.{slice_get-get_or}
 use Rattle.sq_bound.specs.WellFormed.{kinds_of_parameters}
 use Rattle.sq_catalog.specs.Catalog.{column_kinds}
+use Rattle.sq_change.proofs.Obeyed.{keeps_tables}
 use Rattle.sq_session.specs.Kind.{Over, opening, over_of}
 use Rattle.sq_session.specs.Schemas.{schemas_of}
 use Rattle.sq_session.specs.State.{State}
@@ -11,6 +12,7 @@ use Rattle.sq_session.proofs.Ending.{fault_right}
 use Rattle.sq_session.proofs.Kept.{put_kept}
 use Rattle.sq_session.proofs.Metering.{opened_at}
 use Rattle.sq_session.proofs.Opened.{opens, opens_not}
+use Rattle.sq_session.proofs.QuietWalks.{fits_here}
 use Rattle.sq_session.proofs.open.open_closed.Goals as goal
 
 pub returns-in-Ok-clause-step : goal.returns-in-Ok-clause-step
@@ -18,7 +20,7 @@ returns-in-Ok-clause-step g c =
     let called = c.args.called.now in
     let number = c.args.number in
     let declared = get_or called.cursors.now number c.index-called-number.result in
-    let found : slice_get called.cursors.now number ≡ Some declared = slice_get-get_or called.cursors.now number c.index-called-number.result c.requires.there in
+    let found : slice_get called.cursors.now number ≡ Some declared = slice_get-get_or called.cursors.now number c.index-called-number.result c.requires.may.asked.fits in
     let before : State = record { tables = g.S.Store.content_now c.args.store.now; committed = g.S.Store.committed c.args.store.now; keys = g.S.Store.key_columns c.args.store.now; row_numbers = g.S.Store.row_numbers c.args.store.now; cursors = c.args.cursors.now } in
     opens (schemas_of called.catalog.now) (opening called.cursors.now called.procedure.now.user called.procedure.now.parameters number) (over_of declared.cursor.body) declared.cursor.body called.values.now before _ c.in-Ok.cursor c.successful.result
     (ap (λ o. option_map_or (λ d. over_of d.cursor.body) o Over.rows) found) (ap (λ o. option_map (λ d. d.cursor.body) o) found) c.in-Ok.ensures.opened c.successful.ensures refl
@@ -28,19 +30,30 @@ returns-in-Err-clause-step g c =
     let called = c.args.called.now in
     let number = c.args.number in
     let declared = get_or called.cursors.now number c.index-called-number.result in
-    let found : slice_get called.cursors.now number ≡ Some declared = slice_get-get_or called.cursors.now number c.index-called-number.result c.requires.there in
+    let found : slice_get called.cursors.now number ≡ Some declared = slice_get-get_or called.cursors.now number c.index-called-number.result c.requires.may.asked.fits in
     let before : State = record { tables = g.S.Store.content_now c.args.store.now; committed = g.S.Store.committed c.args.store.now; keys = g.S.Store.key_columns c.args.store.now; row_numbers = g.S.Store.row_numbers c.args.store.now; cursors = c.args.cursors.now } in
     opens_not (schemas_of called.catalog.now) (opening called.cursors.now called.procedure.now.user called.procedure.now.parameters number) (over_of declared.cursor.body) declared.cursor.body called.values.now before c.in-Err.fault
     (ap (λ o. option_map_or (λ d. over_of d.cursor.body) o Over.rows) found) (ap (λ o. option_map (λ d. d.cursor.body) o) found) c.in-Err.ensures.opened
 
-pub opened-requires-clause-asked : goal.opened-requires-clause-asked
-opened-requires-clause-asked g c =
+pub opened-requires-clause-cursor : goal.opened-requires-clause-cursor
+opened-requires-clause-cursor g c =
     let called = c.args.called.now in
-    cursor_there (column_kinds called.catalog.now) (kinds_of_parameters called.procedure.now.parameters) called.cursors.now c.args.number c.index-called-number.result c.requires.asked c.requires.there
+    let asked = c.requires.may.asked in
+    record {
+      fits = fits_here called.catalog.now.bases called.cursors.now c.args.number c.index-called-number.result asked.cursors_fit asked.fits;
+      well_formed = cursor_there (column_kinds called.catalog.now) (kinds_of_parameters called.procedure.now.parameters) called.cursors.now c.args.number c.index-called-number.result asked.opens asked.fits;
+      given = c.requires.may.given;
+    }
+
+pub opened-requires-clause-tables : goal.opened-requires-clause-tables
+opened-requires-clause-tables g c =
+    let store = c.args.store.now in
+    let whole = c.requires.whole in
+    keeps_tables c.args.called.now.catalog.now.bases (g.S.Store.content_now store) (g.S.Store.key_columns store) whole.0 whole.4 whole.2 whole.7
 
 pub returns-in-Ok-clause-kept : goal.returns-in-Ok-clause-kept
 returns-in-Ok-clause-kept g c =
-    put_kept (column_kinds c.args.called.now.catalog.now) c.args.called.now.cursors.now c.args.cursors.now c.args.number c.index-called-number.result c.in-Ok.cursor c.requires.kept c.in-Ok.ensures.kept
+    put_kept (column_kinds c.args.called.now.catalog.now) c.args.called.now.cursors.now c.args.cursors.now c.args.number c.index-called-number.result c.in-Ok.cursor c.requires.whole.6 c.in-Ok.ensures.kept
 
 pub returns-in-Err-clause-right : goal.returns-in-Err-clause-right
 returns-in-Err-clause-right g c = fault_right c.in-Err.fault c.in-Err.ensures.right
@@ -50,11 +63,11 @@ returns-in-Ok-clause-read g c =
     let called = c.args.called.now in
     let number = c.args.number in
     let declared = get_or called.cursors.now number c.index-called-number.result in
-    opened_at called.cursors.now number declared _ (slice_get-get_or called.cursors.now number c.index-called-number.result c.requires.there) c.in-Ok.ensures.read
+    opened_at called.cursors.now number declared _ (slice_get-get_or called.cursors.now number c.index-called-number.result c.requires.may.asked.fits) c.in-Ok.ensures.read
 
 pub returns-in-Err-clause-read : goal.returns-in-Err-clause-read
 returns-in-Err-clause-read g c =
     let called = c.args.called.now in
     let number = c.args.number in
     let declared = get_or called.cursors.now number c.index-called-number.result in
-    opened_at called.cursors.now number declared _ (slice_get-get_or called.cursors.now number c.index-called-number.result c.requires.there) c.in-Err.ensures.read
+    opened_at called.cursors.now number declared _ (slice_get-get_or called.cursors.now number c.index-called-number.result c.requires.may.asked.fits) c.in-Err.ensures.read

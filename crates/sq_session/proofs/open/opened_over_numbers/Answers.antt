@@ -25,7 +25,7 @@ returns-in-Ok-clause-opened g c =
     over_numbers schemas c.args.target.now called.procedure.now.user called.values.now tables c.from_vec.result
     (numbers_answered schemas c.args.target.now inputs.user called.procedure.now.user inputs.parameters.now called.values.now tables c.in-Ok.numbers c.from_vec.result
     c.inputs.ensures.user c.inputs.ensures.parameters c.from_vec.ensures
-    (λ shown are. c.in-Ok.ensures.meant kinds shown (may_read called.catalog.now tables inputs.user kinds inputs.parameters.now given c.requires.domains shown are) c.requires.asked))
+    (λ shown are. c.in-Ok.ensures.meant kinds shown (may_read called.catalog.now tables inputs.user kinds inputs.parameters.now given c.requires.tables.in_domains shown are) c.requires.asked))
 
 pub returns-in-Err-clause-opened : goal.returns-in-Err-clause-opened
 returns-in-Err-clause-opened g c =
@@ -37,7 +37,7 @@ returns-in-Err-clause-opened g c =
     let tables = g.S.Store.content_now c.args.store.now in
     over_fault_of_numbers schemas c.args.target.now inputs.user called.procedure.now.user inputs.parameters.now called.values.now tables c.in-Err.fault
     c.inputs.ensures.user c.inputs.ensures.parameters
-    (λ shown are. c.in-Err.ensures.meant kinds shown (may_read called.catalog.now tables inputs.user kinds inputs.parameters.now given c.requires.domains shown are) c.requires.asked)
+    (λ shown are. c.in-Err.ensures.meant kinds shown (may_read called.catalog.now tables inputs.user kinds inputs.parameters.now given c.requires.tables.in_domains shown are) c.requires.asked)
 
 pub returns-in-Err-clause-right : goal.returns-in-Err-clause-right
 returns-in-Err-clause-right g c =
@@ -45,5 +45,5 @@ returns-in-Err-clause-right g c =
     let kinds = kinds_of_parameters called.procedure.now.parameters in
     let inputs = c.inputs.result in
     let given = subst (λ (vs : List Value). AreGiven kinds vs) (sym c.inputs.ensures.parameters) c.requires.given in
-    let some = some_tables called.catalog.now (g.S.Store.content_now c.args.store.now) inputs.user kinds inputs.parameters.now given c.requires.domains in
+    let some = some_tables called.catalog.now (g.S.Store.content_now c.args.store.now) inputs.user kinds inputs.parameters.now given c.requires.tables.in_domains in
     c.in-Err.ensures.right kinds some.0 some.1 c.requires.asked

@@ -27,7 +27,7 @@ returns-in-Ok-clause-opened g c =
     over_rows schemas c.args.query.now c.args.order.now called.procedure.now.user parameters called.values.now tables c.from_vec.result
     (rows_answered schemas c.args.query.now c.args.order.now inputs.user called.procedure.now.user parameters inputs.parameters.now called.values.now tables c.in-Ok.rows c.from_vec.result
     c.inputs.ensures.user c.inputs.ensures.parameters c.from_vec.ensures
-    (λ shown are. c.in-Ok.ensures.rows kinds shown (may_read called.catalog.now tables inputs.user kinds inputs.parameters.now given c.requires.domains shown are) c.requires.asked))
+    (λ shown are. c.in-Ok.ensures.rows kinds shown (may_read called.catalog.now tables inputs.user kinds inputs.parameters.now given c.requires.tables.in_domains shown are) c.requires.asked))
 
 pub returns-in-Err-clause-opened : goal.returns-in-Err-clause-opened
 returns-in-Err-clause-opened g c =
@@ -40,7 +40,7 @@ returns-in-Err-clause-opened g c =
     let tables = g.S.Store.content_now c.args.store.now in
     over_fault_of_rows schemas c.args.query.now c.args.order.now inputs.user called.procedure.now.user parameters inputs.parameters.now called.values.now tables c.in-Err.fault
     c.inputs.ensures.user c.inputs.ensures.parameters
-    (λ shown are. c.in-Err.ensures.rows kinds shown (may_read called.catalog.now tables inputs.user kinds inputs.parameters.now given c.requires.domains shown are) c.requires.asked)
+    (λ shown are. c.in-Err.ensures.rows kinds shown (may_read called.catalog.now tables inputs.user kinds inputs.parameters.now given c.requires.tables.in_domains shown are) c.requires.asked)
 
 pub returns-in-Ok-clause-rows : goal.returns-in-Ok-clause-rows
 returns-in-Ok-clause-rows g c =
@@ -48,7 +48,7 @@ returns-in-Ok-clause-rows g c =
     let kinds = kinds_of_parameters called.procedure.now.parameters in
     let inputs = c.inputs.result in
     let given = subst (λ (vs : List Value). AreGiven kinds vs) (sym c.inputs.ensures.parameters) c.requires.given in
-    let some = some_tables called.catalog.now (g.S.Store.content_now c.args.store.now) inputs.user kinds inputs.parameters.now given c.requires.domains in
+    let some = some_tables called.catalog.now (g.S.Store.content_now c.args.store.now) inputs.user kinds inputs.parameters.now given c.requires.tables.in_domains in
     let listed = c.in-Ok.ensures.kinds kinds some.0 some.1 c.requires.asked in
     subst (λ (rows : List (List Value)). AreRowsOf (kinds_of_query c.args.query.now) rows) (sym c.from_vec.ensures) listed
 
@@ -58,5 +58,5 @@ returns-in-Err-clause-right g c =
     let kinds = kinds_of_parameters called.procedure.now.parameters in
     let inputs = c.inputs.result in
     let given = subst (λ (vs : List Value). AreGiven kinds vs) (sym c.inputs.ensures.parameters) c.requires.given in
-    let some = some_tables called.catalog.now (g.S.Store.content_now c.args.store.now) inputs.user kinds inputs.parameters.now given c.requires.domains in
+    let some = some_tables called.catalog.now (g.S.Store.content_now c.args.store.now) inputs.user kinds inputs.parameters.now given c.requires.tables.in_domains in
     c.in-Err.ensures.right kinds some.0 some.1 c.requires.asked

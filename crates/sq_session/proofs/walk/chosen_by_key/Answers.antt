@@ -8,32 +8,34 @@ use Rattle.sq_session.proofs.KeyedWalk.{first_by_key, is_before, is_from, keyed_
 use Rattle.sq_session.proofs.Metering.{meter_comes}
 use Rattle.sq_session.proofs.walk.chosen_by_key.Goals as goal
 
-pub returns-in_default-clause-meant : goal.returns-in_default-clause-meant
-returns-in_default-clause-meant g c =
+pub returns-in_default-clause-first : goal.returns-in_default-clause-first
+returns-in_default-clause-first g c =
     let walk = c.args.walk.now in
     let store = c.args.store.now in
     let law =
     first_by_key (column_kinds walk.catalog.now) walk.catalog.now.bases (g.S.Store.content_now store) (g.S.Store.key_columns store) walk.target.now walk.values.now walk.user c.args.known.now c.requires.key c.requires.quiet c.requires.base
-    c.requires.keys c.requires.not_null c.requires.rows (g.met.S.Store.keyed store) c.args.from c.args.mark in
-    sym (rw c.in_default.ensures.row at law)
+    c.requires.tables.keys c.requires.tables.not_null c.requires.rows (g.met.S.Store.keyed store) c.args.from c.args.mark in
+    record { meant = sym (rw c.in_default.ensures.row at law); within = tt; there = tt }
 
-pub returns-then-number-from-clause-meant : goal.returns-then-number-from-clause-meant
-returns-then-number-from-clause-meant g c =
+pub returns-then-number-from-clause-first : goal.returns-then-number-from-clause-first
+returns-then-number-from-clause-first g c =
     let walk = c.args.walk.now in
     let store = c.args.store.now in
     let law =
     first_by_key (column_kinds walk.catalog.now) walk.catalog.now.bases (g.S.Store.content_now store) (g.S.Store.key_columns store) walk.target.now walk.values.now walk.user c.args.known.now c.requires.key c.requires.quiet c.requires.base
-    c.requires.keys c.requires.not_null c.requires.rows (g.met.S.Store.keyed store) c.args.from c.args.mark in
-    sym (rw (c.in-Some.ensures.row, not_from c.args.from c.in-Some.number c.if-number-from.true) at law)
+    c.requires.tables.keys c.requires.tables.not_null c.requires.rows (g.met.S.Store.keyed store) c.args.from c.args.mark in
+    let none = sym (rw (c.in-Some.ensures.row, not_from c.args.from c.in-Some.number c.if-number-from.true) at law) in
+    record { meant = none; within = tt; there = tt }
 
-pub returns-then-number-mark-clause-meant : goal.returns-then-number-mark-clause-meant
-returns-then-number-mark-clause-meant g c =
+pub returns-then-number-mark-clause-first : goal.returns-then-number-mark-clause-first
+returns-then-number-mark-clause-first g c =
     let walk = c.args.walk.now in
     let store = c.args.store.now in
     let law =
     first_by_key (column_kinds walk.catalog.now) walk.catalog.now.bases (g.S.Store.content_now store) (g.S.Store.key_columns store) walk.target.now walk.values.now walk.user c.args.known.now c.requires.key c.requires.quiet c.requires.base
-    c.requires.keys c.requires.not_null c.requires.rows (g.met.S.Store.keyed store) c.args.from c.args.mark in
-    sym (rw (c.in-Some.ensures.row, is_from c.args.from c.in-Some.number c.if-number-from.false, not_before c.in-Some.number c.args.mark c.if-number-mark.true) at law)
+    c.requires.tables.keys c.requires.tables.not_null c.requires.rows (g.met.S.Store.keyed store) c.args.from c.args.mark in
+    let none = sym (rw (c.in-Some.ensures.row, is_from c.args.from c.in-Some.number c.if-number-from.false, not_before c.in-Some.number c.args.mark c.if-number-mark.true) at law) in
+    record { meant = none; within = tt; there = tt }
 
 pub is_chosen-requires-clause-row : goal.is_chosen-requires-clause-row
 is_chosen-requires-clause-row g c =
@@ -43,31 +45,29 @@ is_chosen-requires-clause-row g c =
     let row : Numbered = record { number = c.in-Some.number; row = c.in-Some.row.now } in
     keyed_under t (g.S.Store.content_now store) (key_at (g.S.Store.key_columns store) t.base known.key) known.values row (λ (s : Numbered). IsRowOf (base_kinds t.leaf.table) s.row) c.requires.rows c.in-Some.ensures.row
 
-pub returns-then-branch-clause-meant : goal.returns-then-branch-clause-meant
-returns-then-branch-clause-meant g c =
+pub returns-then-branch-clause-first : goal.returns-then-branch-clause-first
+returns-then-branch-clause-first g c =
     let walk = c.args.walk.now in
     let store = c.args.store.now in
     let law =
     first_by_key (column_kinds walk.catalog.now) walk.catalog.now.bases (g.S.Store.content_now store) (g.S.Store.key_columns store) walk.target.now walk.values.now walk.user c.args.known.now c.requires.key c.requires.quiet c.requires.base
-    c.requires.keys c.requires.not_null c.requires.rows (g.met.S.Store.keyed store) c.args.from c.args.mark in
-    sym (rw (c.in-Some.ensures.row, is_from c.args.from c.in-Some.number c.if-number-from.false, is_before c.in-Some.number c.args.mark c.if-number-mark.false, c.in_ok-is_chosen.ensures c.in-Some.number, c.if-branch.true) at law)
-
-pub returns-else-branch-clause-meant : goal.returns-else-branch-clause-meant
-returns-else-branch-clause-meant g c =
-    let walk = c.args.walk.now in
-    let store = c.args.store.now in
-    let law =
-    first_by_key (column_kinds walk.catalog.now) walk.catalog.now.bases (g.S.Store.content_now store) (g.S.Store.key_columns store) walk.target.now walk.values.now walk.user c.args.known.now c.requires.key c.requires.quiet c.requires.base
-    c.requires.keys c.requires.not_null c.requires.rows (g.met.S.Store.keyed store) c.args.from c.args.mark in
-    sym (rw (c.in-Some.ensures.row, is_from c.args.from c.in-Some.number c.if-number-from.false, is_before c.in-Some.number c.args.mark c.if-number-mark.false, c.in_ok-is_chosen.ensures c.in-Some.number, c.if-branch.false) at law)
-
-pub returns-then-branch-clause-there : goal.returns-then-branch-clause-there
-returns-then-branch-clause-there g c =
-    let store = c.args.store.now in
-    let t = c.args.walk.now.target.now in
+    c.requires.tables.keys c.requires.tables.not_null c.requires.rows (g.met.S.Store.keyed store) c.args.from c.args.mark in
+    let meant = sym (rw (c.in-Some.ensures.row, is_from c.args.from c.in-Some.number c.if-number-from.false, is_before c.in-Some.number c.args.mark c.if-number-mark.false, c.in_ok-is_chosen.ensures c.in-Some.number, c.if-branch.true) at law) in
+    let t = walk.target.now in
     let known = c.args.known.now in
     let row : Numbered = record { number = c.in-Some.number; row = c.in-Some.row.now } in
-    (keyed_there (g.S.Store.row_numbers store) (g.S.Store.content_now store) t.base (key_at (g.S.Store.key_columns store) t.base known.key) known.values row (g.met.S.Store.rises store) c.in-Some.ensures.row).1
+    let there = (keyed_there (g.S.Store.row_numbers store) (g.S.Store.content_now store) t.base (key_at (g.S.Store.key_columns store) t.base known.key) known.values row (g.met.S.Store.rises store) c.in-Some.ensures.row).1 in
+    record { meant = meant; within = (c.if-number-from.false, c.if-number-mark.false); there = there }
+
+pub returns-else-branch-clause-first : goal.returns-else-branch-clause-first
+returns-else-branch-clause-first g c =
+    let walk = c.args.walk.now in
+    let store = c.args.store.now in
+    let law =
+    first_by_key (column_kinds walk.catalog.now) walk.catalog.now.bases (g.S.Store.content_now store) (g.S.Store.key_columns store) walk.target.now walk.values.now walk.user c.args.known.now c.requires.key c.requires.quiet c.requires.base
+    c.requires.tables.keys c.requires.tables.not_null c.requires.rows (g.met.S.Store.keyed store) c.args.from c.args.mark in
+    let none = sym (rw (c.in-Some.ensures.row, is_from c.args.from c.in-Some.number c.if-number-from.false, is_before c.in-Some.number c.args.mark c.if-number-mark.false, c.in_ok-is_chosen.ensures c.in-Some.number, c.if-branch.false) at law) in
+    record { meant = none; within = tt; there = tt }
 
 pub returns-then-branch-clause-read : goal.returns-then-branch-clause-read
 returns-then-branch-clause-read g c =

@@ -9,18 +9,15 @@ use Rattle.sq_session.proofs.QuietWalks.{found_under as row_under}
 use Rattle.sq_session.proofs.TableWalk.{between_end, between_next, between_past, find_first, find_later, found_positive, found_row}
 use Rattle.sq_session.proofs.walk.next_chosen.Goals as goal
 
-pub returns-then-branch-clause-there : goal.returns-then-branch-clause-there
-returns-then-branch-clause-there g c =
-    found_row (g.S.Store.content_now c.args.store.now) c.args.walk.now.table c.loop-found.number (record { number = c.in-Some.found; row = c.in-Some.row.now }) c.in-Some.ensures.row
-
-pub returns-then-found-mark-clause-meant : goal.returns-then-found-mark-clause-meant
-returns-then-found-mark-clause-meant g c =
+pub returns-then-found-mark-clause-first : goal.returns-then-found-mark-clause-first
+returns-then-found-mark-clause-first g c =
     let store = c.args.store.now in
     let walk = c.args.walk.now in
     let meant : Numbered → Bool = is_meant (conditions_of walk.target.now) walk.values.now walk.user in
     let row : Numbered = record { number = c.in-Some.found; row = c.in-Some.row.now } in
-    sym (c.loop-found.invariant.1 ∙ ap (find meant) (between_past (g.S.Store.row_numbers store) (g.S.Store.content_now store) walk.table c.loop-found.number c.args.mark row
-    (g.met.S.Store.rises store) c.in-Some.ensures.row c.if-found-mark.true))
+    let none = sym (c.loop-found.invariant.1 ∙ ap (find meant) (between_past (g.S.Store.row_numbers store) (g.S.Store.content_now store) walk.table c.loop-found.number c.args.mark row
+    (g.met.S.Store.rises store) c.in-Some.ensures.row c.if-found-mark.true)) in
+    record { meant = none; within = tt; there = tt }
 
 pub is_chosen-requires-clause-row : goal.is_chosen-requires-clause-row
 is_chosen-requires-clause-row g c =
@@ -28,21 +25,27 @@ is_chosen-requires-clause-row g c =
     let row : Numbered = record { number = c.in-Some.found; row = c.in-Some.row.now } in
     row_under walk.target.now (table_at (g.S.Store.content_now c.args.store.now) walk.table).rows c.loop-found.number row c.requires.rows c.in-Some.ensures.row
 
-pub returns-then-branch-clause-meant : goal.returns-then-branch-clause-meant
-returns-then-branch-clause-meant g c =
+pub returns-then-branch-clause-first : goal.returns-then-branch-clause-first
+returns-then-branch-clause-first g c =
     let store = c.args.store.now in
     let walk = c.args.walk.now in
     let rows = (table_at (g.S.Store.content_now store) walk.table).rows in
     let meant : Numbered → Bool = is_meant (conditions_of walk.target.now) walk.values.now walk.user in
     let row : Numbered = record { number = c.in-Some.found; row = c.in-Some.row.now } in
     let next = between_next (g.S.Store.row_numbers store) (g.S.Store.content_now store) walk.table c.loop-found.number c.args.mark row (g.met.S.Store.rises store) c.in-Some.ensures.row c.if-found-mark.false in
-    sym (c.loop-found.invariant.1 ∙ ap (find meant) next ∙ find_first meant row (rows_between (row.number + 1) c.args.mark rows) (c.in_ok-is_chosen.ensures c.in-Some.found ∙ c.if-branch.true))
+    let behind = found_behind (g.S.Store.content_now store) walk.table c.loop-found.number row c.in-Some.ensures.row in
+    record {
+      meant = sym (c.loop-found.invariant.1 ∙ ap (find meant) next ∙ find_first meant row (rows_between (row.number + 1) c.args.mark rows) (c.in_ok-is_chosen.ensures c.in-Some.found ∙ c.if-branch.true));
+      within = (omega (arith, c.loop-found.invariant.0, behind), c.if-found-mark.false);
+      there = found_row (g.S.Store.content_now store) walk.table c.loop-found.number row c.in-Some.ensures.row;
+    }
 
-pub returns-clause-meant : goal.returns-clause-meant
-returns-clause-meant g c =
+pub returns-clause-first : goal.returns-clause-first
+returns-clause-first g c =
     let walk = c.args.walk.now in
     let meant : Numbered → Bool = is_meant (conditions_of walk.target.now) walk.values.now walk.user in
-    sym (c.loop-found.invariant.1 ∙ ap (find meant) (between_end (g.S.Store.content_now c.args.store.now) walk.table c.loop-found.number c.args.mark c.in_default.ensures.row))
+    let none = sym (c.loop-found.invariant.1 ∙ ap (find meant) (between_end (g.S.Store.content_now c.args.store.now) walk.table c.loop-found.number c.args.mark c.in_default.ensures.row)) in
+    record { meant = none; within = tt; there = tt }
 
 pub returns-then-branch-clause-read : goal.returns-then-branch-clause-read
 returns-then-branch-clause-read g c =

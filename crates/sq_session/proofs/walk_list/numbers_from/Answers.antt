@@ -18,7 +18,7 @@ loop-numbers-preserved g c =
     let row : Numbered = record { number = c.in-Some.found; row = c.in-Some.field-0-1.now } in
     let numbers : List ℕ = c.loop-numbers.numbers in
     let others : List ℕ = numbers_meant conditions walk.values.now walk.user (c.in-Some.found + 1) c.args.mark rows in
-    let meant : first_meant conditions walk.values.now walk.user c.loop-numbers.number c.args.mark rows ≡ Some row = sym c.in_ok-found.ensures.meant ∙ ap (option_map numbered_row) c.in-Some.is in
+    let meant : first_meant conditions walk.values.now walk.user c.loop-numbers.number c.args.mark rows ≡ Some row = sym c.in_ok-found.ensures.first.meant ∙ ap (option_map numbered_row) c.in-Some.is in
     let next = numbers_next (g.S.Store.row_numbers store) (g.S.Store.content_now store) walk.table conditions walk.values.now walk.user c.loop-numbers.number c.args.mark row (g.met.S.Store.rises store) meant in
     c.loop-numbers.invariant ∙ ap (λ (m : List ℕ). numbers ++ m) next ∙ sym (append_assoc numbers (c.in-Some.found ∷ []) others) ∙ ap (λ (m : List ℕ). m ++ others) (sym c.in_ok-push.ensures.ok)
 
@@ -27,6 +27,6 @@ returns g c =
     let walk = c.args.walk.now in
     let conditions = conditions_of walk.target.now in
     let rows = (table_at (g.S.Store.content_now c.args.store.now) walk.table).rows in
-    let meant : first_meant conditions walk.values.now walk.user c.loop-numbers.number c.args.mark rows ≡ None = sym c.in_ok-found.ensures.meant ∙ ap (option_map numbered_row) c.in_default.is in
+    let meant : first_meant conditions walk.values.now walk.user c.loop-numbers.number c.args.mark rows ≡ None = sym c.in_ok-found.ensures.first.meant ∙ ap (option_map numbered_row) c.in_default.is in
     let ends = numbers_end conditions walk.values.now walk.user c.loop-numbers.number c.args.mark rows meant in
     sym (c.loop-numbers.invariant ∙ ap (λ (m : List ℕ). c.loop-numbers.numbers ++ m) ends ∙ append-nil c.loop-numbers.numbers)

@@ -31,12 +31,12 @@ delete-deleted-requires-clause-can g c =
     let called = c.args.called.now in
     let kinds = kinds_of_parameters called.procedure.now.parameters in
     let inputs = c.inputs.result in
-    let given = subst (λ (vs : List Value). AreGiven kinds vs) (sym c.inputs.ensures.parameters) c.requires.given in
+    let given = subst (λ (vs : List Value). AreGiven kinds vs) (sym c.inputs.ensures.parameters) c.requires.may.given in
     let in_domains = subst (λ (m : State). AreInDomains called.catalog.now.bases m.tables) (sym c.self.view_is) c.requires.whole.4 in
     record {
-      base = c.requires.target.0;
+      base = c.requires.may.asked.fits.0;
       given = c.in_ok-on.ensures.given;
-      may = may_choose called.catalog.now _ inputs.user kinds inputs.parameters.now c.args.target.now given in_domains c.requires.asked;
+      may = may_choose called.catalog.now _ inputs.user kinds inputs.parameters.now c.args.target.now given in_domains c.requires.may.asked.well_formed;
     }
 
 pub delete-deleted-requires-clause-kept : goal.delete-deleted-requires-clause-kept

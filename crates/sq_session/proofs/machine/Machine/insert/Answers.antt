@@ -24,13 +24,13 @@ insert-inserted-requires-clause-can g c =
     let called = c.args.called.now in
     let kinds = kinds_of_parameters called.procedure.now.parameters in
     let inputs = c.inputs.result in
-    let given = subst (λ (vs : List Value). AreGiven kinds vs) (sym c.inputs.ensures.parameters) c.requires.given in
+    let given = subst (λ (vs : List Value). AreGiven kinds vs) (sym c.inputs.ensures.parameters) c.requires.may.given in
     let in_domains = subst (λ (m : State). AreInDomains called.catalog.now.bases m.tables) (sym c.self.view_is) c.requires.whole.4 in
     record {
-      leaf = c.requires.asked.0;
-      base = c.requires.fits;
-      columns = c.requires.asked.1;
-      given = may_give called.catalog.now (kinds_of_cursors called.cursors.now) _ inputs.user kinds inputs.parameters.now c.args.statement.now given in_domains c.requires.asked;
+      leaf = c.requires.may.asked.well_formed.0;
+      base = c.requires.may.asked.fits.0;
+      columns = c.requires.may.asked.well_formed.1;
+      given = may_give called.catalog.now (kinds_of_cursors called.cursors.now) _ inputs.user kinds inputs.parameters.now c.args.statement.now given in_domains c.requires.may.asked.well_formed;
     }
 
 pub insert-inserted-requires-clause-kept : goal.insert-inserted-requires-clause-kept

@@ -22,7 +22,7 @@ use Rattle.sq_session.proofs.machine.Machine.select.Goals as goal
 pub specification_rows-found-requires-clause-finds : goal.specification_rows-found-requires-clause-finds
 specification_rows-found-requires-clause-finds g c =
     let called = c.args.called.now in
-    select_finds called.catalog.now.bases (column_kinds called.catalog.now) (bases_there called.catalog.now) (kinds_of_parameters called.procedure.now.parameters) c.args.select.now.query c.requires.query
+    select_finds called.catalog.now.bases (column_kinds called.catalog.now) (bases_there called.catalog.now) (kinds_of_parameters called.procedure.now.parameters) c.args.select.now.query c.requires.may.asked.well_formed.0
 
 pub specification_rows-found-requires-clause-keys : goal.specification_rows-found-requires-clause-keys
 specification_rows-found-requires-clause-keys g c = subst (λ (m : State). m.keys ≡ keys_of_bases c.args.called.now.catalog.now.bases) (sym c.self.view_is) c.requires.whole.2
@@ -39,11 +39,11 @@ returns-in-Ok-clause-step g c =
     let s = selecting called.procedure.now.user called.procedure.now.parameters c.args.select.now in
     let kinds = kinds_of_parameters called.procedure.now.parameters in
     let inputs = c.inputs.result in
-    let given = subst (λ (vs : List Value). AreGiven kinds vs) (sym c.inputs.ensures.parameters) c.requires.given in
+    let given = subst (λ (vs : List Value). AreGiven kinds vs) (sym c.inputs.ensures.parameters) c.requires.may.given in
     let in_domains = subst (λ (m : State). AreInDomains called.catalog.now.bases m.tables) (sym c.self.view_is) c.requires.whole.4 in
     let found = rw c.in-Ok.is at c.specification_rows-found.ensures.rows in
     let answered : IsAnswered schemas s inputs.user inputs.parameters.now _ (Ok c.in-Ok.rows) =
-    λ shown are. found kinds shown (may_read called.catalog.now _ inputs.user kinds inputs.parameters.now given in_domains shown are) c.requires.query in
+    λ shown are. found kinds shown (may_read called.catalog.now _ inputs.user kinds inputs.parameters.now given in_domains shown are) c.requires.may.asked.well_formed.0 in
     let meant = found_meant schemas s inputs.user inputs.parameters.now called.values.now c.args.self.now.tables c.in-Ok.rows c.inputs.ensures.user c.inputs.ensures.parameters
     (subst (λ (m : State). IsAnswered schemas s inputs.user inputs.parameters.now m.tables (Ok c.in-Ok.rows)) c.self.view_is answered) in
     let same = subst (λ (rows : List (List Value)). SelectIsMeant schemas s called.values.now c.args.self.now.tables (Ok rows)) (sym c.as_slice.ensures.value) meant in
@@ -56,11 +56,11 @@ returns-in-Err-clause-step g c =
     let s = selecting called.procedure.now.user called.procedure.now.parameters c.args.select.now in
     let kinds = kinds_of_parameters called.procedure.now.parameters in
     let inputs = c.inputs.result in
-    let given = subst (λ (vs : List Value). AreGiven kinds vs) (sym c.inputs.ensures.parameters) c.requires.given in
+    let given = subst (λ (vs : List Value). AreGiven kinds vs) (sym c.inputs.ensures.parameters) c.requires.may.given in
     let in_domains = subst (λ (m : State). AreInDomains called.catalog.now.bases m.tables) (sym c.self.view_is) c.requires.whole.4 in
     let found = rw c.in-Err.is at c.specification_rows-found.ensures.rows in
     let answered : IsAnswered schemas s inputs.user inputs.parameters.now _ (Err c.in-Err.fault) =
-    λ shown are. found kinds shown (may_read called.catalog.now _ inputs.user kinds inputs.parameters.now given in_domains shown are) c.requires.query in
+    λ shown are. found kinds shown (may_read called.catalog.now _ inputs.user kinds inputs.parameters.now given in_domains shown are) c.requires.may.asked.well_formed.0 in
     selects_none schemas s inputs.user inputs.parameters.now called.values.now c.args.self.now.tables c.in-Err.fault c.inputs.ensures.user c.inputs.ensures.parameters
     (subst (λ (m : State). IsAnswered schemas s inputs.user inputs.parameters.now m.tables (Err c.in-Err.fault)) c.self.view_is answered)
 
@@ -69,10 +69,10 @@ returns-in-Err-clause-right g c =
     let called = c.args.called.now in
     let kinds = kinds_of_parameters called.procedure.now.parameters in
     let inputs = c.inputs.result in
-    let given = subst (λ (vs : List Value). AreGiven kinds vs) (sym c.inputs.ensures.parameters) c.requires.given in
+    let given = subst (λ (vs : List Value). AreGiven kinds vs) (sym c.inputs.ensures.parameters) c.requires.may.given in
     let in_domains = subst (λ (m : State). AreInDomains called.catalog.now.bases m.tables) (sym c.self.view_is) c.requires.whole.4 in
     let some = some_tables called.catalog.now _ inputs.user kinds inputs.parameters.now given in_domains in
-    let right = rw c.in-Err.is at c.specification_rows-found.ensures.right kinds some.0 some.1 c.requires.query in
+    let right = rw c.in-Err.is at c.specification_rows-found.ensures.right kinds some.0 some.1 c.requires.may.asked.well_formed.0 in
     fault_right c.in-Err.fault right
 
 pub only_row_retrieved-done-requires-clause-rows : goal.only_row_retrieved-done-requires-clause-rows
@@ -81,12 +81,12 @@ only_row_retrieved-done-requires-clause-rows g c =
     let select = c.args.select.now in
     let kinds = kinds_of_parameters called.procedure.now.parameters in
     let inputs = c.inputs.result in
-    let given = subst (λ (vs : List Value). AreGiven kinds vs) (sym c.inputs.ensures.parameters) c.requires.given in
+    let given = subst (λ (vs : List Value). AreGiven kinds vs) (sym c.inputs.ensures.parameters) c.requires.may.given in
     let in_domains = subst (λ (m : State). AreInDomains called.catalog.now.bases m.tables) (sym c.self.view_is) c.requires.whole.4 in
     let some = some_tables called.catalog.now _ inputs.user kinds inputs.parameters.now given in_domains in
-    let listed = rw c.in-Ok.is at c.specification_rows-found.ensures.kinds kinds some.0 some.1 c.requires.query in
+    let listed = rw c.in-Ok.is at c.specification_rows-found.ensures.kinds kinds some.0 some.1 c.requires.may.asked.well_formed.0 in
     let same = subst (λ (rows : List (List Value)). AreRowsOf (kinds_of_select select.query) rows) (sym c.as_slice.ensures.value) listed in
-    rows_taken called.procedure.now.parameters select.outputs (kinds_of_select select.query) c.as_slice.result.now c.requires.taken same
+    rows_taken called.procedure.now.parameters select.outputs (kinds_of_select select.query) c.as_slice.result.now c.requires.may.asked.well_formed.1 same
 
 pub returns-in-Ok-clause-read : goal.returns-in-Ok-clause-read
 returns-in-Ok-clause-read g c =

@@ -31,16 +31,16 @@ update-updated-requires-clause-can g c =
     let u = c.args.statement.now in
     let kinds = kinds_of_parameters called.procedure.now.parameters in
     let inputs = c.inputs.result in
-    let given = subst (λ (vs : List Value). AreGiven kinds vs) (sym c.inputs.ensures.parameters) c.requires.given in
+    let given = subst (λ (vs : List Value). AreGiven kinds vs) (sym c.inputs.ensures.parameters) c.requires.may.given in
     let in_domains = subst (λ (m : State). AreInDomains called.catalog.now.bases m.tables) (sym c.self.view_is) c.requires.whole.4 in
     record {
       choose = record {
-        base = c.requires.target.0;
+        base = c.requires.may.asked.fits.0.0;
         given = c.in_ok-on.ensures.given;
-        may = may_choose called.catalog.now _ inputs.user kinds inputs.parameters.now u.target given in_domains c.requires.asked.0;
+        may = may_choose called.catalog.now _ inputs.user kinds inputs.parameters.now u.target given in_domains c.requires.may.asked.well_formed.0;
       };
       there = subst (λ (m : State). IfSome c.in_ok-on.on (λ n. IsSome (row_at (table_at m.tables (under u.target).table.place) n))) (sym c.self.view_is) c.in_ok-on.ensures.there;
-      assign = may_assign (column_kinds called.catalog.now) (kinds_of_cursors called.cursors.now) kinds inputs.parameters.now u given c.requires.asked c.requires.columns c.requires.domains;
+      assign = may_assign (column_kinds called.catalog.now) (kinds_of_cursors called.cursors.now) kinds inputs.parameters.now u given c.requires.may.asked.well_formed c.requires.may.asked.fits.1 c.requires.may.asked.fits.2;
     }
 
 pub update-updated-requires-clause-kept : goal.update-updated-requires-clause-kept
