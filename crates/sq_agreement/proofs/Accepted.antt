@@ -1,5 +1,5 @@
--- Schema texts that the definitions do not refuse: no element breaks a rule, given the elements before it (ISO/IEC 9075:1992, 5.4, 11.3,
--- 11.4, 11.9 and 11.19).
+-- Schema texts that the definitions do not refuse: no element breaks a rule, given the elements before it
+-- (ISO/IEC 9075:1992, 5.4, 11.3, 11.4, 11.9 and 11.19).
 use Rattle.std.proofs.Common.{◌≡◌, Bool, true, false, List, [], ◌∷◌, length, Option, Some, None, refl, sym}
 use Rattle.std.specs.Cmp.Lexicographic.{same_text}
 use Rattle.std.specs.Prelude.{⊤, ◌&&◌, not, nat_lt, find, fold, if◌then◌else◌}

@@ -1,5 +1,6 @@
--- The numbers of a table's rows are below its next number, and so are those that a cursor is opened over and those of the rows that a walk
--- means (ISO/IEC 9075:1992, 13.2 and 13.3): no row that is inserted later comes among them.
+-- The numbers of a table's rows are below its next number, and so are those that a cursor is opened
+-- over and those of the rows that a walk means (ISO/IEC 9075:1992, 13.2 and 13.3): no row that is
+-- inserted later comes among them.
 use Rattle.std.proofs.Common.{◌≡◌, ℕ, ◌+◌, ◌≤◌, ◌<◌, Bool, true, false, List, [], ◌∷◌, filter, map, arith, leb-true, ltb-true, Ok}
 use Rattle.std.specs.Prelude.{nat_lt, if◌then◌else◌, IfOk, length}
 use Rattle.std.specs.List.{AllByRecursion}

@@ -1,5 +1,5 @@
--- The target of an updatable cursor is the one that is bound, whatever procedure's parameters are seen (ISO/IEC 9075:1992, 7.9 and 13.1): its base
--- table, and the columns of it that the cursor shows.
+-- The target of an updatable cursor is the one that is bound, whatever procedure's parameters are seen
+-- (ISO/IEC 9075:1992, 7.9 and 13.1): its base table, and the columns of it that the cursor shows.
 use Rattle.std.proofs.Common.{◌≡◌, Bool, true, false, List, [], ◌∷◌, map, Some, None, refl, sym, ap, subst, ◌∙◌, Ok, Err}
 use Rattle.std.specs.Prelude.{if◌then◌else◌}
 use Rattle.std.specs.Option.{option_and_then}

@@ -1,4 +1,5 @@
--- A call starts the parameters of its procedure at the values that are handed in, under their names (ISO/IEC 9075:1992, 6.2 and 12.4).
+-- A call starts the parameters of its procedure at the values that are handed in, under their names
+-- (ISO/IEC 9075:1992, 6.2 and 12.4).
 use Rattle.std.proofs.Common.{◌≡◌, List, [], ◌∷◌, length, map, refl, ap, arith}
 use Rattle.sq_value.specs.declared.value.Value.{Value}
 use Rattle.sq_model.specs.Parameter.{inputs_of, started_parameters}

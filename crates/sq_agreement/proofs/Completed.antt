@@ -1,5 +1,5 @@
--- A change that obeys check options and constraints leaves the tables with the changed one in its place (ISO/IEC 9075:1992, 13.6 to 13.10), and of
--- INSERT, UPDATE and DELETE no other change leaves any.
+-- A change that obeys check options and constraints leaves the tables with the changed one in its place
+-- (ISO/IEC 9075:1992, 13.6 to 13.10), and of INSERT, UPDATE and DELETE no other change leaves any.
 use Rattle.std.proofs.Common.{◌≡◌, ℕ, List, [], filter, map, sym, Ok}
 use Rattle.sq_tree.specs.declared.statement.Delete.{Delete}
 use Rattle.sq_tree.specs.declared.statement.Insert.{Insert}

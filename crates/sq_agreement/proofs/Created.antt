@@ -1,5 +1,5 @@
--- What schema elements create, in the order of the texts: base tables under their names, and views (ISO/IEC 9075:1992, 11.1). The
--- catalog's lists of both are those of the elements.
+-- What schema elements create, in the order of the texts: base tables under their names, and views (ISO/IEC
+-- 9075:1992, 11.1). The catalog's lists of both are those of the elements.
 use Rattle.std.proofs.Common.{◌≡◌, ℕ, ◌+◌, List, [], ◌∷◌, ◌++◌, map, Option, Some, None, refl, sym, ap, ◌∙◌}
 use Rattle.std.proofs.lemmas.List.{append-nil, append_assoc}
 use Rattle.std.proofs.lemmas.List.Concat.{flat_map-append}

@@ -1,5 +1,6 @@
--- A cursor that is bound as it is written is opened over what the machine's is (ISO/IEC 9075:1992, 13.1 and 13.2), whatever it goes over: the rows of
--- its query in their order, the numbers of the rows of an updatable one, or, where no condition may answer a status, the base table.
+-- A cursor that is bound as it is written is opened over what the machine's is (ISO/IEC 9075:1992, 13.1 and
+-- 13.2), whatever it goes over: the rows of its query in their order, the numbers of the rows of an
+-- updatable one, or, where no condition may answer a status, the base table.
 use Rattle.std.proofs.Common.{◌≡◌, ℕ, ◌<◌, Bool, true, false, List, length, map, filter, Option, Some, None, refl, sym, ap, subst, ◌∙◌, Ok}
 use Rattle.std.proofs.lemmas.Option.{slice_get_within}
 use Rattle.std.specs.Prelude.{if◌then◌else◌}

@@ -1,5 +1,6 @@
--- Where rows are put behind those of tables, cursors stay what they are to each other (ISO/IEC 9075:1992, 13.3 and 13.8): no number that is left
--- to one is that of a new row, and new rows are behind the mark of a walk.
+-- Where rows are put behind those of tables, cursors stay what they are to each other (ISO/IEC
+-- 9075:1992, 13.3 and 13.8): no number that is left to one is that of a new row, and new rows are
+-- behind the mark of a walk.
 use Rattle.std.proofs.Common.{◌≡◌, ℕ, zero, suc, ◌+◌, ◌≤◌, ◌<◌, ◌++◌, cond, Bool, true, false, List, [], ◌∷◌, filter, map, Option, Some, None, refl, sym, ap, ◌∙◌, arith, ltb-true}
 use Rattle.std.proofs.lemmas.List.{append-nil, append_assoc}
 use Rattle.std.proofs.lemmas.List.Elements.{filter-append}

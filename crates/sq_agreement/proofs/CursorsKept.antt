@@ -1,5 +1,5 @@
--- Where rows of tables go, cursors stay what they are to each other (ISO/IEC 9075:1992, 13.3, 13.6 and 13.7): numbers under which there is no
--- row any more are left out, and a walk no longer has those rows.
+-- Where rows of tables go, cursors stay what they are to each other (ISO/IEC 9075:1992, 13.3, 13.6 and
+-- 13.7): numbers under which there is no row any more are left out, and a walk no longer has those rows.
 use Rattle.std.proofs.Common.{◌≡◌, ℕ, ◌+◌, ◌≤◌, cond, not, Bool, true, false, List, [], ◌∷◌, filter, map, Some, None, refl, sym, ap, subst, ◌∙◌, arith, eqb-true}
 use Rattle.std.specs.Prelude.{find, is_some, nat_eq, nat_le, nat_lt}
 use Rattle.std.specs.List.{AllByRecursion}

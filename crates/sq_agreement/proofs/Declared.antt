@@ -1,5 +1,6 @@
--- What schema texts declare, as the catalog has it, is what the definitions find in them (ISO/IEC 9075:1992, 11.3, 11.4 and 11.19): each table
--- and view is known with its columns and at its place, with what is under it, and no other name is known.
+-- What schema texts declare, as the catalog has it, is what the definitions find in them (ISO/IEC
+-- 9075:1992, 11.3, 11.4 and 11.19): each table and view is known with its columns and at its place, with
+-- what is under it, and no other name is known.
 use Rattle.std.proofs.Common.{◌≡◌, ℕ, ◌+◌, ◌<◌, Bool, true, false, cond, List, [], ◌∷◌, ◌++◌, length, length-append, map, Option, Some, None, refl, sym, ap, subst, ◌∙◌, arith, Ok}
 use Rattle.std.proofs.lemmas.Bool.{lt-ltb}
 use Rattle.std.proofs.lemmas.List.Sums.{sum_by-cons}

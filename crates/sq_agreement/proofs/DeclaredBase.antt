@@ -1,5 +1,5 @@
--- A base table that the catalog has as it is written is known as the definitions describe it (ISO/IEC 9075:1992, 11.3 and 11.4): with its
--- columns, at its place, and under itself.
+-- A base table that the catalog has as it is written is known as the definitions describe it (ISO/IEC
+-- 9075:1992, 11.3 and 11.4): with its columns, at its place, and under itself.
 use Rattle.std.proofs.Common.{◌≡◌, ℕ, true, List, length, Some, refl, sym, ap, subst, ◌∙◌, Ok}
 use Rattle.std.proofs.lemmas.List.{length-map}
 use Rattle.std.specs.Prelude.{nat_lt, slice_get}

@@ -1,6 +1,7 @@
--- INSERT, UPDATE and DELETE come to the same by their places and by their names over the tables that accepted schemas declare, as the
--- catalog has them, in which all constraints hold (ISO/IEC 9075:1992, 13.6 to 13.10). Asked for is what binding promises of the
--- statement, and what the rules of well-formed statements say of it: its table may be changed, no set function stands in VALUES, and
+-- INSERT, UPDATE and DELETE come to the same by their places and by their names over the tables that
+-- accepted schemas declare, as the catalog has them, in which all constraints hold (ISO/IEC 9075:1992,
+-- 13.6 to 13.10). Asked for is what binding promises of the statement, and what the rules of
+-- well-formed statements say of it: its table may be changed, no set function stands in VALUES, and
 -- `*` in no grouped query.
 use Rattle.std.proofs.Common.{◌≡◌, ℕ, true, List, length, None, Option, Some, sym, subst, Ok}
 use Rattle.std.specs.List.{AllByRecursion, AllZip}

@@ -1,5 +1,5 @@
--- The keys, CHECKs and NOT NULLs that the catalog has of a base table are those that the definitions read in its text (ISO/IEC 9075:1992,
--- 11.4, 11.7 and 11.9).
+-- The keys, CHECKs and NOT NULLs that the catalog has of a base table are those that the definitions read
+-- in its text (ISO/IEC 9075:1992, 11.4, 11.7 and 11.9).
 use Rattle.std.proofs.Common.{◌≡◌, ℕ, ◌+◌, false, List, [], ◌∷◌, ◌++◌, length, length-append, map, refl, sym, ap, subst, ◌∙◌}
 use Rattle.std.proofs.lemmas.Cmp.{nat_list_eq_equiv}
 use Rattle.std.proofs.lemmas.List.{append_assoc}
@@ -104,7 +104,8 @@ columns_found t once = found_from [] (column_definitions t) (all_empty (column_d
 
 -- ---- a row
 
--- A base table whose columns have different names, and whose conditions read a row alone, is checked as it is written.
+-- A base table whose columns have different names, and whose conditions read a row alone, is
+-- checked as it is written.
 pub row_checked_as : (t : BaseTable) (b : BoundTable)
     → IsBaseOf (record { user = t.name.user; name = t.name.name }) t.definition b
     → has_name_twice (table_columns t.definition) ≡ false

@@ -1,4 +1,5 @@
--- The columns that a table definition writes, as the definitions have them and as the catalog has them (ISO/IEC 9075:1992, 11.3 to 11.5).
+-- The columns that a table definition writes, as the definitions have them and as the catalog has them
+-- (ISO/IEC 9075:1992, 11.3 to 11.5).
 use Rattle.std.proofs.Common.{◌≡◌, ℕ, ◌+◌, List, [], ◌∷◌, map, Option, Some, None, refl, sym, ap, subst, ◌∙◌, Ok}
 use Rattle.std.specs.Prelude.{unwrap_or}
 use Rattle.std.specs.List.{AllZip, enumerate_from}
@@ -99,7 +100,8 @@ default_is d (Some (written.Number n)) default.User h user = absurd h
 default_is d (Some (written.Text t)) (default.Value s) h user = assigned_stored d (Chars t) s h
 default_is d (Some (written.Text t)) default.User h user = absurd h
 
--- A column of a base table stores values of the domain that is written for it, and has the default that is written.
+-- A column of a base table stores values of the domain that is written for it, and has the
+-- default that is written.
 column_as : (w : ColumnDefinition) (c : BaseColumn) → IsBaseColumnOf w c → IsColumnAs w c
 column_as w c h = record {
   domain = domain_is w c h;

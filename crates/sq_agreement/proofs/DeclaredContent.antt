@@ -1,5 +1,5 @@
--- Tables in which all constraints hold have rows of the kinds of their columns, and each row meets NOT NULL and CHECK (ISO/IEC 9075:1992,
--- 4.10 and 11.4 to 11.9). The machine keeps them so from the empty tables on.
+-- Tables in which all constraints hold have rows of the kinds of their columns, and each row meets NOT NULL
+-- and CHECK (ISO/IEC 9075:1992, 4.10 and 11.4 to 11.9). The machine keeps them so from the empty tables on.
 use Rattle.std.proofs.Common.{◌≡◌, ℕ, List, [], ◌∷◌, map, Some, refl, sym, ap, subst, ◌∙◌, Ok}
 use Rattle.std.proofs.lemmas.List.{append-nil}
 use Rattle.std.specs.Prelude.{flat_map, option_to_list, slice_get}

@@ -1,5 +1,6 @@
--- The kinds of the columns of a view's query are noted right in a catalog whose views' queries are well formed (ISO/IEC 9075:1992, 7.9 and
--- 11.19), so only the kinds of the view's own columns are left to ask for.
+-- The kinds of the columns of a view's query are noted right in a catalog whose views' queries
+-- are well formed (ISO/IEC 9075:1992, 7.9 and 11.19), so only the kinds of the view's own
+-- columns are left to ask for.
 use mathlib.Core.Bool.{Bool-set}
 use Rattle.std.proofs.Common.{◌≡◌, ℕ, suc, Bool, true, false, List, [], ◌∷◌, Some, refl, ap, subst, ◌∙◌, eqb-true, eq-eqb, Ok, Err}
 use Rattle.std.proofs.Math.Logic.{∥∥₁_elim}

@@ -1,5 +1,5 @@
--- What the catalog has of each base table and view that schema texts declare, under its name and at its number (ISO/IEC 9075:1992, 11.3 and
--- 11.19).
+-- What the catalog has of each base table and view that schema texts declare, under its name and at its
+-- number (ISO/IEC 9075:1992, 11.3 and 11.19).
 use Rattle.std.proofs.Common.{◌≡◌, ℕ, zero, suc, false, List, [], ◌∷◌, ◌++◌, length, map, Option, Some, None, refl, ap, subst, ◌∙◌}
 use Rattle.std.proofs.lemmas.List.{length-map, map-append}
 use Rattle.std.specs.Prelude.{slice_get}

@@ -1,5 +1,5 @@
--- The references that the catalog has of base tables are those of their texts, to the tables and the columns that the definitions find
--- (ISO/IEC 9075:1992, 11.8).
+-- The references that the catalog has of base tables are those of their texts, to the tables and the
+-- columns that the definitions find (ISO/IEC 9075:1992, 11.8).
 use Rattle.std.proofs.Common.{◌≡◌, ℕ, zero, suc, ◌<◌, Bool, true, false, List, [], ◌∷◌, get_or, Option, Some, None, refl, sym, ap, subst, ◌∙◌, arith, eq-eqb, true≢false}
 use Rattle.std.proofs.lemmas.Cmp.{nat_list_eq_equiv}
 use Rattle.std.proofs.lemmas.List.Quantifiers.{position-Some}

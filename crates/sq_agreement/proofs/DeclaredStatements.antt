@@ -1,5 +1,6 @@
--- Over the tables that accepted schemas declare, in which all constraints hold, what INSERT, UPDATE and DELETE read by their names and
--- by their places is the same database (ISO/IEC 9075:1992, 13.6 to 13.10): the table that is named, and how it is checked.
+-- Over the tables that accepted schemas declare, in which all constraints hold, what INSERT, UPDATE and
+-- DELETE read by their names and by their places is the same database (ISO/IEC 9075:1992, 13.6 to 13.10):
+-- the table that is named, and how it is checked.
 use Rattle.std.proofs.Common.{◌≡◌, ℕ, zero, suc, ◌<◌, Bool, true, false, cond, List, [], ◌∷◌, length, Option, Some, None, refl, sym, ap, subst, ◌∙◌, Ok}
 use Rattle.std.proofs.lemmas.Bool.{lt-ltb}
 use Rattle.std.proofs.lemmas.Option.{slice_get_within}

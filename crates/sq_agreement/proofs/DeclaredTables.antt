@@ -1,5 +1,5 @@
--- Each base table of the definitions is the catalog's at its place (ISO/IEC 9075:1992, 11.3 to 11.9): it stores values of the same
--- domains, has the same defaults, and its rows are checked as it is written.
+-- Each base table of the definitions is the catalog's at its place (ISO/IEC 9075:1992, 11.3 to 11.9): it
+-- stores values of the same domains, has the same defaults, and its rows are checked as it is written.
 use Rattle.std.proofs.Common.{◌≡◌, false, List, [], ◌∷◌, ◌++◌, length, Option, Some, None, refl, sym, ap, subst, ◌∙◌, arith}
 use Rattle.std.proofs.lemmas.List.{append-nil}
 use Rattle.std.specs.Prelude.{nat_lt, IfSome}
@@ -100,7 +100,8 @@ table_as t b h =
 
 -- ---- what the rules say of a base table
 
--- No two columns have one name, and each CHECK reads its row alone; no column is listed twice in the primary key, or as a referenced one.
+-- No two columns have one name, and each CHECK reads its row alone; no column is listed twice in the
+-- primary key, or as a referenced one.
 pub record IsSoundTable (t : BaseTable) : Type 0 where
   pub once : has_name_twice (table_columns t.definition) ≡ false
   pub of_row : AllByRecursion (λ written. IsCondOfRow (cond_of t.name.user written)) (checks t.definition)

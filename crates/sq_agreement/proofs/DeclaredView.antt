@@ -1,5 +1,5 @@
--- A view that the catalog sees as it is written is known as the definitions describe it (ISO/IEC 9075:1992, 7.9 and 11.19): its columns
--- have the same names and the same kinds.
+-- A view that the catalog sees as it is written is known as the definitions describe it (ISO/IEC 9075:1992,
+-- 7.9 and 11.19): its columns have the same names and the same kinds.
 use Rattle.std.proofs.Common.{◌≡◌, ℕ, List, [], ◌∷◌, map, Option, Some, None, refl, sym, ap, ◌∙◌, Ok}
 use Rattle.std.specs.Prelude.{slice_get, unwrap_or}
 use Rattle.std.specs.List.{zip}

@@ -1,4 +1,5 @@
--- A positioned DELETE changes the row that both cursors are on, takes both off it, and ends alike (ISO/IEC 9075:1992, 13.6).
+-- A positioned DELETE changes the row that both cursors are on, takes both off it, and ends alike
+-- (ISO/IEC 9075:1992, 13.6).
 use Rattle.std.proofs.Common.{◌≡◌, ℕ, true, List, Option, Some, None, refl, sym, ap, subst, ◌∙◌, Ok}
 use Rattle.std.specs.Prelude.{◌==◌, find, is_some, option_and_then, option_map, slice_get}
 use Rattle.sq_lex.specs.declared.name.Name.{Name}

@@ -1,5 +1,5 @@
--- A searched DELETE keeps what the states of a session and of the machine are to each other, and ends alike (ISO/IEC 9075:1992, 13.7), where it
--- comes to the same tables or the same status.
+-- A searched DELETE keeps what the states of a session and of the machine are to each other, and ends alike
+-- (ISO/IEC 9075:1992, 13.7), where it comes to the same tables or the same status.
 use Rattle.std.proofs.Common.{◌≡◌, ℕ, zero, suc, true, List, [], ◌∷◌, None, refl, sym, ap, subst, ◌∙◌, Ok, Err}
 use Rattle.std.specs.Prelude.{slice_set}
 use Rattle.sq_tree.specs.declared.statement.Delete.{Delete}

@@ -1,5 +1,6 @@
--- FETCH and SELECT INTO leave the state of a session that texts opened what it was to the machine's, and have the same reply (ISO/IEC 9075:1992, 13.3
--- and 13.5). Asked for is what InSession asks for, what binding promises of the statement, and that it does not end with 42000.
+-- FETCH and SELECT INTO leave the state of a session that texts opened what it was to the machine's, and
+-- have the same reply (ISO/IEC 9075:1992, 13.3 and 13.5). Asked for is what InSession asks for, what
+-- binding promises of the statement, and that it does not end with 42000.
 use Rattle.std.proofs.Common.{◌≡◌, ℕ, true, List, [], length, refl, sym, ap, subst, ◌∙◌, Ok, Err}
 use Rattle.std.specs.Option.{option_map_or}
 use Rattle.sq_lex.specs.declared.name.Name.{Name}

@@ -1,5 +1,6 @@
--- FETCH comes by a session's cursor to the row that the machine's comes to, sets the same targets, and ends with the same status (ISO/IEC
--- 9075:1992, 13.3): over rows, over numbers, and of a cursor that walks. It keeps what the states are to each other.
+-- FETCH comes by a session's cursor to the row that the machine's comes to, sets the same targets, and ends
+-- with the same status (ISO/IEC 9075:1992, 13.3): over rows, over numbers, and of a cursor that walks. It
+-- keeps what the states are to each other.
 use Rattle.std.proofs.Common.{◌≡◌, ℕ, Bool, true, false, List, length, Option, Some, None, refl, sym, ap, subst, ◌∙◌, Ok, Err}
 use Rattle.std.specs.Prelude.{find, if◌then◌else◌, is_some, slice_get, ◌==◌}
 use Rattle.std.specs.Option.{option_and_then, option_map}

@@ -1,6 +1,7 @@
--- A session that texts opened, beside the machine that runs the same texts: what INSERT, UPDATE and DELETE come to by place, as the session's
--- contract says, is what they come to by name (ISO/IEC 9075:1992, 13.6 to 13.10). Asked for is what the catalog says, what the tables keep
--- between calls, and what a call hands in.
+-- A session that texts opened, beside the machine that runs the same texts: what INSERT, UPDATE and
+-- DELETE come to by place, as the session's contract says, is what they come to by name (ISO/IEC
+-- 9075:1992, 13.6 to 13.10). Asked for is what the catalog says, what the tables keep between calls,
+-- and what a call hands in.
 use Rattle.std.proofs.Common.{◌≡◌, ℕ, true, List, length, None, Option, Some, refl, sym, ap, subst, ◌∙◌, Ok}
 use Rattle.std.specs.List.{AllByRecursion, AllZip}
 use Rattle.std.specs.Option.{option_and_then}
@@ -63,14 +64,15 @@ use Rattle.sq_agreement.proofs.SameStates.{SameStates}
 
 -- ---- what is asked for
 
--- The definitions refuse none of the schema texts, and the catalog declares what they declare, with the right kinds of views' columns.
+-- The definitions refuse none of the schema texts, and the catalog declares what they declare, with the
+-- right kinds of views' columns.
 pub record AreOf (texts : List SchemaText) (known : KnownTables) (schemas : Schemas) : Type 0 where
   pub accepted : first_schema_refusal texts ≡ None
   pub declares : Declares texts known schemas.bases schemas.views
   pub kinds : AllZip (HasKindsOf (columns_of schemas)) declares.seen schemas.views
 
--- Between calls there is a table for each base table, in which all constraints hold, every value is in its column's domain, and numbers
--- of rows rise; and the views have rows for each user.
+-- Between calls there is a table for each base table, in which all constraints hold, every value is in its
+-- column's domain, and numbers of rows rise; and the views have rows for each user.
 pub record AreKept (texts : List SchemaText) (schemas : Schemas) (s : State) : Type 0 where
   pub count : length s.tables ≡ length schemas.bases
   pub hold : ConstraintsHold (elements_of texts) s.tables

@@ -1,5 +1,6 @@
--- INSERT keeps what the states of a session and of the machine are to each other, and ends alike (ISO/IEC 9075:1992, 13.8), where it comes to
--- the same tables or the same status. New rows come into no cursor that is open.
+-- INSERT keeps what the states of a session and of the machine are to each other, and ends alike
+-- (ISO/IEC 9075:1992, 13.8), where it comes to the same tables or the same status. New rows come
+-- into no cursor that is open.
 use Rattle.std.proofs.Common.{◌≡◌, List, refl, sym, subst, ◌∙◌, Ok}
 use Rattle.sq_tree.specs.declared.statement.Insert.{Insert}
 use Rattle.sq_value.specs.declared.value.Value.{Value}

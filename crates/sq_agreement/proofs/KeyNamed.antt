@@ -1,5 +1,5 @@
--- Tests that name each column of a key, as many as it has columns, name its columns and no other: a key lists no column twice (ISO/IEC
--- 9075:1992, 11.7).
+-- Tests that name each column of a key, as many as it has columns, name its columns and no other: a key
+-- lists no column twice (ISO/IEC 9075:1992, 11.7).
 use Rattle.std.proofs.Common.{◌≡◌, ◌⊎◌, ℕ, zero, suc, ◌≤◌, Bool, true, false, true≢false, ◌||◌, List, [], ◌∷◌, length, map, take, Option, Some, None, refl, sym, ap, subst, ◌∙◌, arith, inl, inr}
 use Rattle.std.proofs.lemmas.Cmp.{nat_list_eq_equiv}
 use Rattle.std.specs.Cmp.Lexicographic.{same_text}

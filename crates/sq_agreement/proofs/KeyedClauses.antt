@@ -1,5 +1,6 @@
--- A WHERE clause that names a row by a key, as the definition reads its text, names it by a key as it is bound (own rule; ISO/IEC 9075:1992,
--- 7.6): its first tests compare the columns of the key with values that are known and not null, and it has no subquery.
+-- A WHERE clause that names a row by a key, as the definition reads its text, names it by a key as it is
+-- bound (own rule; ISO/IEC 9075:1992, 7.6): its first tests compare the columns of the key with values that
+-- are known and not null, and it has no subquery.
 use Rattle.std.proofs.Common.{◌≡◌, ℕ, zero, suc, false, true, not, ◌||◌, Bool, List, [], ◌∷◌, length, map, take, Option, Some, None, refl, sym, ap, subst, ◌∙◌, Ok}
 use Rattle.std.specs.List.{AllByRecursion, AllZip, list_any}
 use Rattle.std.proofs.lemmas.Bool.{and_parts, not-true}
@@ -48,7 +49,8 @@ use Rattle.sq_places.proofs.SubqueriesSame.{subquery_same}
 use Rattle.sq_agreement.proofs.KeyedPlaced.{IsOfKey, by_key_placed}
 use Rattle.sq_agreement.proofs.KeyedTables.{IsKeyAt}
 
--- A condition, which has no subquery, names a row by one of these keys, and compares its columns with values that are known and not null.
+-- A condition, which has no subquery, names a row by one of these keys, and compares its columns with
+-- values that are known and not null.
 pub record IsKeyedClause (held : List (List ℕ)) (o : Option BoundCond) (values : List Value) (user : Name) : Type 0 where
   pub own : BoundCond
   pub is_own : o ≡ Some own

@@ -1,5 +1,5 @@
--- The first tests of a search condition that name the columns of a key and compare them with values that are known do so by their places
--- (own rule; ISO/IEC 9075:1992, 11.7, 13.7 and 13.10).
+-- The first tests of a search condition that name the columns of a key and compare them with values that
+-- are known do so by their places (own rule; ISO/IEC 9075:1992, 11.7, 13.7 and 13.10).
 use Rattle.std.proofs.Common.{◌≡◌, ℕ, zero, suc, ◌≤◌, true, false, ◌&&◌, ◌||◌, List, [], ◌∷◌, length, map, take, Some, refl, sym, ap, subst, ◌∙◌, arith, eq-eqb, inl, inr}
 use Rattle.std.proofs.lemmas.Bool.{le-leb, or_right}
 use Rattle.std.proofs.lemmas.List.{length-map}

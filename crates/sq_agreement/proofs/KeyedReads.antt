@@ -1,5 +1,5 @@
--- A call whose statement, as the definition reads its text, is a searched UPDATE or DELETE by a key reads one row at most to choose the row that
--- it changes (own rule; ISO/IEC 9075:1992, 13.7 and 13.10).
+-- A call whose statement, as the definition reads its text, is a searched UPDATE or DELETE by a key reads
+-- one row at most to choose the row that it changes (own rule; ISO/IEC 9075:1992, 13.7 and 13.10).
 use Rattle.std.proofs.Common.{◌≡◌, ℕ, ◌≤◌, true, List, Option, Some, None, refl, sym, subst}
 use Rattle.std.specs.Option.{option_and_then}
 use Rattle.std.specs.Prelude.{⊤}
@@ -44,8 +44,8 @@ use Rattle.sq_session.specs.State.{State}
 use Rattle.sq_places.proofs.Parameters.{SameInputs}
 use Rattle.sq_agreement.proofs.KeyedTargets.{keyed_where}
 
--- A procedure with these parameters, over schemas that the definitions do not refuse, is called with these values, so that its statement reads
--- these inputs.
+-- A procedure with these parameters, over schemas that the definitions do not refuse, is called with these
+-- values, so that its statement reads these inputs.
 module _ (texts : List SchemaText) (known : KnownTables) (schemas : Schemas) (declares : Declares texts known schemas.bases schemas.views)
     (accepted : first_schema_refusal texts ≡ None)
     (declared : List DeclaredCursor) (user : Name) (ps : List ParameterDesc) (handed : List Value) (inputs : List Input)

@@ -1,5 +1,6 @@
--- The base table that a searched UPDATE or DELETE names, by its definition and as it is bound (ISO/IEC 9075:1992, 11.3, 11.4 and 11.7): its
--- columns stand at their own positions, no view is between, and its keys are those that are written.
+-- The base table that a searched UPDATE or DELETE names, by its definition and as it is bound (ISO/IEC
+-- 9075:1992, 11.3, 11.4 and 11.7): its columns stand at their own positions, no view is between, and its
+-- keys are those that are written.
 use Rattle.std.proofs.Common.{◌≡◌, ℕ, zero, suc, ◌+◌, Bool, true, false, List, [], ◌∷◌, map, Some, None, refl, sym, ap, subst, ◌∙◌, arith}
 use Rattle.std.specs.Prelude.{◌||◌, filter_map, if◌then◌else◌, slice_get, IfSome}
 use Rattle.std.specs.List.{AllByRecursion, AllZip, cons_option, enumerate_from, list_any}

@@ -1,5 +1,6 @@
--- A call of a searched UPDATE or DELETE that names its row by a key, as the definition reads its text, names it by a key as it is bound, and so
--- reads one row at most (own rule; ISO/IEC 9075:1992, 13.7 and 13.10).
+-- A call of a searched UPDATE or DELETE that names its row by a key, as the definition reads its
+-- text, names it by a key as it is bound, and so reads one row at most (own rule; ISO/IEC
+-- 9075:1992, 13.7 and 13.10).
 use Rattle.std.proofs.Common.{◌≡◌, ℕ, true, Bool, List, [], ◌∷◌, Option, Some, None, refl, sym, ap, subst, ◌∙◌}
 use Rattle.std.specs.List.{list_any}
 use Rattle.std.specs.Option.{option_and_then, option_map}
@@ -46,7 +47,8 @@ use Rattle.sq_places.proofs.Parameters.{SameInputs}
 use Rattle.sq_agreement.proofs.KeyedClauses.{IsKeyedClause, clause_keyed}
 use Rattle.sq_agreement.proofs.KeyedTables.{IsBaseNamed, IsKeyAt, base_is_named, key_bound, meant, meant_is, names_are, own_positions, quiet_views}
 
--- A target over a base table that a name means, in a call that hands in these values: its statement or cursor reads these inputs.
+-- A target over a base table that a name means, in a call that hands in these values: its statement or
+-- cursor reads these inputs.
 module _ (texts : List SchemaText) (known : KnownTables) (bases : List BoundTable) (views : List BoundSpecification)
     (d : Declares texts known bases views) (accepted : first_schema_refusal texts ≡ None) (ps : List ParameterDesc) (inputs : List Input)
     (values : List Value) (user : Name) (same_inputs : SameInputs ps inputs (inputs_of values)) (columns : TableKinds) (kinds : List Kind)
@@ -98,7 +100,8 @@ module _ (texts : List SchemaText) (known : KnownTables) (bases : List BoundTabl
       ap (λ o. and_then (well_formed (option_map (item_at_leaf name) o)) (λ item. filter_on (outside known ps) user item c))
       (meant_is texts known bases views d accepted name t b)
 
-  -- Where the definition of the text says that it names its row by a key, its bound target is keyed in this call.
+  -- Where the definition of the text says that it names its row by a key, its bound
+  -- target is keyed in this call.
   pub keyed_where : (IsNumberOf : Name → ℕ → Type 0) (w : Option Where)
       → IsTargetOf IsNumberOf (filter_placed known ps user name) w (change.Searched x)
       → is_keyed_where (elements_of texts) user inputs name w ≡ true → IsKeyedTarget x values user

@@ -1,5 +1,6 @@
--- FETCH goes by place where it goes by name (ISO/IEC 9075:1992, 13.3): its orientation is bound as it is written, and the number of ABSOLUTE or
--- RELATIVE is the one that is written or the value of the parameter of the written name.
+-- FETCH goes by place where it goes by name (ISO/IEC 9075:1992, 13.3): its orientation is bound as it is
+-- written, and the number of ABSOLUTE or RELATIVE is the one that is written or the value of the
+-- parameter of the written name.
 use Rattle.std.proofs.Common.{◌≡◌, ℕ, ℤ, cond, Bool, true, false, List, [], ◌∷◌, map, Option, Some, None, refl, sym, ap, subst, ◌∙◌, Ok, Err}
 use Rattle.std.specs.Prelude.{find, slice_get, unwrap_or}
 use Rattle.std.specs.Option.{option_and_then, option_map}

@@ -1,5 +1,5 @@
--- What is well formed where some parameters are declared is so where more are (ISO/IEC 9075:1992, 6.2), and the query of a view, which has
--- none, where none is.
+-- What is well formed where some parameters are declared is so where more are (ISO/IEC 9075:1992, 6.2), and
+-- the query of a view, which has none, where none is.
 use Rattle.std.specs.Prelude.{List, [], ◌∷◌, Option, Some, None}
 use Rattle.sq_meaning.specs.Database.{IsDeclaredIn}
 use Rattle.sq_meaning.specs.Expression.{Reading}

@@ -1,4 +1,5 @@
--- A condition without a subquery reads no table: it has the same truth whatever rows the tables have (ISO/IEC 9075:1992, clause 8).
+-- A condition without a subquery reads no table: it has the same truth whatever rows the tables have
+-- (ISO/IEC 9075:1992, clause 8).
 use Rattle.std.proofs.Common.{◌≡◌, false, List, [], ◌∷◌, Option, Some, None, Ok, refl}
 use Rattle.std.proofs.lemmas.Bool.{or_parts}
 use Rattle.sq_tree.specs.declared.cond.Comparison.{Comparison}

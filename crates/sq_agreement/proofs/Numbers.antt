@@ -1,5 +1,5 @@
--- Names of base tables and views are apart in schemas that are not refused, so each is found under its number (ISO/IEC 9075:1992, 5.4, 11.3
--- and 11.19).
+-- Names of base tables and views are apart in schemas that are not refused, so each is found under its
+-- number (ISO/IEC 9075:1992, 5.4, 11.3 and 11.19).
 use Rattle.std.proofs.Common.{◌≡◌, ℕ, zero, suc, ◌+◌, ◌<◌, cond, not, Bool, true, false, List, [], ◌∷◌, ◌++◌, length, length-append, Some, None, refl, sym, ap, subst, ◌∙◌, arith, true≢false, ltb-true}
 use Rattle.std.proofs.lemmas.Bool.{and_parts, false_from_ne_true, lt-ltb, or_parts}
 use Rattle.std.proofs.lemmas.Cmp.{nat_list_eq_equiv}

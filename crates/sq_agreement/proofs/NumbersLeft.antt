@@ -1,5 +1,6 @@
--- A FETCH over numbers comes to the same row by the machine's cursor and by a session's (ISO/IEC 9075:1992, 13.3), where what is left to
--- both is the same but for numbers under which there is no row any more: those are passed for good.
+-- A FETCH over numbers comes to the same row by the machine's cursor and by a session's (ISO/IEC
+-- 9075:1992, 13.3), where what is left to both is the same but for numbers under which there is no row any
+-- more: those are passed for good.
 use Rattle.std.proofs.Common.{◌≡◌, ℕ, zero, suc, ◌+◌, ◌<◌, min, not, cond, Bool, true, false, List, [], ◌∷◌, drop, filter, length, Option, Some, None, refl, sym, ap, subst, ◌∙◌, arith}
 use Rattle.std.specs.Prelude.{is_some, slice_get}
 use Rattle.std.specs.List.{AllByRecursion, position_or_len}

@@ -1,5 +1,6 @@
--- A cursor that isn't updatable is opened over the same rows in the same order (ISO/IEC 9075:1992, 13.2), where its query is bound as it is
--- written; and an updatable one whose conditions may answer a status over the same numbers.
+-- A cursor that isn't updatable is opened over the same rows in the same order (ISO/IEC 9075:1992,
+-- 13.2), where its query is bound as it is written; and an updatable one whose conditions may answer a
+-- status over the same numbers.
 use Rattle.std.proofs.Common.{◌≡◌, ℕ, true, List, [], map, None, Some, sym, ap, subst, ◌∙◌, Ok}
 use Rattle.sq_tree.specs.declared.«module».Cursor.{Cursor}
 use Rattle.sq_value.specs.declared.value.Value.{Value}

@@ -1,5 +1,6 @@
--- OPEN leaves a session's cursor over what the machine's is over, and ends with the same status (ISO/IEC 9075:1992, 13.2): over the rows of its
--- query in their order, or over the numbers of the rows that an updatable query means.
+-- OPEN leaves a session's cursor over what the machine's is over, and ends with the same status
+-- (ISO/IEC 9075:1992, 13.2): over the rows of its query in their order, or over the numbers of the rows
+-- that an updatable query means.
 use Rattle.std.proofs.Common.{◌≡◌, ℕ, Bool, true, false, List, [], ◌∷◌, Some, refl, sym, subst, Ok, Err}
 use Rattle.std.specs.Prelude.{if◌then◌else◌, slice_get, IfOk}
 use Rattle.sq_lex.specs.declared.name.Name.{Name}

@@ -1,5 +1,6 @@
--- A cursor that walks is opened over the rows under the numbers that the machine fixes (ISO/IEC 9075:1992, 13.2), where its conditions answer no
--- status: then the rows of which they are true are those that the walk means.
+-- A cursor that walks is opened over the rows under the numbers that the machine fixes (ISO/IEC
+-- 9075:1992, 13.2), where its conditions answer no status: then the rows of which they are true are
+-- those that the walk means.
 use Rattle.std.proofs.Common.{◌≡◌, ℕ, ◌≤◌, ◌<◌, cond, Bool, true, List, [], ◌∷◌, filter, map, Some, refl, sym, ap, ◌∙◌, arith, lt-ltb, Ok}
 use Rattle.std.specs.Prelude.{is_some, nat_lt}
 use Rattle.std.specs.List.{AllByRecursion}

@@ -1,5 +1,6 @@
--- Referencing columns are paired with the referenced ones in the order in which these are listed, or in the order of the key that they are:
--- both say the same of two rows (ISO/IEC 9075:1992, 11.8), since the same columns stand in both.
+-- Referencing columns are paired with the referenced ones in the order in which these are listed, or in
+-- the order of the key that they are: both say the same of two rows (ISO/IEC 9075:1992, 11.8), since the
+-- same columns stand in both.
 use Rattle.std.proofs.Common.{◌≡◌, ℕ, zero, suc, cond, not, Bool, true, false, List, [], ◌∷◌, length, map, get_or, Option, Some, None, refl, sym, ap, subst, ◌∙◌, arith, eqb-true}
 use Rattle.std.proofs.lemmas.List.Quantifiers.{position-Some}
 use Rattle.std.proofs.lemmas.Option.{slice_get-get_or}

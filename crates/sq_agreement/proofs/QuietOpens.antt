@@ -1,5 +1,5 @@
--- A quiet target means the rows that a walk over them means (ISO/IEC 9075:1992, 13.2): each of its conditions has a truth on each row, and reads no
--- table but the one that is walked.
+-- A quiet target means the rows that a walk over them means (ISO/IEC 9075:1992, 13.2): each of its
+-- conditions has a truth on each row, and reads no table but the one that is walked.
 use Rattle.std.proofs.Common.{◌≡◌, ◌&&◌, cond, Bool, true, false, List, [], ◌∷◌, filter, map, refl, sym, ap, subst, ◌∙◌, Ok, Err}
 use Rattle.std.specs.Prelude.{if◌then◌else◌}
 use Rattle.std.specs.List.{AllByRecursion, list_any}

@@ -1,5 +1,6 @@
--- How many rows OPEN and FETCH of a cursor read whose declaration is that of a quiet one (own rule; ISO/IEC 9075:1992, 13.1 to 13.3): OPEN none,
--- and a FETCH that takes it from the row of one number to that of a later one at least 1, and no more than the numbers differ.
+-- How many rows OPEN and FETCH of a cursor read whose declaration is that of a quiet one (own rule; ISO/IEC
+-- 9075:1992, 13.1 to 13.3): OPEN none, and a FETCH that takes it from the row of one number to that of a
+-- later one at least 1, and no more than the numbers differ.
 use Rattle.std.proofs.Common.{◌≡◌, ℕ, ◌-◌, ◌≤◌, true, List, None, Some, refl, sym, ap, subst, ◌∙◌, Ok}
 use Rattle.std.specs.Prelude.{slice_get, IfSome}
 use Rattle.std.specs.Option.{option_map_or}
@@ -52,8 +53,8 @@ over_walk Over.rows w over = cc
 over_walk (Over.numbers table) w over = cc
 over_walk (Over.walk table) w over = refl
 
--- A module's cursor that is declared with a number, in a program over schemas that the definitions do not refuse. What is bound of it is
--- updatable exactly where the rules say that it is.
+-- A module's cursor that is declared with a number, in a program over schemas that the definitions do not
+-- refuse. What is bound of it is updatable exactly where the rules say that it is.
 module _ (texts : List SchemaText) (known : KnownTables) (schemas : Schemas) (declares : Declares texts known schemas.bases schemas.views)
     (accepted : first_schema_refusal texts ≡ None) (u : Surroundings)
     (elements : u.elements ≡ elements_of texts) (declared : List DeclaredCursor) (n : ℕ) (d : DeclaredCursor)
@@ -87,8 +88,8 @@ module _ (texts : List SchemaText) (known : KnownTables) (schemas : Schemas) (de
         let walk = opens_walk (over_at declared n) values before.tables opened (quiet_walks ∙ quiet) h in
         (walk_before before.tables walk.0 values, walk.1, refl, refl)
 
-    -- A FETCH by which the walk comes to a row reads at least that one, and no more rows than the number of the row is greater than that
-    -- of the row to which the walk came last.
+    -- A FETCH by which the walk comes to a row reads at least that one, and no more rows than the number of
+    -- the row is greater than that of the row to which the walk came last.
     pub quiet_fetch_reads : (x : BoundFetch) (w : WalkingCursor) → cursor_at before x.cursor ≡ cursor.Walking w
         → CallReads (Some (kind_of declared user parameters (statement.Fetch x))) values before count
         → IfSome (next_walked (fetching declared user parameters x) (table_at before.tables w.table) w)

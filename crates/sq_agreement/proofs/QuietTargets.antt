@@ -1,5 +1,6 @@
--- The conditions of a target are quiet by its places exactly where they are by its names, whatever views stand between (ISO/IEC 9075:1992,
--- 7.9, 11.19 and 13.1). So a cursor walks over its base table exactly where its declaration is that of a quiet cursor.
+-- The conditions of a target are quiet by its places exactly where they are by its names, whatever views
+-- stand between (ISO/IEC 9075:1992, 7.9, 11.19 and 13.1). So a cursor walks over its base table exactly
+-- where its declaration is that of a quiet cursor.
 use Rattle.std.proofs.Common.{◌≡◌, Bool, true, false, ◌&&◌, List, [], ◌∷◌, Option, Some, None, refl, sym, ap, subst, ◌∙◌, Ok}
 use Rattle.std.proofs.lemmas.List.Folds.{list_all-append}
 use Rattle.std.specs.Prelude.{ℕ, if◌then◌else◌, IfSome}

@@ -1,5 +1,6 @@
--- What a call sets in its targets from a row is the same by names and by positions of parameters, and so is its reply (ISO/IEC 9075:1992,
--- 9.1, 13.3 and 13.5), where no two parameters have one name and the kinds fit.
+-- What a call sets in its targets from a row is the same by names and by positions of
+-- parameters, and so is its reply (ISO/IEC 9075:1992, 9.1, 13.3 and 13.5), where no two
+-- parameters have one name and the kinds fit.
 use Rattle.std.proofs.Common.{◌≡◌, ℕ, suc, ◌+◌, Bool, true, false, cond, List, [], ◌∷◌, length, map, Option, Some, None, refl, sym, ap, subst, ◌∙◌, arith, eqb-true, eq-eqb, Ok, Err}
 use Rattle.std.proofs.lemmas.Cmp.{nat_list_eq_equiv}
 use Rattle.std.specs.Cmp.Lexicographic.{same_text}

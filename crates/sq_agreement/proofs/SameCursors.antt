@@ -1,5 +1,5 @@
--- The machine finds cursors by their names, and a session by their numbers: both find, set and close the same (ISO/IEC 9075:1992, 4.21, 13.4,
--- 14.3 and 14.4).
+-- The machine finds cursors by their names, and a session by their numbers: both find, set and close the
+-- same (ISO/IEC 9075:1992, 4.21, 13.4, 14.3 and 14.4).
 use Rattle.std.proofs.Common.{◌≡◌, ℕ, zero, suc, true, false, cond, List, [], ◌∷◌, map, Some, refl, sym, subst}
 use Rattle.std.specs.Prelude.{⊤, find, if◌then◌else◌, option_map, slice_get, slice_index_or, slice_set, unwrap_or}
 use Rattle.std.proofs.lemmas.Bool.{false_from_ne_true}

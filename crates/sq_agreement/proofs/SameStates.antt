@@ -1,5 +1,6 @@
--- What a session's state is to the machine's (ISO/IEC 9075:1992, 4.21 and 4.28): the tables are the same, now and as they were committed, and
--- so are the cursors, of which the session keeps some as walks over their tables. CLOSE, COMMIT and ROLLBACK keep it so, and end alike.
+-- What a session's state is to the machine's (ISO/IEC 9075:1992, 4.21 and 4.28): the tables are the same,
+-- now and as they were committed, and so are the cursors, of which the session keeps some as walks over
+-- their tables. CLOSE, COMMIT and ROLLBACK keep it so, and end alike.
 use Rattle.std.proofs.Common.{◌≡◌, ℕ, Bool, true, false, List, [], ◌∷◌, map, Some, refl, sym, ap, subst}
 use Rattle.std.specs.Prelude.{if◌then◌else◌, slice_get}
 use Rattle.sq_lex.specs.declared.name.Name.{Name}

@@ -1,5 +1,5 @@
--- Schema texts are refused exactly as the rules refuse them, and else declare the catalog of their elements: no text spells a literal that is
--- null (ISO/IEC 9075:1992, 5.3 and 11.1).
+-- Schema texts are refused exactly as the rules refuse them, and else declare the catalog of their
+-- elements: no text spells a literal that is null (ISO/IEC 9075:1992, 5.3 and 11.1).
 use Rattle.std.proofs.Common.{◌≡◌, List, [], ◌∷◌, Option, Some, None}
 use Rattle.std.specs.List.{AllByRecursion}
 use Rattle.sq_lex.specs.declared.name.Name.{Name}

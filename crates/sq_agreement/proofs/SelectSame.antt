@@ -1,4 +1,5 @@
--- SELECT INTO sets the same targets by its names and by its places, and ends with the same status (ISO/IEC 9075:1992, 13.5).
+-- SELECT INTO sets the same targets by its names and by its places, and ends with the same status
+-- (ISO/IEC 9075:1992, 13.5).
 use Rattle.std.proofs.Common.{◌≡◌, List, refl, sym, ap, subst, ◌∙◌, Ok, Err}
 use Rattle.sq_tree.specs.declared.statement.Select.{Select as SelectStatement}
 use Rattle.sq_value.specs.declared.value.Value.{Value}

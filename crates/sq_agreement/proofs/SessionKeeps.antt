@@ -1,6 +1,6 @@
--- Each statement of a session that texts opened leaves its state what it was to the machine's, and has the same reply (ISO/IEC 9075:1992, 13.2 and
--- 13.6 to 13.10). Asked for is what InSession asks for, and of a statement what binding promises of it and what the rules of well-formed
--- statements say.
+-- Each statement of a session that texts opened leaves its state what it was to the machine's, and has the
+-- same reply (ISO/IEC 9075:1992, 13.2 and 13.6 to 13.10). Asked for is what InSession asks for, and of a
+-- statement what binding promises of it and what the rules of well-formed statements say.
 use Rattle.std.proofs.Common.{◌≡◌, ℕ, List, Option, Some, None, refl, sym, ap, subst, Ok}
 use Rattle.std.specs.List.{AllByRecursion}
 use Rattle.std.specs.Option.{option_map, option_map_or}
@@ -57,7 +57,8 @@ use Rattle.sq_agreement.proofs.UpdateSame.{update_same}
 abbrev pub IsSameStep : List DeclaredCursor → Done → State → Outcomes → Type 0
 IsSameStep declared d after o = SameStates declared after o.0 × SameReply d o.1
 
--- a cursor of the module: its number is that of its name alone, under which it is declared, and the module writes it
+-- a cursor of the module: its number is that of its name alone, under which it is declared,
+-- and the module writes it
 pub record IsCursorHere (declared : List DeclaredCursor) (s : State) (r : Running) (name : Name) (n : ℕ) : Type 0 where
   pub only : IsOnly (SameCursor s.tables) r.in_module.name name r.state.cursors n
   pub declared_as : DeclaredCursor

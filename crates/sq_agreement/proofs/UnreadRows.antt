@@ -1,5 +1,6 @@
--- A walk whose conditions read no column that an UPDATE gives a value has the same rows after it (ISO/IEC 9075:1992, 13.3, 13.9 and 13.10): each row
--- is under its number as before, and in the columns that the conditions read.
+-- A walk whose conditions read no column that an UPDATE gives a value has the same rows after it
+-- (ISO/IEC 9075:1992, 13.3, 13.9 and 13.10): each row is under its number as before, and in the columns
+-- that the conditions read.
 use Rattle.std.proofs.Common.{◌≡◌, ℕ, zero, suc, cond, Bool, true, false, List, [], ◌∷◌, filter, map, Option, Some, None, refl, sym, ap, subst, ◌∙◌, eqb-true, eq-eqb, Ok, Err}
 use Rattle.std.specs.Prelude.{⊤, ◌&&◌, if◌then◌else◌, nat_eq, nat_le, nat_lt, slice_get, slice_set, IfOk}
 use Rattle.std.specs.List.{AllByRecursion, AllZip}

@@ -1,4 +1,5 @@
--- A positioned UPDATE changes the row that both cursors are on, leaves them on it, and ends alike (ISO/IEC 9075:1992, 13.9).
+-- A positioned UPDATE changes the row that both cursors are on, leaves them on it, and ends alike
+-- (ISO/IEC 9075:1992, 13.9).
 use Rattle.std.proofs.Common.{◌≡◌, ℕ, true, false, List, Option, Some, None, refl, sym, subst, Ok, Err}
 use Rattle.std.specs.Prelude.{is_some, option_and_then, option_map, slice_get}
 use Rattle.sq_lex.specs.declared.name.Name.{Name}

@@ -1,6 +1,7 @@
--- UPDATE keeps what the states of a session and of the machine are to each other, and ends alike (ISO/IEC 9075:1992, 13.9 and 13.10), where it
--- comes to the same tables or the same status. Rows keep their numbers; a walk whose conditions read what changes goes on over the
--- numbers that were left to it, and any other has the same rows.
+-- UPDATE keeps what the states of a session and of the machine are to each other, and ends alike (ISO/IEC
+-- 9075:1992, 13.9 and 13.10), where it comes to the same tables or the same status. Rows keep their
+-- numbers; a walk whose conditions read what changes goes on over the numbers that were left to it, and any
+-- other has the same rows.
 use Rattle.std.proofs.Common.{◌≡◌, ℕ, zero, suc, ◌≤◌, Bool, true, false, cond, List, [], ◌∷◌, drop, filter, map, Option, Some, refl, sym, ap, subst, ◌∙◌, eqb-true, Ok}
 use Rattle.std.specs.Prelude.{◌==◌, find, if◌then◌else◌, is_some, nat_eq, slice_set, unwrap_or}
 use Rattle.sq_tree.specs.declared.statement.Update.{Update}

@@ -1,5 +1,6 @@
--- A FETCH of a cursor that walks comes to the row that the machine's cursor comes to over the numbers that OPEN fixed (ISO/IEC 9075:1992,
--- 13.3), where these are, but for those that are gone, the numbers of the rows that the walk still has.
+-- A FETCH of a cursor that walks comes to the row that the machine's cursor comes to over the numbers that
+-- OPEN fixed (ISO/IEC 9075:1992, 13.3), where these are, but for those that are gone, the numbers of the
+-- rows that the walk still has.
 use Rattle.std.proofs.Common.{◌≡◌, ℕ, ◌+◌, ◌≤◌, ◌<◌, cond, Bool, true, false, List, [], ◌∷◌, drop, filter, map, Option, Some, None, refl, sym, ap, subst, ◌∙◌, arith, leb-true, le-leb, ltb-true}
 use Rattle.std.specs.Prelude.{find, is_some, nat_le, nat_lt, slice_get}
 use Rattle.std.specs.List.{AllByRecursion}
@@ -181,7 +182,8 @@ module _ (test : Numbered → Bool) (mark : ℕ) where
 -- ---- a walk
 
 module _ (conditions : List BoundCond) (user : Name) where
-  -- the numbers of the rows that a walk still has are left to the machine's cursor, but for those that are gone, and both are on the same
+  -- the numbers of the rows that a walk still has are left to the machine's cursor, but for those that are
+  -- gone, and both are on the same
   pub record SameWalk (t : Table) (c : WalkingCursor) (x : CursorState) : Type 0 where
     pub numbers : List ℕ
     pub is : x ≡ CursorState.over_numbers numbers c.on

@@ -1,7 +1,7 @@
-//! Trials of calls: it makes the calls of a script over a store that counts what it hands out, each once more where it is refused
-//! memory, and prints the report. Behind the line of a call stands how many rows the reply says were read, and how many the
-//! store handed out: no less, and 0 at an OPEN that reads nothing. `tools/refuse_allocations.py` refuses each allocation in
-//! turn; what is printed stays the same.
+//! Trials of calls: it makes the calls of a script over a store that counts what it hands out, each once
+//! more where it is refused memory, and prints the report. Behind the line of a call stands how many rows
+//! the reply says were read, and how many the store handed out: no less, and 0 at an OPEN that reads
+//! nothing. `tools/refuse_allocations.py` refuses each allocation in turn; what is printed stays the same.
 #![tactic(auto)]
 
 mod calls;

@@ -1,4 +1,5 @@
-//! The lines of a report, with what the store handed out. Texts stand in them as they are, so none may have a quote.
+//! The lines of a report, with what the store handed out. Texts stand in them as they are,
+//! so none may have a quote.
 use crate::calls::Called;
 use sq_lex::Name;
 use sq_session::{Output, TableRows};

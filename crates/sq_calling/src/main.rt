@@ -11,7 +11,8 @@ use sq_run::{Limits, OutOf, RunFault, run};
 use std::alloc::{AllocError, Global};
 use std::io::{self, Write};
 
-/// The report of a script, as a `Vec`. Where memory runs out for it, the fault is `Write`, since a `Vec` then takes no more.
+/// The report of a script, as a `Vec`. Where memory runs out for it, the fault is `Write`, since a
+/// `Vec` then takes no more.
 fn report_of(
     alloc: Global,
     schemas: &[Vec<u8>],

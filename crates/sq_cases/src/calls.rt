@@ -1,4 +1,5 @@
-//! What a report does not show of a run's calls: the fault of a statement, and how many rows were read to choose rows.
+//! What a report does not show of a run's calls: the fault of a statement, and how many rows
+//! were read to choose rows.
 ghost use Rattle.std.specs.Prelude.{◌≤◌};
 
 use crate::opened::{OpenRun, open_run};

@@ -6,8 +6,8 @@ use std::alloc::{AllocError, Global};
 use std::rt::Files;
 use std::{fs, io};
 
-/// What a rule answers about a file: the rule, the kind of text, the file, and with a cut the length of the shortest
-/// front that may be a whole text.
+/// What a rule answers about a file: the rule, the kind of text, the file, and with a cut the length of the
+/// shortest front that may be a whole text.
 pub fn answer<R: Files + AllocGlobal>(rt: &R, case: &str) -> io::Result<String> {
     let (rule, rest) = case.split_once('\t').unwrap_or((case, ""));
     let (kind, rest) = rest.split_once('\t').unwrap_or((rest, ""));
@@ -41,7 +41,7 @@ fn answered(
     }
 }
 
-/// That each of the places was tried, or the first place that is wrong.
+/// Says that each place was tried, or which place is the first with a wrong answer.
 fn shown(alloc: Global, count: usize, wrong: Option<usize>) -> Result<String, AllocError> {
     match wrong {
         None => format!(in alloc; "{count} places"),
@@ -52,15 +52,15 @@ fn shown(alloc: Global, count: usize, wrong: Option<usize>) -> Result<String, Al
 /// How a text that is cut short ends.
 #[derive(Clone, Copy, Debug, PartialEq, Eq)]
 enum Ending {
-    /// It is a whole text.
+    /// The cut leaves a whole text.
     Whole,
-    /// It ends too early.
+    /// The text ends too early.
     TooEarly,
     /// A literal is open.
     InLiteral,
-    /// Its last token fits nowhere.
+    /// The last token that is left fits nowhere.
     InPiece,
-    /// In no way that a cut can give.
+    /// The answer is none that a cut can give.
     Otherwise,
 }
 
@@ -92,8 +92,8 @@ fn ending_of(count: usize, refusal: Option<ParseError>) -> Ending {
     }
 }
 
-/// Whether a cut may end so: in a literal, and only there, with the literal open; else as a whole text, too early, or, in
-/// a word, a number or a comment's dashes, with a piece that fits nowhere.
+/// Whether a cut may end so: in a literal, and only there, with the literal open; else as a whole text, too
+/// early, or, in a word, a number or a comment's dashes, with a piece that fits nowhere.
 fn is_allowed(front: &[u8], behind: &[u8], least: usize, ending: Ending) -> bool {
     if leaves_literal_open(front) {
         return ending == Ending::InLiteral;

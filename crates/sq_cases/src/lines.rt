@@ -1,4 +1,5 @@
-//! Tables with a case a line: the wanted answer, a tab, and the case. A line that begins with `#` is a comment.
+//! Tables with a case a line: the wanted answer, a tab, and the case. A line that
+//! begins with `#` is a comment.
 use crate::tally::Tally;
 use crate::{grammar, hostile, tokens, values};
 use std::rt::Files;

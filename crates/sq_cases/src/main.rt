@@ -1,5 +1,5 @@
-//! Tries tables of cases: each file of data/ has cases of one kind, and beside each the answer that is wanted. For each
-//! table it prints how many cases there were, and each that differs.
+//! Tries tables of cases: each file of data/ has cases of one kind, and beside each the answer that is
+//! wanted. For each table it prints how many cases there were, and each that differs.
 #![tactic(auto)]
 
 mod calls;

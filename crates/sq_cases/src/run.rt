@@ -29,10 +29,10 @@ pub struct Run {
 impl Run {
     /// The run that these lines describe.
     ///
-    /// A line `|..` is a line of text, `...` one that no line feed ends. Before them stands what they are: `schema`,
-    /// `module`, `script` or `report`. `rows 3` limits row numbers, and `refused module 1 2:14 Unexpected` stands for a
-    /// report: the refused text by its kind and its number among those, a line and a column, and the refusal. A line
-    /// `call ..` is of `calls`.
+    /// A line `|..` is a line of text, `...` one that no line feed ends. Before them stands what they are:
+    /// `schema`, `module`, `script` or `report`. `rows 3` limits row numbers, and
+    /// `refused module 1 2:14 Unexpected` stands for a report: the refused text by its kind and its number
+    /// among those, a line and a column, and the refusal. A line `call ..` is of `calls`.
     pub fn read(alloc: Global, lines: &str) -> Result<Run, AllocError> {
         let mut run = Run {
             row_numbers: 1_000_000,

@@ -1,5 +1,5 @@
-//! Operations on values: a word, and operands behind tabs. Values are written `-1.50`, `'AB '` and `NULL`, domains as in
-//! a column's definition.
+//! Operations on values: a word, and operands behind tabs. Values are written `-1.50`, `'AB '` and `NULL`,
+//! domains as in a column's definition.
 ghost use Rattle.std.specs.Prelude.{◌≤◌, ◌+◌, ◌-◌, ◌↔◌, IsTrue, All, max};
 ghost use Rattle.sq_value.specs.Text.{IsCode};
 ghost use Rattle.sq_value.specs.Domain.{IsOfKind};

@@ -1,5 +1,6 @@
--- What a session's state and the machine's are to each other between calls (ISO/IEC 9075:1992, 4.21 and 4.28), and what that is to a call's
--- statement: the same parameters, and each cursor that it names under its number.
+-- What a session's state and the machine's are to each other between calls (ISO/IEC 9075:1992,
+-- 4.21 and 4.28), and what that is to a call's statement: the same parameters, and each cursor
+-- that it names under its number.
 use Rattle.std.proofs.Common.{◌≡◌, ℕ, zero, suc, Bool, true, false, ◌&&◌, ◌||◌, List, [], ◌∷◌, ◌++◌, length, map, Some, None, refl, sym, ap, subst, ◌∙◌}
 use Rattle.std.proofs.lemmas.List.Folds.{list_any-append}
 use Rattle.std.specs.Cmp.Lexicographic.{same_text}
@@ -55,8 +56,9 @@ module_of d = d.«module»
 abbrev pub name_of : DeclaredCursor → Name
 name_of d = d.name
 
--- The tables are the same, now and as committed, and so is each cursor that the session has; every other cursor of the machine is closed. There is a
--- table for each base table, with rising numbers of rows, in which all constraints hold.
+-- The tables are the same, now and as committed, and so is each cursor that the session has; every other
+-- cursor of the machine is closed. There is a table for each base table, with rising numbers of rows, in
+-- which all constraints hold.
 pub record Agrees (texts : List SchemaText) (row_numbers : ℕ) (schemas : Schemas) (declared : List DeclaredCursor) (s : State)
     (x : by_name.State) : Type 0 where
   pub same : SameStates declared s (projected module_of name_of declared x)

@@ -1,5 +1,6 @@
--- A whole call of a session is the machine's step (ISO/IEC 9075:1992, 12.4 and clause 13): the same status, the same values of parameters in the
--- order of their declaration, and states that are to each other what they were before it.
+-- A whole call of a session is the machine's step (ISO/IEC 9075:1992, 12.4 and clause 13): the same
+-- status, the same values of parameters in the order of their declaration, and states that are to each
+-- other what they were before it.
 --
 -- A procedure with a fault answers 42000 in both, and changes nothing.
 use Rattle.std.proofs.Common.{◌≡◌, ℕ, Bool, true, false, ◌&&◌, List, length, Option, Some, None, refl, sym, ap, subst, ◌∙◌, Ok, Err}

@@ -21,8 +21,8 @@ use Rattle.sq_module.specs.declared.program.Program.{Program}
 use Rattle.sq_session.specs.Schemas.{Schemas, columns_of}
 use Rattle.sq_agreement.proofs.CursorOpens.{IsUpdatableAs}
 
--- What a session knows: modules that the definitions do not refuse, what the catalog declares, and a program that is bound as it is written,
--- well formed, over base tables and cursors that are there.
+-- What a session knows: modules that the definitions do not refuse, what the catalog declares, and a
+-- program that is bound as it is written, well formed, over base tables and cursors that are there.
 pub record IsOpenedFrom (texts : List SchemaText) (modules : List ModuleText) (known : KnownTables) (schemas : Schemas) (program : Program) : Type 0 where
   pub declares : Declares texts known schemas.bases schemas.views
   pub admitted : first_module_refusal modules ≡ None
@@ -30,7 +30,8 @@ pub record IsOpenedFrom (texts : List SchemaText) (modules : List ModuleText) (k
   pub fits : FitsProgram schemas.bases program
   pub well_formed : ProgramIsWellFormed (columns_of schemas) program
 
--- A declared cursor is the one of its name in its module, and is updatable exactly where the definitions say (7.9, 13.1).
+-- A declared cursor is the one of its name in its module, and is updatable exactly where the
+-- definitions say (7.9, 13.1).
 pub record IsCursorExactly (texts : List SchemaText) (modules : List ModuleText) (d : DeclaredCursor) : Type 0 where
   pub text : ModuleText
   pub is_text : module_named modules d.«module» ≡ Some text
@@ -39,7 +40,8 @@ pub record IsCursorExactly (texts : List SchemaText) (modules : List ModuleText)
   pub updatable : (parameters : List Declared)
       → IsUpdatableAs d.cursor.body (updatable_cursor (record { elements = elements_of texts; in_module = text; parameters = parameters }) cursor)
 
--- A procedure is the one of its name in its module, and its statement is bound exactly where the definitions find no fault in it (clause 13).
+-- A procedure is the one of its name in its module, and its statement is bound exactly where the
+-- definitions find no fault in it (clause 13).
 pub record IsProcedureExactly (texts : List SchemaText) (modules : List ModuleText) (e : ProcedureName × BoundProcedure) : Type 0 where
   pub text : ModuleText
   pub is_text : module_named modules e.0.«module» ≡ Some text

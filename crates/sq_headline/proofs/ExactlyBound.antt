@@ -1,5 +1,6 @@
--- Binding is exact: the program of a session is what the definitions of binding compute where names mean what the schemas declare. So a procedure is
--- bound exactly where the rules find no fault in it, and a cursor updatable exactly where they say (ISO/IEC 9075:1992, 7.9, 13.1 and clause 13).
+-- Binding is exact: the program of a session is what the definitions of binding compute where names mean
+-- what the schemas declare. So a procedure is bound exactly where the rules find no fault in it, and a
+-- cursor updatable exactly where they say (ISO/IEC 9075:1992, 7.9, 13.1 and clause 13).
 use Rattle.std.proofs.Common.{◌≡◌, ℕ, List, [], map, Option, Some, None, Result, Ok, Err, refl, sym, ap, subst, ◌∙◌}
 use Rattle.std.specs.List.{AllByRecursion}
 use Rattle.std.specs.Option.{option_map}

@@ -1,4 +1,5 @@
--- Before the first call a session is to the machine what calls keep (ISO/IEC 9075:1992, 4.21): all tables are empty, and all cursors closed.
+-- Before the first call a session is to the machine what calls keep (ISO/IEC 9075:1992, 4.21): all tables
+-- are empty, and all cursors closed.
 use Rattle.std.proofs.Common.{◌≡◌, ℕ, zero, suc, Bool, true, false, cond, ◌&&◌, ◌||◌, List, [], ◌∷◌, ◌++◌, length, map, Some, refl, sym, ap, subst, ◌∙◌}
 use Rattle.std.proofs.lemmas.List.Folds.{list_any-append}
 use Rattle.std.specs.List.{AllByRecursion, flat_map, list_any}

@@ -1,5 +1,6 @@
--- In modules that the definitions do not refuse each module, procedure and cursor is found by its name, each cursor is opened by exactly
--- one procedure, and the parameters of a procedure have different names and a domain each (ISO/IEC 9075:1992, 12.1 to 12.3 and 13.1).
+-- In modules that the definitions do not refuse each module, procedure and cursor is found by its name,
+-- each cursor is opened by exactly one procedure, and the parameters of a procedure have different names
+-- and a domain each (ISO/IEC 9075:1992, 12.1 to 12.3 and 13.1).
 use Rattle.std.proofs.Common.{◌≡◌, ℕ, zero, suc, ◌+◌, ◌<◌, Bool, true, false, cond, not, ◌||◌, List, [], ◌∷◌, length, map, take, Option, Some, None, refl, sym, ap, subst, ◌∙◌, arith, ltb-true, eqb-true}
 use Rattle.std.proofs.lemmas.Bool.{lt-ltb, or_parts}
 use Rattle.std.proofs.lemmas.Cmp.{nat_list_eq_equiv}

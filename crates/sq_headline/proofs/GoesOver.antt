@@ -1,5 +1,5 @@
--- After each call a session's cursors go over what is declared, rows may have numbers up to the same one, and tables have the same keys (ISO/IEC
--- 9075:1992, 4.21 and 13.2 to 13.10).
+-- After each call a session's cursors go over what is declared, rows may have numbers up to the same one,
+-- and tables have the same keys (ISO/IEC 9075:1992, 4.21 and 13.2 to 13.10).
 use Rattle.std.proofs.Common.{◌≡◌, ℕ, true, List}
 use Rattle.sq_lex.specs.declared.name.Name.{Name}
 use Rattle.sq_value.specs.declared.value.Value.{Value}

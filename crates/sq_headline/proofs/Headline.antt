@@ -1,4 +1,5 @@
--- The bytes that a run writes are the machine's report of its script, item by item, on the trees that its texts spell.
+-- The bytes that a run writes are the machine's report of its script, item by item, on the
+-- trees that its texts spell.
 use Rattle.std.proofs.Common.{◌≡◌, ℕ, zero, suc, ◌+◌, ◌<◌, List, [], ◌∷◌, ◌++◌, length, map, take, Option, refl, sym, ap, subst, ◌∙◌, append_assoc, arith}
 use Rattle.std.proofs.lemmas.List.{length-append, take-append-le}
 use Rattle.std.specs.Io.KnownBytes.{Appends}

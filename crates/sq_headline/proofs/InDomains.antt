@@ -1,4 +1,5 @@
--- Tables in which all constraints hold have values in the domains of their columns, as the catalog has them (ISO/IEC 9075:1992, 4.10 and 9.2).
+-- Tables in which all constraints hold have values in the domains of their columns, as the catalog has them
+-- (ISO/IEC 9075:1992, 4.10 and 9.2).
 use Rattle.std.proofs.Common.{◌≡◌, ℕ, suc, List, [], ◌∷◌, length, map, Some, refl, subst, arith}
 use Rattle.std.specs.List.{AllByRecursion, AllZip}
 use Rattle.std.specs.Prelude.{slice_get, slice_index_or}

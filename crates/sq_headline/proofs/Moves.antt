@@ -1,5 +1,6 @@
--- What a statement makes of the machine's state (ISO/IEC 9075:1992, 13.2 to 13.10, 14.3 and 14.4): of its tables, whose rows go on to stand by
--- rising numbers, and of its cursors, of which it sets none but the one that it names.
+-- What a statement makes of the machine's state (ISO/IEC 9075:1992, 13.2 to 13.10, 14.3 and 14.4): of
+-- its tables, whose rows go on to stand by rising numbers, and of its cursors, of which it sets none
+-- but the one that it names.
 use Rattle.std.proofs.Common.{◌≡◌, ℕ, zero, suc, ◌+◌, ◌≤◌, Bool, true, false, not, ◌&&◌, List, [], ◌∷◌, filter, length, map, slice_set, Option, Some, None, refl, sym, ap, subst, ◌∙◌, arith, Ok, Err}
 use Rattle.std.proofs.lemmas.Grind.{common_steps}
 use Rattle.std.specs.Prelude.{⊤, if◌then◌else◌, nat_le, option_map, unwrap_or}
@@ -107,7 +108,8 @@ delete_is s x which after e =
 
 -- ---- the tables of a state
 
--- those now and those that are committed stay, or one of those now changes, or both become the one or the other
+-- those now and those that are committed stay, or one of those now changes, or both
+-- become the one or the other
 pub data Move (x y : State) : Type 0 where
   stays : y.tables ≡ x.tables → y.committed ≡ x.committed → Move x y
   changes : IsChanged x.tables y.tables → y.committed ≡ x.committed → Move x y

@@ -1,5 +1,5 @@
--- The parameters with which a cursor is bound are those of the procedure that opens it, since no other opens it (ISO/IEC 9075:1992, 13.1 and
--- 13.2).
+-- The parameters with which a cursor is bound are those of the procedure that opens it, since no other
+-- opens it (ISO/IEC 9075:1992, 13.1 and 13.2).
 use Rattle.std.proofs.Common.{◌≡◌, List, [], ◌∷◌, None, refl, sym, ap, subst, ◌∙◌}
 use Rattle.std.specs.List.{IsAmong}
 use Rattle.sq_lex.specs.declared.name.Name.{Name}

@@ -1,5 +1,6 @@
--- A machine with the cursors of some names alone, in their order, goes on as the machine does, where all its other cursors are closed
--- (ISO/IEC 9075:1992, 4.21 and 13.2 to 13.10): a session keeps no cursor whose query has a fault, and none can be opened.
+-- A machine with the cursors of some names alone, in their order, goes on as the machine does, where all
+-- its other cursors are closed (ISO/IEC 9075:1992, 4.21 and 13.2 to 13.10): a session keeps no cursor whose
+-- query has a fault, and none can be opened.
 use Rattle.std.proofs.Common.{◌≡◌, ℕ, Bool, true, false, cond, ◌&&◌, ◌||◌, List, [], ◌∷◌, map, Option, Some, None, refl, sym, ap, subst, ◌∙◌, Ok, Err}
 use Rattle.std.specs.Cmp.Lexicographic.{same_text}
 use Rattle.std.specs.List.{AllByRecursion, list_any}

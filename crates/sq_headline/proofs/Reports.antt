@@ -1,5 +1,5 @@
--- What a session reports of the items of a script is the machine's report of them (own form): a call's line tells the machine's status and
--- outputs, and a base table that is shown has the machine's rows.
+-- What a session reports of the items of a script is the machine's report of them (own form): a call's line
+-- tells the machine's status and outputs, and a base table that is shown has the machine's rows.
 use Rattle.std.proofs.Common.{◌≡◌, ℕ, zero, suc, List, [], ◌∷◌, ◌++◌, length, map, Some, None, refl, sym, ap, subst, ◌∙◌, arith}
 use Rattle.std.specs.Cmp.Lexicographic.{pointwise, same_text}
 use Rattle.std.specs.Option.{option_map}

@@ -1,6 +1,6 @@
--- What the rules say of a statement in which they find no fault (ISO/IEC 9075:1992, 7.9, 13.1 to 13.10): what is changed may be changed,
--- a cursor that is named has a query without a fault, a positioned statement is over the table of its cursor, and `*` stands in no
--- grouped query.
+-- What the rules say of a statement in which they find no fault (ISO/IEC 9075:1992, 7.9, 13.1 to 13.10):
+-- what is changed may be changed, a cursor that is named has a query without a fault, a positioned
+-- statement is over the table of its cursor, and `*` stands in no grouped query.
 use Rattle.std.proofs.Common.{◌≡◌, Bool, true, false, cond, not, ◌&&◌, ◌||◌, List, [], ◌∷◌, ◌++◌, length, map, Option, Some, None, refl, sym, ap, ◌∙◌, Ok, Err, arith}
 use Rattle.std.specs.List.{AllByRecursion, flat_map, list_any, zip}
 use Rattle.std.specs.Prelude.{find, if◌then◌else◌, is_err, is_ok, option_and_then, option_map}

@@ -1,5 +1,6 @@
--- The parameters with which a procedure is bound are those that it declares, under different names, and a call starts them at the same values
--- by their names and by their positions (ISO/IEC 9075:1992, 6.2, 12.3 and 12.4).
+-- The parameters with which a procedure is bound are those that it declares, under different names,
+-- and a call starts them at the same values by their names and by their positions (ISO/IEC
+-- 9075:1992, 6.2, 12.3 and 12.4).
 use Rattle.std.proofs.Common.{◌≡◌, ℕ, zero, suc, true, false, ◌||◌, List, [], ◌∷◌, length, map, Some, refl, sym, ap, ◌∙◌, arith}
 use Rattle.std.specs.List.{flat_map, list_any}
 use Rattle.std.specs.Prelude.{filter_map, nat_lt, slice_get}

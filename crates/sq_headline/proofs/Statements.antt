@@ -1,5 +1,5 @@
--- A statement in which the definitions find no fault does in a session what it does in the machine (ISO/IEC 9075:1992, 13.2 to 13.10, 14.3 and
--- 14.4): the states stay what they are to each other, and it ends alike.
+-- A statement in which the definitions find no fault does in a session what it does in the machine (ISO/IEC
+-- 9075:1992, 13.2 to 13.10, 14.3 and 14.4): the states stay what they are to each other, and it ends alike.
 use Rattle.std.proofs.Common.{◌≡◌, ℕ, zero, suc, true, false, List, [], ◌∷◌, ◌++◌, length, map, Option, Some, None, refl, sym, ap, subst, ◌∙◌, arith}
 use Rattle.std.specs.List.{AllByRecursion, IsAmong, flat_map}
 use Rattle.std.specs.Option.{option_and_then, option_map}

@@ -1,4 +1,5 @@
--- A statement that names cursors of some names alone leaves all others closed (ISO/IEC 9075:1992, 13.2 to 13.10).
+-- A statement that names cursors of some names alone leaves all others closed (ISO/IEC
+-- 9075:1992, 13.2 to 13.10).
 use Rattle.std.proofs.Common.{◌≡◌, ℕ, zero, suc, Bool, true, false, cond, ◌&&◌, ◌||◌, List, [], ◌∷◌, map, Some, refl, sym, ap, subst, ◌∙◌}
 use Rattle.std.specs.Cmp.Lexicographic.{same_text}
 use Rattle.std.specs.List.{AllByRecursion, list_any}

@@ -1,4 +1,5 @@
--- A cursor that is bound goes over rows of a base table exactly where the rules find it updatable (ISO/IEC 9075:1992, 7.9 and 13.1).
+-- A cursor that is bound goes over rows of a base table exactly where the rules find it updatable (ISO/IEC
+-- 9075:1992, 7.9 and 13.1).
 use Rattle.std.proofs.Common.{◌≡◌, List, Option, Some, None, Ok, Err, refl, sym, subst, ◌∙◌}
 use Rattle.std.specs.Option.{option_and_then, option_map}
 use Rattle.std.specs.Result.{result_ok}

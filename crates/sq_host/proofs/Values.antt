@@ -1,4 +1,5 @@
--- The machine values of an `Apart`, of the pair that a box is taken apart into, and of a `Kept`. Assumes `Logic`.
+-- The machine values of an `Apart`, of the pair that a box is taken apart into, and of a
+-- `Kept`. Assumes `Logic`.
 use Rattle.std.proofs.Common.{◌≡◌, ℕ, zero, suc, List, [], ◌∷◌, ◌++◌, refl, ap, subst, ◌∙◌, Option, Some, None, IsSome, Bool, true, not, ◌&&◌, T}
 use seplogic.Ra.Ura.{Ura}
 use mir.Syntax.{impl, tnil, dnil}

@@ -13,8 +13,8 @@ pub enum Answer {
     NoMemory,
     /// No procedure has this name, or no output this place; or nothing was called before.
     Unknown,
-    /// No value: a number of more than 18 digits or places, or a text that is too long or has other characters; or a
-    /// number of rows that is out of bounds.
+    /// No value: a number of more than 18 digits or places, or a text that is too long or has other
+    /// characters; or a number of rows that is out of bounds.
     BadValue,
     /// No procedure has this number, or the values don't fit its parameters.
     BadArguments,

@@ -1,5 +1,5 @@
-//! The calls of a handle. One that leads to nothing answers `NotOpen` to each but `start`, and where a call doesn't answer
-//! `Done` it sets nothing.
+//! The calls of a handle. One that leads to nothing answers `NotOpen` to each but `start`, and where a call
+//! doesn't answer `Done` it sets nothing.
 use crate::answer::Answer;
 use crate::datum::Datum;
 use crate::handle::Handle;
@@ -123,8 +123,8 @@ impl Handle {
         answer
     }
 
-    /// Sets what a parameter was set to by the last call, by its place among those, and copies the bytes of a text, as far as
-    /// there is room.
+    /// Sets what a parameter was set to by the last call, by its place among those, and copies the bytes of
+    /// a text, as far as there is room.
     pub fn output(
         &mut self,
         alloc: Global,
@@ -140,7 +140,7 @@ impl Handle {
         answer
     }
 
-    /// Copies the name of such a parameter, as far as there is room, and sets its length.
+    /// Copies the name of a parameter that the last call set, as far as there is room, and sets its length.
     pub fn output_name(
         &mut self,
         alloc: Global,

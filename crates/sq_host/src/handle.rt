@@ -10,8 +10,8 @@ use std::mem::replace;
 /// The word of a handle that leads to a host.
 const OPEN: u64 = 8318550311921733710;
 
-/// A handle, in memory of C's. With any other word than `OPEN` it leads to nothing. C makes none with that word, copies none,
-/// and changes none: the ghost field is what C has to keep.
+/// A handle, in memory of C's. With any other word than `OPEN` it leads to nothing. C makes none with that
+/// word, copies none, and changes none: the ghost field is what C has to keep.
 #[repr(C)]
 #[derive(Drop)]
 pub struct Handle {

@@ -15,7 +15,8 @@ use sq_value::Value;
 use std::alloc::{AllocError, Global};
 use std::mem::replace;
 
-/// Texts, and from when they are opened a session; with it the values for the next call, and the answer of the last one.
+/// Texts, and from when they are opened a session; with it the values for the next call, and
+/// the answer of the last one.
 #[derive(Drop)]
 pub struct Host {
     schemas: Vec<Vec<u8>>,

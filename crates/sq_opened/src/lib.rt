@@ -1,5 +1,5 @@
-//! What texts open, and the values that a script hands in, for test programs that make calls themselves. Where
-//! a text is refused or memory runs out the answer is `None`, without a reason.
+//! What texts open, and the values that a script hands in, for test programs that make calls themselves.
+//! Where a text is refused or memory runs out the answer is `None`, without a reason.
 #![tactic(auto)]
 
 mod arguments;

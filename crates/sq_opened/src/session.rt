@@ -9,8 +9,8 @@ use sq_store::{MOST_ROW_NUMBERS, Store};
 use sq_tree::ModuleText;
 use std::alloc::{AllocError, Global};
 
-/// A store without rows for the base tables of a catalog, their keys and references, with this many row numbers
-/// but at most `MOST_ROW_NUMBERS`.
+/// A store without rows for the base tables of a catalog, their keys and references, with this many row
+/// numbers but at most `MOST_ROW_NUMBERS`.
 #[tactic(auto, using(sq_session::proofs::Holding::keys_count))]
 pub fn store_of<S: Store>(
     alloc: Global,

@@ -1,5 +1,6 @@
--- A call that is made of a session of accepted texts, of a procedure in whose statement the rules find no fault: its statement is bound as it
--- is written, and is well formed over the tables and cursors that are there (ISO/IEC 9075:1992, 12.1 to 12.3).
+-- A call that is made of a session of accepted texts, of a procedure in whose statement the rules find no
+-- fault: its statement is bound as it is written, and is well formed over the tables and cursors that are
+-- there (ISO/IEC 9075:1992, 12.1 to 12.3).
 use Rattle.std.proofs.Common.{◌≡◌, ℕ, true, false, List, length, map, Some, Result, Ok, Err, refl, sym, ap, subst, ◌∙◌}
 use Rattle.std.specs.Cmp.Lexicographic.{same_text}
 use Rattle.std.specs.List.{IsAmong}
@@ -57,8 +58,9 @@ use Rattle.sq_headline.proofs.Statements.{some_same}
 abbrev pub done : Reply → Done
 done r = record { status = r.status; outputs = r.outputs }
 
--- The procedure of this name in a module of the texts is called with values that it takes, the rules find no fault in it, and what the session
--- answers, the state behind it and the rows that it reads are what the contract of a call says.
+-- The procedure of this name in a module of the texts is called with values that it takes, the rules find
+-- no fault in it, and what the session answers, the state behind it and the rows that it reads are what the
+-- contract of a call says.
 pub record IsCall (texts : List SchemaText) (modules : List ModuleText) (s : Session) (m : ModuleText) (p : Procedure) (values : List Value)
     (reply : Reply) (after : State) : Type 0 where
   pub «module» : Name

@@ -1,5 +1,5 @@
--- The cursor that a session has under a number, in a session of accepted texts that stands for the machine: where it walks it is on the
--- number of a row that the machine's cursor is on (ISO/IEC 9075:1992, 4.21).
+-- The cursor that a session has under a number, in a session of accepted texts that stands for the machine:
+-- where it walks it is on the number of a row that the machine's cursor is on (ISO/IEC 9075:1992, 4.21).
 use Rattle.std.proofs.Common.{◌≡◌, ℕ, zero, suc, List, [], ◌∷◌, map, Some, sym, ap, subst, ◌∙◌}
 use Rattle.std.specs.Prelude.{slice_get, slice_index_or}
 use Rattle.sq_tree.specs.declared.«module».Cursor.{Cursor}

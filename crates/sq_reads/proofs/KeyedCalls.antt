@@ -1,5 +1,6 @@
--- A call whose statement, as its module's text has it, is a searched UPDATE or DELETE by a key, in a session of accepted texts (own rule; ISO/IEC
--- 9075:1992, 13.7 and 13.10): it reads one row at most to choose the row that it changes.
+-- A call whose statement, as its module's text has it, is a searched UPDATE or DELETE by a key, in a
+-- session of accepted texts (own rule; ISO/IEC 9075:1992, 13.7 and 13.10): it reads one row at most to
+-- choose the row that it changes.
 use Rattle.std.proofs.Common.{◌≡◌, ℕ, ◌≤◌, true, List, length, subst}
 use Rattle.sq_tree.specs.declared.«module».ModuleText.{ModuleText}
 use Rattle.sq_tree.specs.declared.«module».Procedure.{Procedure}

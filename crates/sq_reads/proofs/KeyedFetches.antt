@@ -1,5 +1,6 @@
--- A FETCH of a cursor that walks, and was opened by a call in which its query names a row by a key, as its module's text has it, in a session of
--- accepted texts (own rule; ISO/IEC 9075:1992, 13.1 to 13.3): it reads one row at most.
+-- A FETCH of a cursor that walks, and was opened by a call in which its query names a row by a key, as
+-- its module's text has it, in a session of accepted texts (own rule; ISO/IEC 9075:1992, 13.1 to 13.3):
+-- it reads one row at most.
 use Rattle.std.proofs.Common.{◌≡◌, ℕ, ◌≤◌, Bool, true, false, List, [], ◌∷◌, map, Option, Some, None, refl, sym, ap, subst, ◌∙◌}
 use Rattle.std.specs.Option.{option_and_then, option_map_or}
 use Rattle.std.specs.Prelude.{IfSome, if◌then◌else◌, slice_get}

@@ -1,5 +1,5 @@
--- A call whose statement, as its module's text has it, is a SELECT INTO that names its row by a key, in a session of accepted texts (own rule;
--- ISO/IEC 9075:1992, 13.5): it reads one row at most.
+-- A call whose statement, as its module's text has it, is a SELECT INTO that names its row by a key, in a
+-- session of accepted texts (own rule; ISO/IEC 9075:1992, 13.5): it reads one row at most.
 use Rattle.std.proofs.Common.{◌≡◌, ℕ, ◌≤◌, ◌++◌, Bool, true, false, List, [], ◌∷◌, Option, Some, None, Ok, refl, sym, ap, subst, ◌∙◌}
 use Rattle.std.proofs.lemmas.Bool.{and_parts, not-true, or_parts}
 use Rattle.std.specs.List.{list_any}

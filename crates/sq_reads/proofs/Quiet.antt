@@ -1,6 +1,7 @@
--- How many rows OPEN and FETCH of a quiet cursor read, said of the module's text, in a session of accepted texts that stands for the machine (own
--- rule; ISO/IEC 9075:1992, 13.1 to 13.3): OPEN none, and a FETCH that takes the cursor from the row of one number to that of a later one at
--- least 1, and no more than the numbers differ. Only a quiet cursor walks.
+-- How many rows OPEN and FETCH of a quiet cursor read, said of the module's text, in a session of accepted
+-- texts that stands for the machine (own rule; ISO/IEC 9075:1992, 13.1 to 13.3): OPEN none, and a FETCH
+-- that takes the cursor from the row of one number to that of a later one at least 1, and no more than the
+-- numbers differ. Only a quiet cursor walks.
 use Rattle.std.proofs.Common.{◌≡◌, ◌⊎◌, inl, inr, ℕ, ◌+◌, ◌-◌, ◌<◌, ◌≤◌, true, List, length, map, Option, Some, None, Ok, Err, refl, sym, ap, subst, ◌∙◌, arith}
 use Rattle.std.proofs.lemmas.List.{get_or-set_same}
 use Rattle.std.proofs.lemmas.Option.{slice_get_within}
@@ -281,8 +282,8 @@ module _ (texts : List SchemaText) (modules : List ModuleText) (row_numbers : �
           values_kept f c named y.0 y.2 y.1 v w (subst (λ i. cursor_at s.state i ≡ cursor.Walking v) same before)
           (subst (λ i. cursor_at after i ≡ cursor.Walking w) same behind)
 
-      -- Where the FETCH takes it to a row of a greater number than that of the row to which it came last, 0 after OPEN, at least 1 row is read,
-      -- and no more than the numbers differ.
+      -- Where the FETCH takes it to a row of a greater number than that of the row to which it came last, 0
+      -- after OPEN, at least 1 row is read, and no more than the numbers differ.
       pub quiet_fetch_reads : (w : WalkingCursor) → cursor_at after n ≡ cursor.Walking w → w.on ≡ Some (last_number w)
           → last_number v < last_number w → (1 ≤ reply.reads) × (reply.reads ≤ last_number w - last_number v)
       quiet_fetch_reads w behind on later =

@@ -1,5 +1,5 @@
--- Updatable cursors and SELECT INTO that name a row by a key in a call (own rule: then one row at most is read; ISO/IEC 9075:1992 asks nothing of
--- how rows are found).
+-- Updatable cursors and SELECT INTO that name a row by a key in a call (own rule: then one row at most is
+-- read; ISO/IEC 9075:1992 asks nothing of how rows are found).
 use Rattle.std.specs.Prelude.{Bool, false, not, ◌&&◌, List, [], ◌∷◌}
 use Rattle.sq_lex.specs.declared.name.Name.{Name}
 use Rattle.sq_tree.specs.declared.module.Cursor.{Cursor}

@@ -1,4 +1,5 @@
--- A run over a session is one that the definitions describe: the texts are accepted, and what is written is the table machine's report.
+-- A run over a session is one that the definitions describe: the texts are accepted, and what is written is
+-- the table machine's report.
 use Rattle.std.proofs.Common.{◌≡◌, ◌<◌, ℕ, zero, suc, List, length, take, Option, Result, Ok, Err, ap, sym, subst, ◌∙◌}
 use Rattle.std.proofs.lemmas.List.{length-map}
 use Rattle.std.specs.Prelude.{IfErr, OnOk}

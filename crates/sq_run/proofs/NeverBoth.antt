@@ -1,4 +1,5 @@
--- No texts are both accepted and refused: a text has one tree, and for all trees the definitions find a refusal or none.
+-- No texts are both accepted and refused: a text has one tree, and for all trees the
+-- definitions find a refusal or none.
 use Rattle.std.proofs.Common.{◌≡◌, ◌<◌, ℕ, zero, suc, List, [], ◌∷◌, slice_get, Some, None, refl, sym, ap, ap₂, subst, ◌∙◌, arith}
 use Rattle.sq_lex.specs.Token.{lexemes}
 use Rattle.sq_lex.specs.declared.lexeme.Lexeme.{Lexeme}

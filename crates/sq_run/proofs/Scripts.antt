@@ -1,5 +1,5 @@
--- A session of texts takes an item of a script exactly where the definitions find no fault in it, and else refuses it for that fault (own form: a
--- script stands for the calls of a host program).
+-- A session of texts takes an item of a script exactly where the definitions find no fault in it, and else
+-- refuses it for that fault (own form: a script stands for the calls of a host program).
 use Rattle.std.proofs.Common.{◌≡◌, ℕ, zero, suc, ◌+◌, Bool, true, false, ◌&&◌, List, [], ◌∷◌, map, take, slice_get, All, Option, Some, None, refl, sym, ap, subst, ◌∙◌, arith}
 use Rattle.std.proofs.lemmas.List.Elements.{recursion_from_All}
 use Rattle.std.specs.Cmp.Lexicographic.{pointwise, same_text}
@@ -52,7 +52,8 @@ use Rattle.sq_perform.specs.declared.refusal.RefusalName.TheVariants as refusal
 use Rattle.sq_laws.proofs.SiteLaws.{all_parts}
 use Rattle.sq_agreement.proofs.Numbers.{none_there}
 
--- The code and the definitions find no fault, or the code a name and the definitions the fault that it is for.
+-- The code and the definitions find no fault, or the code a name and the definitions
+-- the fault that it is for.
 abbrev pub AreAlike : Option RefusalName → Option ScriptFault → Type 0
 AreAlike None o = o ≡ None
 AreAlike (Some what) o = (f : ScriptFault) × (o ≡ Some f) × (script_fault what ≡ Some f)

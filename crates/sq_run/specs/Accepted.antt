@@ -1,5 +1,5 @@
--- Texts that the definitions accept: trees that they spell, with at most MAX_DEPTH round brackets open at once, none of which is refused; and what the
--- table machine of the trees reports.
+-- Texts that the definitions accept: trees that they spell, with at most MAX_DEPTH round brackets open at
+-- once, none of which is refused; and what the table machine of the trees reports.
 use Rattle.std.specs.Prelude.{◌≡◌, ℕ, List, map, None}
 use Rattle.sq_tree.specs.Schema.{schema_tokens, schema_depth}
 use Rattle.sq_tree.specs.Module.{module_tokens, module_depth}

@@ -63,10 +63,12 @@ pub record ScriptIsRefused (schemas modules : List Bytes) (script : Bytes) (refu
 
 -- ---- the texts of a run
 
--- A text is refused for its tokens only with the first fault of its reading, for its grammar only where no tree spells it, and for its depth only where
--- each tree that spells it is deeper than MAX_DEPTH brackets. Those of its kind before it spell trees. For what it means a text is refused only where the
--- definitions refuse it first among all of its kind, which spell trees, for the fault that they find, at its first token. A module is refused only
--- where the schemas are accepted, and the script only where the schemas and the modules are.
+-- A text is refused for its tokens only with the first fault of its reading, for its grammar only where
+-- no tree spells it, and for its depth only where each tree that spells it is deeper than MAX_DEPTH
+-- brackets. Those of its kind before it spell trees. For what it means a text is refused only where the
+-- definitions refuse it first among all of its kind, which spell trees, for the fault that they find, at
+-- its first token. A module is refused only where the schemas are accepted, and the script only where the
+-- schemas and the modules are.
 unfoldable pub RefusedText : List Bytes → List Bytes → Bytes → RunFault → Type 0
 RefusedText schemas modules script (SchemaRefused refusal) =
     OneRefused schema_tokens schema_depth schemas refusal × IsOfSchemas schemas refusal (matter refusal.what)

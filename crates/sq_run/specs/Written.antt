@@ -11,8 +11,8 @@ unfoldable pub IsReported : ℕ → List Bytes → List Bytes → Bytes → Opti
 IsReported row_numbers schemas modules script old new =
     (a : Accepted schemas modules script) × Appends old new (lines row_numbers a (items a))
 
--- Where a run stops before its end: nothing after a refusal; after an output fault the first bytes of the report, which has more; and where memory
--- ran out the report of the first items, of which there are more.
+-- Where a run stops before its end: nothing after a refusal; after an output fault the first bytes of the
+-- report, which has more; and where memory ran out the report of the first items, of which there are more.
 unfoldable pub Wrote : ℕ → List Bytes → List Bytes → Bytes → Option Bytes → Option Bytes → RunFault → Type 0
 Wrote row_numbers schemas modules script old new (SchemaRefused refusal) = new ≡ old
 Wrote row_numbers schemas modules script old new (ModuleRefused refusal) = new ≡ old

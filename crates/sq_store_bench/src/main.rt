@@ -1,8 +1,8 @@
 //! Times the heap store: the work that `work.rt` lists, on a table of two INTEGER columns.
 //!
-//! `sq_store_bench ROWS CHANGES KEYS [time | fill]`. For each piece of work it prints a line with a count that shows that the
-//! work was done, and with `time` its microseconds. With `fill` it only inserts the rows, with a commit after each: the
-//! memory which that takes is the table's.
+//! `sq_store_bench ROWS CHANGES KEYS [time | fill]`. For each piece of work it prints a line with a count
+//! that shows that the work was done, and with `time` its microseconds. With `fill` it only inserts the
+//! rows, with a commit after each: the memory which that takes is the table's.
 #![tactic(auto)]
 
 mod rows;

@@ -1,7 +1,7 @@
-//! Trials of the two stores: the same actions on each, with the content, the ways to find rows and the numbers left printed
-//! after each action. Where an `apply` is refused memory, the store must show what it showed before, and the `apply` is made
-//! once more; so the report is the same, and a rollback behind it shows what is committed. `tools/refuse_allocations.py`
-//! refuses each allocation in turn.
+//! Trials of the two stores: the same actions on each, with the content, the ways to find rows and the
+//! numbers left printed after each action. Where an `apply` is refused memory, the store must show what it
+//! showed before, and the `apply` is made once more; so the report is the same, and a rollback behind it
+//! shows what is committed. `tools/refuse_allocations.py` refuses each allocation in turn.
 #![tactic(auto)]
 
 mod action;
@@ -73,7 +73,7 @@ fn trial<S: Store>(rt: &impl Print, alloc: Global) -> io::Result<()> {
     Ok(())
 }
 
-/// One table, with a key of its first column and one of both.
+/// One table with two keys: its first column, and both columns.
 fn two_keys(alloc: Global) -> Result<Vec<Vec<Vec<usize>>>, AllocError> {
     let mut keys = Vec::new(alloc);
     keys.push(Vec::from_slice(alloc, &[0])?)?;

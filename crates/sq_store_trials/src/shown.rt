@@ -35,7 +35,7 @@ pub(crate) fn content_of<S: Store>(alloc: Global, store: &S) -> Result<Vec<i64>,
     Ok(content)
 }
 
-/// The first number from each number on, as long as there is one.
+/// For each number, the number of the first row from there on, as far as there is one.
 fn numbers_of<S: Store>(
     alloc: Global,
     store: &S,
@@ -53,8 +53,8 @@ fn numbers_of<S: Store>(
     Ok(numbers)
 }
 
-/// Which rows a store finds: the first number from each number on, the number under which the first key finds each value, and
-/// the one under which the second key finds each row.
+/// Which rows a store finds: the first number from each number on, the number under which the first key
+/// finds each value, and the one under which the second key finds each row.
 pub(crate) fn found_in<S: Store>(alloc: Global, store: &S) -> Result<Vec<u64>, AllocError> {
     let mut meter = Meter::new();
     let mut numbers = numbers_of(alloc, store, &mut meter)?;
@@ -67,8 +67,8 @@ pub(crate) fn found_in<S: Store>(alloc: Global, store: &S) -> Result<Vec<u64>, A
     Ok(numbers)
 }
 
-/// Prints the rows, the first number from each number on, where the first key finds each value, and how many rows were
-/// handed out for that.
+/// Prints the rows, the first number from each number on, where the first key finds each value, and how
+/// many rows were handed out for that.
 pub(crate) fn show<S: Store>(rt: &impl Print, alloc: Global, store: &S) -> io::Result<()> {
     let mut meter = Meter::new();
     println!(rt; "  content {:?}", content_of(alloc, store)?)?;

@@ -36,7 +36,8 @@ impl Out for ByteOut {
     }
 }
 
-/// Whether a run whose output stops after this many bytes has written them, and ends with a fault that says so.
+/// Whether a run whose output stops after this many bytes has written them, and ends
+/// with a fault that says so.
 fn ends_there(alloc: Global, calls: usize, stop: Stop) -> bool {
     let mut out = ByteOut {
         bytes: Vec::new(alloc),

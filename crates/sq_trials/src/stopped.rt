@@ -70,8 +70,8 @@ fn text(alloc: Global, bytes: &[u8]) -> Result<Vec<Vec<u8>>, AllocError> {
     Ok(texts)
 }
 
-/// Whether these are the first bytes of the report, as many as were to be taken, and the answer says so: that all is done, or
-/// after how many bytes the output stopped.
+/// Whether these are the first bytes of the report, as many as were to be taken, and the answer says so:
+/// that all is done, or after how many bytes the output stopped.
 pub(crate) fn is_right(answer: Result<(), RunFault>, bytes: &[u8], count: usize) -> bool {
     let is_whole = count == REPORT.len();
     let is_answered = match answer {

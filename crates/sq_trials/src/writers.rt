@@ -36,7 +36,8 @@ impl Write for ByteWriter {
     }
 }
 
-/// Whether a run whose writer stops after this many bytes has written them, and ends with a fault that says so.
+/// Whether a run whose writer stops after this many bytes has written them, and ends
+/// with a fault that says so.
 fn ends_there(alloc: Global, calls: usize, stop: Stop) -> bool {
     let mut writer = ByteWriter {
         bytes: Vec::new(alloc),

@@ -1,5 +1,5 @@
--- What texts come to, from their bytes alone: the report of a run, or the first refusal with its position and cause. In which
--- order they are read and judged says `judgement` of sq_model.
+-- What texts come to, from their bytes alone: the report of a run, or the first refusal with its position
+-- and cause. In which order they are read and judged says `judgement` of sq_model.
 use Rattle.std.specs.Prelude.{ℕ, zero, suc, ◌+◌, ◌-◌, List, [], ◌∷◌, map, length, drop, slice_get, nat_lt, if◌then◌else◌, Option, option_map, Some, None, unwrap_or, Result, Ok, Err}
 use Rattle.sq_lex.specs.Position.{position}
 use Rattle.sq_lex.specs.Reading.{reading}
@@ -72,7 +72,8 @@ fault_at_position p cause = record { line = p.line; column = p.column; cause = c
 abbrev pub fault_at : Bytes → List Token → ℕ → Cause → Fault
 fault_at text tokens index cause = fault_at_position (position text (start_of (slice_get tokens index))) cause
 
--- where reading is stuck: a bracket too many takes precedence over any other fault of its token; past the end it is the last token
+-- where reading is stuck: a bracket too many takes precedence over any other fault of its token; past the
+-- end it is the last token
 abbrev pub grammar_fault : Bytes → List Token → ℕ → Fault
 grammar_fault text tokens index =
     if nat_lt index (length tokens)

@@ -1,4 +1,5 @@
--- Command lines, by the definitions: what is refused, by which kind, and what is read of those that are taken.
+-- Command lines, by the definitions: what is refused, by which kind, and what is read
+-- of those that are taken.
 use Rattle.std.proofs.Common.{◌≡◌, ℕ, refl, List, [], ◌∷◌, Option, Some, None}
 use Rattle.std.specs.Prelude.{codes, option_map}
 use Rattle.clap.specs.Words.{Text, fault_of, first_of, subcommand_of}

@@ -72,8 +72,8 @@ pub(crate) enum Task<'a> {
     Explain(ExplainRequest<'a>),
 }
 
-/// Reads `sqmod run [--schema F]... [--module F]... --script F [--rows N]`, `sqmod check [--schema F]... [--module F]...` or
-/// `sqmod explain [NAME]`.
+/// Reads `sqmod run [--schema F]... [--module F]... --script F [--rows N]`,
+/// `sqmod check [--schema F]... [--module F]...` or `sqmod explain [NAME]`.
 pub(crate) fn read_task<'a>(alloc: Global, words: &'a [String]) -> Result<Task<'a>, Error>
     ensures refused { FailsBy (fault_of spec.sqmod (map string_bytes words.now)) result }
     ensures asked { IfOk result (spec.AskFor (map string_bytes words.now)) }

@@ -1,5 +1,6 @@
-//! The program `sqmod`: it reads a command line and the files that it names, runs the script or says what is wrong with the
-//! modules, and ends with a status and, where a file, a text or a word is refused, a text on standard error.
+//! The program `sqmod`: it reads a command line and the files that it names, runs the script or says
+//! what is wrong with the modules, and ends with a status and, where a file, a text or a word is
+//! refused, a text on standard error.
 #![tactic(auto)]
 
 ghost use Rattle.std.specs.Prelude.{◌≡◌, ◌≤◌};

@@ -57,8 +57,8 @@ fn flush<W: Write>(writer: &mut W) -> Result<(), Fault>
     }
 }
 
-/// How a request ends, by its run and the flush after it. A refusal has written nothing and stays; after any other run a
-/// flush that fails takes precedence, since lines are then missing.
+/// How a request ends, by its run and the flush after it. A refusal has written nothing and stays; after
+/// any other run a flush that fails takes precedence, since lines are then missing.
 fn ended(ran: Result<(), Fault>, flushed: Result<(), Fault>) -> Result<(), Fault>
     ensures { result ≡ spec.ended_with ran flushed }
 {

@@ -1,4 +1,5 @@
-//! What the command line asks for, which file is reported as not read, and what the program prints to standard error.
+//! What the command line asks for, which file is reported as not read, and what the program
+//! prints to standard error.
 ghost use Rattle.std.specs.Prelude.{IsTrue};
 ghost use Rattle.sqmod.specs.Request.{NamesFile};
 
@@ -247,7 +248,8 @@ fn refuses_words(rt: HostRuntime) -> Result<(), Fail> {
     Ok(())
 }
 
-/// Lines that name files, each with the fault of the first that can't be read. `/dev/null` is empty, and no file is below it.
+/// Lines that name files, each with the fault of the first that can't be read. `/dev/null` is empty,
+/// and no file is below it.
 const FILES: [(&str, Option<Fault>); 6] = [
     (
         "sqmod run --schema /dev/null --module /dev/null --script /dev/null",
