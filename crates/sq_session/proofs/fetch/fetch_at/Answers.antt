@@ -14,7 +14,10 @@ pub fetch_cursor-requires-clause-tables : goal.fetch_cursor-requires-clause-tabl
 fetch_cursor-requires-clause-tables g c =
     let store = c.args.store.now in
     let whole = c.requires.whole in
-    keeps_tables c.args.called.now.catalog.now.bases (g.S.Store.content_now store) (g.S.Store.key_columns store) whole.0 whole.4 whole.2 whole.7
+    keeps_tables c.args.called.now.catalog.now.bases (g.S.Store.content_now store) (g.S.Store.key_columns store) (record {
+      tables = record { rows = whole.0; in_domains = whole.4; constraints = whole.7 };
+      keys = whole.2;
+    })
 
 pub fetch_cursor-requires-clause-finds : goal.fetch_cursor-requires-clause-finds
 fetch_cursor-requires-clause-finds g c =

@@ -49,7 +49,10 @@ pub opened-requires-clause-tables : goal.opened-requires-clause-tables
 opened-requires-clause-tables g c =
     let store = c.args.store.now in
     let whole = c.requires.whole in
-    keeps_tables c.args.called.now.catalog.now.bases (g.S.Store.content_now store) (g.S.Store.key_columns store) whole.0 whole.4 whole.2 whole.7
+    keeps_tables c.args.called.now.catalog.now.bases (g.S.Store.content_now store) (g.S.Store.key_columns store) (record {
+      tables = record { rows = whole.0; in_domains = whole.4; constraints = whole.7 };
+      keys = whole.2;
+    })
 
 pub returns-in-Ok-clause-kept : goal.returns-in-Ok-clause-kept
 returns-in-Ok-clause-kept g c =
