@@ -1,13 +1,19 @@
 use Rattle.std.proofs.Common.{◌≡◌, ap, sym, ◌∙◌, arith, length}
 use Rattle.sq_perform.specs.Steps.{Step}
 use Rattle.sq_perform.proofs.Prepared.{prepared_at}
-use Rattle.sq_perform.proofs.Steps.{stopped_write, wrote_more}
+use Rattle.sq_perform.proofs.Steps.{stopped_memory, stopped_write, wrote_more}
 use Rattle.sq_perform.proofs.perform.perform_all.Goals as goal
 
 pub perform-requires : goal.perform-requires
 perform-requires g c =
     prepared_at c.args.actions.now c.loop-done.done c.index-actions-done.result c.args.session.now c.loop-done.session
     c.loop-done-test.true c.index-actions-done.is c.loop-done.invariant.procedures c.loop-done.invariant.tables c.requires.prepared
+
+pub returns-in_default-clause-stopped : goal.returns-in_default-clause-stopped
+returns-in_default-clause-stopped g c =
+    let taken = g.W.Out.taken in
+    stopped_memory c.args.actions.now c.loop-done.done c.args.session.now c.loop-done.session c.loop-done.written (taken c.args.out.now) (taken c.loop-done.out)
+    c.loop-done-test.true c.loop-done.invariant.so_far c.loop-done.invariant.untouched
 
 pub returns-in-Err-clause-stopped : goal.returns-in-Err-clause-stopped
 returns-in-Err-clause-stopped g c =
