@@ -1,13 +1,14 @@
 -- A report grows item by item.
-use Rattle.std.proofs.Common.{◌≡◌, ℕ, ◌+◌, ◌<◌, ◌≤◌, List, [], ◌∷◌, ◌++◌, length, take, get_or, Option, Some, None, refl, ap, ◌∙◌, sym, arith, append_assoc, length-append, suc}
+use Rattle.std.proofs.Common.{◌≡◌, ℕ, zero, ◌+◌, ◌<◌, ◌≤◌, List, [], ◌∷◌, ◌++◌, length, take, get_or, Option, Some, None, refl, ap, ◌∙◌, sym, arith, append_assoc, length-append, suc}
 use Rattle.std.proofs.lemmas.List.{take_more, append-nil}
 use Rattle.std.proofs.lemmas.Grind.{common_steps}
 use Rattle.std.specs.Io.KnownBytes.{Appends}
 use Rattle.sq_model.specs.Report.{Bytes}
 use Rattle.sq_session.specs.Session.{Session}
 use Rattle.sq_perform.specs.Steps.{Step, Steps, Reported}
-use Rattle.sq_perform.specs.Stop.{StoppedInside}
+use Rattle.sq_perform.specs.Stop.{StoppedAt, StoppedInside}
 use Rattle.sq_perform.specs.declared.action.Action.{Action}
+use Rattle.sq_perform.specs.declared.refusal.RunFault.TheVariants.{NoMemory}
 
 -- ---- steps
 
@@ -88,3 +89,8 @@ wrote_all items s t written old new so_far = record {
 
 pub wrote_first : (items : List Action) (i : ℕ) (s t : Session) (written : ℕ) (old new : Option Bytes) → SoFar items i s t written old new → Reported (take i items) s old new
 wrote_first items i s t written old new so_far = record { report = so_far.report; last = t; steps = so_far.steps; taken = so_far.taken }
+
+-- memory ran out before the lines of an item
+pub stopped_memory : (items : List Action) (i : ℕ) (s t : Session) (written : ℕ) (old new : Option Bytes) → i < length items → SoFar items i s t written old new → (i ≡ 0 → new ≡ old) → StoppedAt items s old new (NoMemory i)
+stopped_memory items zero s t written old new lt so_far untouched = untouched refl
+stopped_memory items (suc i) s t written old new lt so_far untouched = (lt, wrote_first items (suc i) s t written old new so_far)
