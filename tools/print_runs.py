@@ -16,8 +16,8 @@ DATA = os.path.join(os.path.dirname(os.path.abspath(__file__)), "..", "crates", 
 KIT = (("schema", "schema.sql"), ("first_module", "module.sql"), ("second_module", "second-module.sql"),
        ("scrolling_module", "scrolling-module.sql"))
 USUAL_ROW_NUMBERS = "1000000"
-FAULTS = (("lexical", "sq_lex.specs.declared.fault.LexFaultKind"), ("schema_fault", "sq_rules.specs.declared.refusal.SchemaFault"),
-          ("module_fault", "sq_rules.specs.declared.refusal.ModuleFault"), ("script_fault", "sq_rules.specs.declared.refusal.ScriptFault"))
+FAULTS = (("lexical", "sq_lex.specs.declared.fault.LexFaultKind"), ("schema_fault", "sq_meaning.specs.declared.refusal.SchemaFault"),
+          ("module_fault", "sq_meaning.specs.declared.refusal.ModuleFault"), ("script_fault", "sq_rules.specs.declared.refusal.ScriptFault"))
 
 
 def repeated(line):
@@ -88,7 +88,7 @@ def kit_texts():
 
 def print_texts():
     print("-- The texts of the kit: a schema and its modules. Printed by tools/print_runs.py.")
-    print("use Rattle.std.specs.Prelude.{◌++◌, codes}\nuse Rattle.sq_model.specs.Report.{Bytes}\n")
+    print("use Rattle.std.specs.Prelude.{◌++◌, codes}\nuse Rattle.sq_meaning.specs.Report.{Bytes}\n")
     print("\n".join(defined(name, text).replace("abbrev ", "abbrev pub ", 1) for name, text in kit_texts().items()), end="")
 
 
@@ -149,7 +149,7 @@ def print_runs(path, shows, names):
     for alias, module in FAULTS:
         if alias + "." in text:
             print("use Rattle.%s.TheVariants as %s" % (module, alias))
-    print("use Rattle.sq_model.specs.Report.{Bytes}")
+    print("use Rattle.sq_meaning.specs.Report.{Bytes}")
     print("use Rattle.sq_worked.specs.Answer.{Answer, %sanswered}" % ("Cause, " if "Cause." in text else ""))
     if used:
         print("use Rattle.sq_worked.specs.Texts.{%s}" % ", ".join(name for name, _ in KIT if name in used))

@@ -1,7 +1,7 @@
 -- Parts of a query one behind another: what is made of several parts, and lists of parts.
 use Rattle.std.proofs.Common.{◌≡◌, ℕ, Bool, true, false, ◌||◌, List, [], ◌∷◌, max, Ok, Err, refl, sym, ap, ◌∙◌, arith}
 use Rattle.std.proofs.lemmas.List.{append-nil}
-use Rattle.sq_rules.specs.declared.fault.BindingFault.{BindingFault}
+use Rattle.sq_meaning.specs.declared.fault.BindingFault.{BindingFault}
 use Rattle.sq_binding.specs.Findings.{Findings, none}
 use Rattle.sq_binding.specs.Findings as value
 use Rattle.sq_binding.specs.Found.{Binding, Counts, Found, ◌>>=◌, after, each, has_found, must, pure, then_joined, with_next}

@@ -6,8 +6,8 @@ use Rattle.std.proofs.lemmas.Simd.{map-map}
 use Rattle.std.specs.Prelude.{⊤, nat_lt, if◌then◌else◌}
 use Rattle.sq_meaning.specs.Environment.{TableReference}
 use Rattle.sq_bound.specs.declared.condition.TablePlace.{TablePlace}
-use Rattle.sq_rules.specs.Binding.{has_item_twice}
-use Rattle.sq_rules.specs.declared.fault.BindingFault.TheVariants as fault
+use Rattle.sq_meaning.specs.Binding.{has_item_twice}
+use Rattle.sq_meaning.specs.declared.fault.BindingFault.TheVariants as fault
 use Rattle.sq_binding.specs.Found.{Binding, Counts, Found, ◌>>=◌, ◌>>◌, after, each, has_found, joined, must, outcome, pure, refused, then_joined}
 use Rattle.sq_binding.specs.From.{NamedItem, NamedTable, NamedTables, from_bound, item_bound, item_over, items_of, table_findings, tables_of}
 use Rattle.sq_binding.specs.Outcome.{Outcome, and_then, or_fault}

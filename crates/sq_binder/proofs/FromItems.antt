@@ -6,8 +6,8 @@ use Rattle.std.specs.Prelude.{filter}
 use Rattle.sq_lex.specs.declared.name.Name.{Name}
 use Rattle.sq_meaning.specs.Environment.{TableName, TableReference, same_name, same_table}
 use Rattle.sq_bound.specs.declared.names.Column.{Column}
-use Rattle.sq_rules.specs.Binding.{has_item_twice, is_uncorrelated}
-use Rattle.sq_rules.specs.Words.{has_twice}
+use Rattle.sq_meaning.specs.Binding.{has_item_twice, is_uncorrelated}
+use Rattle.sq_meaning.specs.Words.{has_twice}
 use Rattle.sq_binding.specs.From.{column_over}
 use Rattle.sq_binder.specs.From.{clashes, columns_over, exposed, same_names}
 use Rattle.sq_binder.specs.Surroundings.{descriptor_of}

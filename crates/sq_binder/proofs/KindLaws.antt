@@ -11,7 +11,7 @@ use Rattle.sq_meaning.specs.Status as status
 use Rattle.sq_bound.specs.Names.{is_bounded}
 use Rattle.sq_bound.specs.declared.expression.Operator.{Operator}
 use Rattle.sq_bound.specs.declared.expression.Operator.TheVariants as operator
-use Rattle.sq_rules.specs.declared.fault.BindingFault.TheVariants as fault
+use Rattle.sq_meaning.specs.declared.fault.BindingFault.TheVariants as fault
 use Rattle.sq_binding.specs.Expression.{kind_of_call, kind_operated}
 use Rattle.sq_binding.specs.Outcome.{or_fault}
 

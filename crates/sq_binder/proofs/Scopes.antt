@@ -7,7 +7,7 @@ use Rattle.std.specs.Option.{option_map}
 use denote.Hole.Carrier.{out}
 use Rattle.sq_tree.specs.declared.names.ColumnReference.{ColumnReference}
 use Rattle.sq_meaning.specs.Environment.{column_in}
-use Rattle.sq_rules.specs.declared.fault.BindingFault.TheVariants as fault
+use Rattle.sq_meaning.specs.declared.fault.BindingFault.TheVariants as fault
 use Rattle.sq_binding.specs.Outcome.{Outcome, and_then}
 use Rattle.sq_binding.specs.Scope.{column_meant, column_numbered, fits, further_out, is_here, is_last, item_named, nearest}
 use Rattle.sq_binding.specs.Scope as binding

@@ -8,7 +8,7 @@ use Rattle.sq_meaning.specs.Spelled.{Named, expr_of}
 use Rattle.sq_meaning.specs.Syntax.{Expr, expressions}
 use Rattle.sq_bound.specs.declared.condition.ResultColumn.{ResultColumn as BoundColumn}
 use Rattle.sq_bound.specs.declared.expression.BoundExpr.{BoundExpr}
-use Rattle.sq_rules.specs.declared.fault.BindingFault.TheVariants as fault
+use Rattle.sq_meaning.specs.declared.fault.BindingFault.TheVariants as fault
 use Rattle.sq_binding.specs.Found.{Binding, after, each, pure, refused, then_joined, with_next}
 use Rattle.sq_binding.specs.Found as binding
 use Rattle.sq_binding.specs.Outcome.{Outcome, and_then}

@@ -5,7 +5,7 @@ use Rattle.sq_meaning.specs.Environment.{Place, TableReference}
 use Rattle.sq_meaning.specs.Spelled.{Named}
 use Rattle.sq_meaning.specs.Syntax.{Clause, SelectList, select}
 use Rattle.std.specs.Prelude.{if◌then◌else◌}
-use Rattle.sq_rules.specs.declared.fault.BindingFault.TheVariants as fault
+use Rattle.sq_meaning.specs.declared.fault.BindingFault.TheVariants as fault
 use Rattle.sq_binding.specs.Condition.{clause_bound, select_bound}
 use Rattle.sq_binding.specs.Found.{Binding, Counts, Found, ◌>>=◌, after, each, from_first, pure}
 use Rattle.sq_binding.specs.From.{NamedItem, from_bound, items_of, tables_of}

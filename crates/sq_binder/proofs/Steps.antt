@@ -3,7 +3,7 @@ use Rattle.std.proofs.Common.{◌≡◌, ℕ, ◌+◌, ◌<◌, ◌≤◌, List,
 use Rattle.std.proofs.lemmas.List.{drop_all, drop_more}
 use Rattle.std.specs.Prelude.{Result}
 use Rattle.std.specs.Result.{IsErrAnd}
-use Rattle.sq_rules.specs.declared.fault.BindingFault.{BindingFault}
+use Rattle.sq_meaning.specs.declared.fault.BindingFault.{BindingFault}
 use Rattle.sq_binding.specs.Outcome.{Outcome, and_then}
 use Rattle.sq_binder.specs.Binds.{Binds, Stops}
 use Rattle.sq_binder.specs.declared.stop.Fault.{Fault as Broken}

@@ -1,7 +1,7 @@
 -- What a function that binds ensures: it answers what the definition computes, seen by an image, unless memory ran out.
 use Rattle.std.specs.Prelude.{⊤, ◌≡◌, None, Some, Result, Ok, Err}
 use Rattle.sq_lex.specs.declared.name.Name.{Name}
-use Rattle.sq_rules.specs.declared.fault.BindingFault.{BindingFault}
+use Rattle.sq_meaning.specs.declared.fault.BindingFault.{BindingFault}
 use Rattle.sq_binding.specs.Outcome.{Outcome}
 use Rattle.sq_binder.specs.declared.stop.Stop.{Stop}
 use Rattle.sq_binder.specs.declared.stop.Stop.TheVariants.{Fault, NoMemory}

@@ -8,7 +8,7 @@ use Rattle.sq_meaning.specs.Tables.{Declared}
 use Rattle.sq_bound.specs.Expression.{place_meant}
 use Rattle.sq_bound.specs.declared.expression.Place.{Place as GroupingPlace}
 use Rattle.sq_bound.specs.declared.names.ParameterDesc.{ParameterDesc}
-use Rattle.sq_rules.specs.declared.fault.BindingFault.TheVariants as fault
+use Rattle.sq_meaning.specs.declared.fault.BindingFault.TheVariants as fault
 use Rattle.sq_binding.specs.Outcome.{Outcome, or_fault}
 use Rattle.sq_binding.specs.Scope as binding
 use Rattle.sq_binder.specs.declared.column.FoundColumn.{FoundColumn}

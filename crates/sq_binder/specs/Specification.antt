@@ -7,8 +7,8 @@ use Rattle.sq_tree.specs.declared.names.ColumnReference.{ColumnReference}
 use Rattle.sq_meaning.specs.Environment.{Place}
 use Rattle.sq_meaning.specs.Spelled.{Named, clause, cond_of, listed_if_any}
 use Rattle.sq_meaning.specs.Syntax.{Clause, SelectList}
-use Rattle.sq_rules.specs.declared.fault.BindingFault.{BindingFault}
-use Rattle.sq_rules.specs.declared.fault.BindingFault.TheVariants as fault
+use Rattle.sq_meaning.specs.declared.fault.BindingFault.{BindingFault}
+use Rattle.sq_meaning.specs.declared.fault.BindingFault.TheVariants as fault
 use Rattle.sq_bound.specs.Expression.{place_meant}
 use Rattle.sq_bound.specs.declared.condition.BoundCond.{BoundCond}
 use Rattle.sq_bound.specs.declared.condition.TablePlace.{TablePlace}

@@ -21,7 +21,7 @@ use crate::scope::Environment;
 use crate::set_function::{count_rows, function_over};
 use crate::stop::Stop;
 use sq_bound::{BoundExpr, Place};
-use sq_rules::BindingFault;
+use sq_meaning::BindingFault;
 use sq_tree::{Added, ColumnReference, Expr, Factor, Primary, Scaled, Term};
 use sq_value::Kind;
 use std::alloc::Global;

@@ -4,7 +4,7 @@ ghost use Rattle.std.specs.Prelude.{◌≡◌, IfOk, is_some, map};
 ghost use Rattle.std.specs.List.{list_any};
 ghost use Rattle.std.specs.Option.{option_map};
 ghost use Rattle.sq_meaning.specs.Spelled.{listed, reference_of};
-ghost use Rattle.sq_rules.specs.Binding.{has_item_twice};
+ghost use Rattle.sq_meaning.specs.Binding.{has_item_twice};
 ghost use Rattle.sq_bound.specs.Noted.{may_fail};
 ghost use Rattle.sq_binding.specs.Found.{each};
 ghost use Rattle.sq_binding.specs.From as spec;
@@ -23,7 +23,7 @@ use crate::surroundings::{NamedTable, Surroundings, Tables};
 use sq_bound::{BoundFrom, Column, TablePlace};
 use sq_items::Items;
 use sq_lex::Name;
-use sq_rules::BindingFault;
+use sq_meaning::BindingFault;
 use sq_tree::{CommaList, TableReference};
 use std::alloc::{AllocError, Global};
 

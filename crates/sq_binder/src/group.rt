@@ -17,7 +17,7 @@ use crate::stop::Stop;
 use crate::surroundings::{Surroundings, Tables};
 use sq_bound::Place;
 use sq_items::Items;
-use sq_rules::BindingFault;
+use sq_meaning::BindingFault;
 use sq_tree::{ColumnReference, CommaList};
 use std::alloc::Global;
 

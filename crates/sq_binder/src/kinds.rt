@@ -4,14 +4,14 @@ ghost use Rattle.std.specs.Prelude.{◌≡◌};
 ghost use Rattle.std.specs.Result.{result_ok};
 ghost use Rattle.sq_value.specs.declared.domain.Kind.TheVariants.{Num};
 ghost use Rattle.sq_meaning.specs.WellFormed.{is_comparable, is_text};
-ghost use Rattle.sq_rules.specs.declared.fault.BindingFault.TheVariants.{LimitExceeded};
+ghost use Rattle.sq_meaning.specs.declared.fault.BindingFault.TheVariants.{LimitExceeded};
 ghost use Rattle.sq_binding.specs.Expression as spec;
 ghost use Rattle.sq_binding.specs.Outcome.{or_fault};
 ghost use Rattle.sq_binder.specs.Binds.{Binds};
 
 use crate::stop::Stop;
 use sq_bound::Operator;
-use sq_rules::BindingFault;
+use sq_meaning::BindingFault;
 use sq_tree::SetFunction;
 use sq_value::Kind;
 

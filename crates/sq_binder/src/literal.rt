@@ -10,25 +10,11 @@ ghost use Rattle.sq_binder.specs.Bound.{bound_of};
 
 use crate::bound::{Bound, ExprResult};
 use crate::findings::Findings;
+use crate::literal_value::{number_value, text_value};
 use sq_bound::BoundExpr;
 use sq_lex::{Characters, Number};
 use sq_value::{Decimal, Kind, Text, Value};
 use std::alloc::{AllocError, Global};
-
-/// The number of an unsigned numeric literal. Each spelling is that of a number.
-#[tactic(auto, using(crate::proofs::Literals::number_is_read))]
-fn number_value(number: Number) -> Decimal
-    ensures { read number ≡ Ok result }
-{
-    Decimal::read(number.codes()).unwrap()
-}
-
-/// The value of a text literal.
-fn text_value(alloc: Global, characters: &Characters) -> Result<Value, AllocError>
-    ensures { IfOk result (λ v. v ≡ value.Chars characters.now) }
-{
-    Ok(Value::Chars(Text::new(alloc, characters.codes())?))
-}
 
 #[tactic(auto, using(crate::proofs::Images::images))]
 pub fn number_literal(alloc: Global, number: Number) -> Bound

@@ -13,7 +13,7 @@ use crate::kinds::{is_text, operation_kind};
 use crate::stop::Stop;
 use sq_bound::{BoundExpr, Operation, Operator};
 use sq_items::{Boxed, Items};
-use sq_rules::BindingFault;
+use sq_meaning::BindingFault;
 use sq_tree::{Sign, TimesSign};
 use sq_value::Kind;
 use std::alloc::{AllocError, Global};

@@ -3,7 +3,7 @@
 ghost use Rattle.std.specs.Prelude.{◌≡◌, map};
 ghost use Rattle.std.specs.List.{position};
 ghost use Rattle.sq_meaning.specs.Environment.{same_name};
-ghost use Rattle.sq_rules.specs.Binding.{is_indicator_domain};
+ghost use Rattle.sq_meaning.specs.Binding.{is_indicator_domain};
 ghost use Rattle.sq_binding.specs.Expression as spec;
 ghost use Rattle.sq_binder.specs.Binds.{Binds};
 ghost use Rattle.sq_binder.specs.Bound.{bound_of};
@@ -14,7 +14,7 @@ use crate::findings::Findings;
 use crate::stop::Stop;
 use sq_bound::{BoundExpr, Input, ParameterDesc};
 use sq_lex::Name;
-use sq_rules::BindingFault;
+use sq_meaning::BindingFault;
 use sq_tree::{Indicator, Parameter};
 use sq_value::Domain;
 use std::alloc::Global;

@@ -14,7 +14,7 @@ use crate::stop::Stop;
 use sq_bound::{ParameterDesc, Place, TablePlace};
 use sq_items::Items;
 use sq_lex::Name;
-use sq_rules::BindingFault;
+use sq_meaning::BindingFault;
 use sq_tree::{ColumnReference, TableName};
 use std::alloc::Global;
 

@@ -19,7 +19,7 @@ use crate::surroundings::{Surroundings, Tables, value};
 use crate::typed::Typed;
 use sq_bound::{BoundExpr, Place, ResultColumn};
 use sq_items::Items;
-use sq_rules::BindingFault;
+use sq_meaning::BindingFault;
 use sq_tree::{CommaList, Expr, SelectList};
 use std::alloc::{AllocError, Global};
 

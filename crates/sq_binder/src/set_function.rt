@@ -15,7 +15,7 @@ use crate::kinds::set_function_kind;
 use crate::stop::Stop;
 use sq_bound::{Aggregate, BoundExpr, SetFunctionCall};
 use sq_items::Items;
-use sq_rules::BindingFault;
+use sq_meaning::BindingFault;
 use sq_tree::{SetFunction, SetQuantifier};
 use sq_value::Kind;
 use std::alloc::Global;

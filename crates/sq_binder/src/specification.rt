@@ -16,7 +16,7 @@ use crate::stop::Stop;
 use crate::subquery::SelectResult;
 use sq_bound::{BoundCond, BoundSpecification, Grouping, Place, SetFunctionCall};
 use sq_items::Items;
-use sq_rules::BindingFault;
+use sq_meaning::BindingFault;
 use std::alloc::Global;
 
 /// What stands behind WHERE: GROUP BY, the select list and HAVING.

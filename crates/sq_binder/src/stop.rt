@@ -5,7 +5,7 @@ ghost use Rattle.sq_binder.specs.Binds.{about, broken};
 ghost use Rattle.sq_binder.specs.declared.stop.Stop.TheVariants.{NoMemory};
 
 use sq_lex::Name;
-use sq_rules::BindingFault;
+use sq_meaning::BindingFault;
 use std::alloc::AllocError;
 
 /// The rule that a part of a text breaks.

@@ -18,7 +18,7 @@ use crate::stop::Stop;
 use crate::typed::Typed;
 use sq_bound::{BoundExpr, BoundSpecification, Compared, Predicate, ResultColumn};
 use sq_items::Boxed;
-use sq_rules::BindingFault;
+use sq_meaning::BindingFault;
 use sq_tree::{Comparison, Quantifier};
 use sq_value::Kind;
 use std::alloc::Global;

@@ -4,7 +4,7 @@ ghost use Rattle.std.specs.Prelude.{◌≡◌, Err, Ok, if◌then◌else◌};
 ghost use Rattle.std.specs.Option.{option_map};
 ghost use Rattle.sq_meaning.specs.Spelled.{expr_of};
 ghost use Rattle.sq_meaning.specs.WellFormed.{is_comparable};
-ghost use Rattle.sq_rules.specs.declared.fault.BindingFault.TheVariants.{KindMismatch};
+ghost use Rattle.sq_meaning.specs.declared.fault.BindingFault.TheVariants.{KindMismatch};
 ghost use Rattle.sq_binding.specs.Condition as spec;
 ghost use Rattle.sq_binding.specs.Seen.{numbered_of};
 ghost use Rattle.sq_binding.specs.Select.{value, value_found};
@@ -24,7 +24,7 @@ use crate::typed::Typed;
 use sq_bound::{BoundExpr, Column, TablePlace};
 use sq_items::Boxed;
 use sq_lex::Name;
-use sq_rules::BindingFault;
+use sq_meaning::BindingFault;
 use sq_tree::Expr;
 use sq_value::Kind;
 

@@ -5,10 +5,10 @@ use Rattle.std.specs.List.{list_any}
 use Rattle.std.specs.Prelude.{is_ok, not, slice_get}
 use Rattle.sq_meaning.specs.Spelled.{Named}
 use Rattle.sq_meaning.specs.Syntax.{Select}
-use Rattle.sq_rules.specs.Binding.{Judged, breaks, has_fault, has_syntax_fault, syntax_faults}
-use Rattle.sq_rules.specs.Site.{Site, outside, select_sites}
-use Rattle.sq_rules.specs.declared.fault.BindingFault.{BindingFault}
-use Rattle.sq_rules.specs.declared.fault.BindingFault.TheVariants as fault
+use Rattle.sq_meaning.specs.Binding.{Judged, breaks, has_fault, has_syntax_fault, syntax_faults}
+use Rattle.sq_meaning.specs.Site.{Site, outside, select_sites}
+use Rattle.sq_meaning.specs.declared.fault.BindingFault.{BindingFault}
+use Rattle.sq_meaning.specs.declared.fault.BindingFault.TheVariants as fault
 use Rattle.sq_binding.specs.Condition.{select_bound}
 use Rattle.sq_binding.specs.Found.{Counts, Found}
 use Rattle.sq_binding.specs.From.{NamedTables}

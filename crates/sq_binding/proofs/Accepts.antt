@@ -2,10 +2,10 @@
 -- missing privilege is answered where no rule of syntax is broken (ISO/IEC 9075:1992, 4.26).
 use Rattle.std.proofs.Common.{◌≡◌, Bool, true, false, not, ◌||◌, List, Ok, Err, refl, sym, subst, ◌∙◌}
 use Rattle.std.specs.Prelude.{is_ok, if◌then◌else◌}
-use Rattle.sq_rules.specs.Binding.{Judged, has_fault, has_syntax_fault, is_well_formed, lacks_privilege}
-use Rattle.sq_rules.specs.Site.{Site}
-use Rattle.sq_rules.specs.declared.fault.BindingFault.{BindingFault}
-use Rattle.sq_rules.specs.declared.fault.BindingFault.TheVariants as fault
+use Rattle.sq_meaning.specs.Binding.{Judged, has_fault, has_syntax_fault, is_well_formed, lacks_privilege}
+use Rattle.sq_meaning.specs.Site.{Site}
+use Rattle.sq_meaning.specs.declared.fault.BindingFault.{BindingFault}
+use Rattle.sq_meaning.specs.declared.fault.BindingFault.TheVariants as fault
 use Rattle.sq_binding.specs.Found.{Binding, Found}
 use Rattle.sq_binding.specs.Outcome.{Outcome, and_then}
 use Rattle.sq_binding.specs.Whole.{at_first, permitted, whole}

@@ -17,8 +17,8 @@ use Rattle.sq_meaning.specs.Syntax.{Expr, literal, parameter, user, column, coun
 use Rattle.sq_meaning.specs.Tables.{Declared}
 use Rattle.sq_meaning.specs.WellFormed.{is_text}
 use Rattle.sq_bound.specs.declared.expression.Operator.{Operator}
-use Rattle.sq_rules.specs.declared.fault.BindingFault.{BindingFault}
-use Rattle.sq_rules.specs.declared.fault.BindingFault.TheVariants as fault
+use Rattle.sq_meaning.specs.declared.fault.BindingFault.{BindingFault}
+use Rattle.sq_meaning.specs.declared.fault.BindingFault.TheVariants as fault
 use Rattle.sq_binding.specs.Expression.{Bound, bound, column_allowed, column_bound, count_bound, function_call, function_over, kind_of_call, kind_operated, literal_bound, operands, operated_as, parameter_bound, place_findings, plain, product_operator, signed_as, signed_by, sum_operator, user_findings}
 use Rattle.sq_binding.specs.Findings.{both, failing}
 use Rattle.sq_binding.specs.Numbered.{Numbered}

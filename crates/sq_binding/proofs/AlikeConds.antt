@@ -11,7 +11,7 @@ use Rattle.sq_meaning.specs.Tables.{Declared}
 use Rattle.sq_meaning.specs.Target.{clause_has_subquery, has_subquery, have_subquery}
 use Rattle.sq_bound.specs.Expression.{PlacedExpr}
 use Rattle.sq_bound.specs.declared.condition.Compared.TheVariants.{Scalar}
-use Rattle.sq_rules.specs.declared.fault.BindingFault.TheVariants as fault
+use Rattle.sq_meaning.specs.declared.fault.BindingFault.TheVariants as fault
 use Rattle.sq_binding.specs.Condition.{agreeing, as_subquery, beside, clause_bound, compared_as, cond_bound, escape_bound, must_be_beside, noted, scalar, select_bound, subquery, terms_bound, test, tests_bound, text}
 use Rattle.sq_binding.specs.Found.{Binding, Found, ◌>>=◌, ◌>>◌, each, from_first, has_found, pure}
 use Rattle.sq_binding.specs.From.{NamedItem, NamedTables, from_bound, items_of, tables_of}

@@ -6,7 +6,7 @@ use Rattle.std.specs.List.{AllByRecursion, list_any}
 use Rattle.std.specs.Prelude.{nat_lt}
 use Rattle.sq_lex.specs.declared.name.Name.{Name}
 use Rattle.sq_meaning.specs.Environment.{same_name}
-use Rattle.sq_rules.specs.Schema.{has_name_twice}
+use Rattle.sq_meaning.specs.Schema.{has_name_twice}
 use Rattle.sq_binding.proofs.SameParameters.{name_itself, names_equal}
 use Rattle.sq_binding.proofs.Sites.{neither, no_truth}
 

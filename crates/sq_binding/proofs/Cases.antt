@@ -19,8 +19,8 @@ use Rattle.sq_meaning.specs.Syntax as tree
 use Rattle.sq_meaning.specs.Tables.{Declared}
 use Rattle.sq_meaning.specs.WellFormed.{is_text}
 use Rattle.sq_bound.specs.declared.expression.Operator.{Operator}
-use Rattle.sq_rules.specs.declared.fault.BindingFault.{BindingFault}
-use Rattle.sq_rules.specs.declared.fault.BindingFault.TheVariants as fault
+use Rattle.sq_meaning.specs.declared.fault.BindingFault.{BindingFault}
+use Rattle.sq_meaning.specs.declared.fault.BindingFault.TheVariants as fault
 use Rattle.sq_binding.specs.Expression.{Bound, bound, called, column_allowed, column_bound, count_bound, function_call, function_over, indicator_bound, kind_of_call, kind_operated, operands, operated_as, operated_kind, parameter_as, parameter_named, plain, product_operator, signed_as, signed_by, sum_operator, user_findings}
 use Rattle.sq_binding.specs.Findings.{none}
 use Rattle.sq_binding.specs.Numbered.{Numbered}

@@ -12,12 +12,12 @@ use Rattle.sq_meaning.specs.Environment.{TableName, same_name}
 use Rattle.sq_meaning.specs.Status as status
 use Rattle.sq_meaning.specs.Tables.{ColumnDescriptor, TableDescriptor, column_names, descriptor_of}
 use Rattle.sq_meaning.specs.Target.{Target, target_of}
-use Rattle.sq_rules.specs.Binding.{Judged, has_column, not_updatable, unknown_table}
-use Rattle.sq_rules.specs.Schema.{has_name_twice, is_among}
-use Rattle.sq_rules.specs.Site.{Site}
-use Rattle.sq_rules.specs.WellFormed.{column_kind}
-use Rattle.sq_rules.specs.Words.{is_some_and}
-use Rattle.sq_rules.specs.declared.fault.BindingFault.TheVariants as fault
+use Rattle.sq_meaning.specs.Binding.{Judged, has_column, not_updatable, unknown_table}
+use Rattle.sq_meaning.specs.Schema.{has_name_twice, is_among}
+use Rattle.sq_meaning.specs.Site.{Site}
+use Rattle.sq_meaning.specs.WellFormedStatement.{column_kind}
+use Rattle.sq_meaning.specs.Words.{is_some_and}
+use Rattle.sq_meaning.specs.declared.fault.BindingFault.TheVariants as fault
 use Rattle.sq_binding.specs.Change.{Receiver, receiver_named, receiver_over, receivers_of}
 use Rattle.sq_binding.specs.Changeable.{ChangedTable, UnderTable, UserNames, changed_table, table_over}
 use Rattle.sq_binding.specs.From.{NamedTable}

@@ -10,10 +10,10 @@ use Rattle.sq_meaning.specs.Status as status
 use Rattle.sq_meaning.specs.Syntax.{Cond}
 use Rattle.sq_meaning.specs.Tables.{TableDescriptor, descriptor_of}
 use Rattle.sq_meaning.specs.Target.{has_subquery}
-use Rattle.sq_rules.specs.Binding.{Judged, has_syntax_fault}
-use Rattle.sq_rules.specs.SchemaRefusal.{is_refused_in_check}
-use Rattle.sq_rules.specs.Site.{Site, cond_sites, plain_query}
-use Rattle.sq_rules.specs.WellFormed.{beside_table}
+use Rattle.sq_meaning.specs.Binding.{Judged, has_syntax_fault}
+use Rattle.sq_meaning.specs.SchemaRefusal.{is_refused_in_check}
+use Rattle.sq_meaning.specs.Site.{Site, cond_sites, plain_query}
+use Rattle.sq_meaning.specs.WellFormedStatement.{beside_table}
 use Rattle.sq_bound.specs.declared.condition.TablePlace.TheVariants.{Base}
 use Rattle.sq_binding.specs.Condition.{cond_bound}
 use Rattle.sq_binding.specs.Found.{Found}

@@ -10,12 +10,12 @@ use Rattle.sq_meaning.specs.Environment.{TableName, TableReference}
 use Rattle.sq_meaning.specs.Spelled.{Named}
 use Rattle.sq_meaning.specs.Status as status
 use Rattle.sq_meaning.specs.Syntax.{Expr}
-use Rattle.sq_rules.specs.Binding.{Judged, bad_indicator, breaks, has_fault, has_item_twice, is_of_number, is_of_text, kind_mismatch, misplaced_function, scale_exceeded, ungrouped_column, unknown_parameter, unknown_table}
-use Rattle.sq_rules.specs.Binding as rules
-use Rattle.sq_rules.specs.Privilege.{Privilege}
-use Rattle.sq_rules.specs.Site.{Around, Site}
-use Rattle.sq_rules.specs.declared.fault.BindingFault.{BindingFault}
-use Rattle.sq_rules.specs.declared.fault.BindingFault.TheVariants as fault
+use Rattle.sq_meaning.specs.Binding.{Judged, bad_indicator, breaks, has_fault, has_item_twice, is_of_number, is_of_text, kind_mismatch, misplaced_function, scale_exceeded, ungrouped_column, unknown_parameter, unknown_table}
+use Rattle.sq_meaning.specs.Binding as rules
+use Rattle.sq_meaning.specs.Privilege.{Privilege}
+use Rattle.sq_meaning.specs.Site.{Around, Site}
+use Rattle.sq_meaning.specs.declared.fault.BindingFault.{BindingFault}
+use Rattle.sq_meaning.specs.declared.fault.BindingFault.TheVariants as fault
 use Rattle.sq_binding.specs.Outcome.{Outcome, and_then}
 use Rattle.sq_binding.proofs.Sites.{neither}
 

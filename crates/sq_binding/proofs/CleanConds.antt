@@ -8,10 +8,10 @@ use Rattle.sq_meaning.specs.Spelled.{Named}
 use Rattle.sq_meaning.specs.Status as status
 use Rattle.sq_meaning.specs.Syntax.{Expr, Select}
 use Rattle.sq_meaning.specs.WellFormed.{is_comparable, is_text}
-use Rattle.sq_rules.specs.Binding.{Judged, is_of_number, kind_mismatch}
-use Rattle.sq_rules.specs.Site.{Around, EnclosingQuery, Site, beside_subquery, compared_sites, escape_sites, expr_sites, first_kind, kind_here, kinds_here, select_count, select_sites, text_sites}
-use Rattle.sq_rules.specs.declared.fault.BindingFault.{BindingFault}
-use Rattle.sq_rules.specs.declared.fault.BindingFault.TheVariants as fault
+use Rattle.sq_meaning.specs.Binding.{Judged, is_of_number, kind_mismatch}
+use Rattle.sq_meaning.specs.Site.{Around, EnclosingQuery, Site, beside_subquery, compared_sites, escape_sites, expr_sites, first_kind, kind_here, kinds_here, select_count, select_sites, text_sites}
+use Rattle.sq_meaning.specs.declared.fault.BindingFault.{BindingFault}
+use Rattle.sq_meaning.specs.declared.fault.BindingFault.TheVariants as fault
 use Rattle.sq_binding.specs.Condition.{agreeing, as_subquery, beside, escape_bound, must_be_beside, scalar, subquery, text}
 use Rattle.sq_binding.specs.Expression.{bound}
 use Rattle.sq_binding.specs.Found.{Binding, Counts, Found, ◌>>=◌, ◌>>◌, after, has_found, joined, must, pure, then_joined}

@@ -21,11 +21,11 @@ use Rattle.sq_meaning.specs.Status as status
 use Rattle.sq_meaning.specs.Syntax.{Expr, added, bracketed, column, count_rows, literal, parameter, scaled, set_function, signed, user}
 use Rattle.sq_meaning.specs.WellFormed.{is_text}
 use Rattle.sq_bound.specs.declared.expression.Operator.{Operator}
-use Rattle.sq_rules.specs.Binding.{Judged, column_of_site, domain_named, is_indicator_domain, is_of_text, is_outer, is_ungrouped, is_ungrouped_at, is_unknown_name, scale_exceeded}
-use Rattle.sq_rules.specs.Site.{Around, EnclosingQuery, Known, Site, expr_sites, kind_here, summed_sites}
-use Rattle.sq_rules.specs.Words.{is_some_and}
-use Rattle.sq_rules.specs.declared.fault.BindingFault.{BindingFault}
-use Rattle.sq_rules.specs.declared.fault.BindingFault.TheVariants as fault
+use Rattle.sq_meaning.specs.Binding.{Judged, column_of_site, domain_named, is_indicator_domain, is_of_text, is_outer, is_ungrouped, is_ungrouped_at, is_unknown_name, scale_exceeded}
+use Rattle.sq_meaning.specs.Site.{Around, EnclosingQuery, Known, Site, expr_sites, kind_here, summed_sites}
+use Rattle.sq_meaning.specs.Words.{is_some_and}
+use Rattle.sq_meaning.specs.declared.fault.BindingFault.{BindingFault}
+use Rattle.sq_meaning.specs.declared.fault.BindingFault.TheVariants as fault
 use Rattle.sq_binding.specs.Expression.{Bound, as_indicator, bound, column_allowed, column_bound, count_bound, function_call, function_over, indicator_bound, kind_of_call, kind_operated, operands, operated_as, operated_kind, parameter_as, parameter_named, place_of_found, product_operator, signed_as, signed_by, sum_operator}
 use Rattle.sq_binding.specs.Outcome.{Outcome, and_then, or_fault}
 use Rattle.sq_binding.specs.Scope.{FoundColumn, ItemColumn, Scope, column_meant, column_numbered, fits, found_in, further_out, is_grouped, is_last, nearest}

@@ -9,9 +9,9 @@ use Rattle.sq_meaning.specs.Query.{is_grouped, is_present, is_some_of, list_func
 use Rattle.sq_meaning.specs.Spelled.{Named}
 use Rattle.sq_meaning.specs.Syntax.{SelectList, Clause, absent, present, select}
 use Rattle.sq_bound.specs.Expression.{PlacedExpr}
-use Rattle.sq_rules.specs.Binding.{Judged, is_ungrouped_at}
-use Rattle.sq_rules.specs.Site.{EnclosingQuery, Site, clause_sites, list_count, list_sites, plain_query, select_sites, shown_query}
-use Rattle.sq_rules.specs.declared.fault.BindingFault.TheVariants as fault
+use Rattle.sq_meaning.specs.Binding.{Judged, is_ungrouped_at}
+use Rattle.sq_meaning.specs.Site.{EnclosingQuery, Site, clause_sites, list_count, list_sites, plain_query, select_sites, shown_query}
+use Rattle.sq_meaning.specs.declared.fault.BindingFault.TheVariants as fault
 use Rattle.sq_binding.specs.Condition.{clause_bound, cond_bound, select_bound}
 use Rattle.sq_binding.specs.Found.{Binding, Counts, Found, ◌>>=◌, each, from_first, pure}
 use Rattle.sq_binding.specs.From.{NamedItem, NamedTables, from_bound, items_of, tables_of}

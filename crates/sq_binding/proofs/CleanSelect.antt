@@ -12,9 +12,9 @@ use Rattle.sq_meaning.specs.Status as status
 use Rattle.sq_meaning.specs.Syntax.{Clause, Expr, SelectList, all_columns, expressions}
 use Rattle.sq_meaning.specs.Tables.{Declared, TableDescriptor, descriptor_of}
 use Rattle.sq_meaning.specs.WellFormed.{HasValue}
-use Rattle.sq_rules.specs.Binding.{Judged, fits_here, has_item_twice, is_at, is_ungrouped, is_ungrouped_at}
-use Rattle.sq_rules.specs.Site.{Around, EnclosingQuery, Site, expr_sites, list_count, list_sites, plain_query, shown_query}
-use Rattle.sq_rules.specs.declared.fault.BindingFault.TheVariants as fault
+use Rattle.sq_meaning.specs.Binding.{Judged, fits_here, has_item_twice, is_at, is_ungrouped, is_ungrouped_at}
+use Rattle.sq_meaning.specs.Site.{Around, EnclosingQuery, Site, expr_sites, list_count, list_sites, plain_query, shown_query}
+use Rattle.sq_meaning.specs.declared.fault.BindingFault.TheVariants as fault
 use Rattle.sq_binding.specs.Expression.{bound, column_findings, place_of_found}
 use Rattle.sq_binding.specs.Found.{Binding, Counts, Found, ◌>>=◌, ◌>>◌, each, has_found, must, outcome, pure, refused}
 use Rattle.sq_binding.specs.From.{NamedItem, NamedTables, from_bound, item_bound, item_over, items_of, table_findings}

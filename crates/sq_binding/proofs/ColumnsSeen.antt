@@ -3,10 +3,10 @@ use Rattle.std.proofs.Common.{Bool, not, List, [], ◌∷◌, ◌++◌, sym}
 use Rattle.std.specs.List.{flat_map}
 use Rattle.std.specs.Prelude.{⊤}
 use Rattle.sq_lex.specs.declared.name.Name.{Name}
-use Rattle.sq_rules.specs.Binding.{Judged}
-use Rattle.sq_rules.specs.Schema.{has_name_twice}
-use Rattle.sq_rules.specs.Site.{EnclosingQuery, Site}
-use Rattle.sq_rules.specs.declared.fault.BindingFault.TheVariants as fault
+use Rattle.sq_meaning.specs.Binding.{Judged}
+use Rattle.sq_meaning.specs.Schema.{has_name_twice}
+use Rattle.sq_meaning.specs.Site.{EnclosingQuery, Site}
+use Rattle.sq_meaning.specs.declared.fault.BindingFault.TheVariants as fault
 use Rattle.sq_binding.specs.Change.{Receiver, each_column, receiver_named}
 use Rattle.sq_binding.specs.Changeable.{ChangedTable}
 use Rattle.sq_binding.specs.Found.{Binding, ◌>>=◌, ◌>>◌, must, outcome, pure}

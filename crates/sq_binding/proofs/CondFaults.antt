@@ -9,8 +9,8 @@ use Rattle.sq_meaning.specs.Query.{is_present}
 use Rattle.sq_meaning.specs.Spelled.{Named}
 use Rattle.sq_meaning.specs.Syntax.{Expr, Cond, Conds, Clause, Select, compare, compare_subquery, compare_quantified, between, in_subquery, in_list, like, is_null, exists, negated, conjunction, disjunction, no_cond, a_cond, absent, present, select}
 use Rattle.sq_bound.specs.declared.condition.Compared.TheVariants.{Scalar}
-use Rattle.sq_rules.specs.Binding.{Judged}
-use Rattle.sq_rules.specs.Site.{Around, EnclosingQuery, Site, beside_subquery, clause_sites, compared_sites, cond_sites, conds_sites, escape_sites, expr_sites, kind_here, plain_query, select_sites, shown_query, text_sites}
+use Rattle.sq_meaning.specs.Binding.{Judged}
+use Rattle.sq_meaning.specs.Site.{Around, EnclosingQuery, Site, beside_subquery, clause_sites, compared_sites, cond_sites, conds_sites, escape_sites, expr_sites, kind_here, plain_query, select_sites, shown_query, text_sites}
 use Rattle.sq_binding.specs.Condition.{agreeing, beside, clause_bound, compared_as, cond_bound, escape_bound, noted, scalar, select_bound, subquery, terms_bound, test, tests_bound, text}
 use Rattle.sq_binding.specs.Found.{Binding, Found, ◌>>=◌, each, pure}
 use Rattle.sq_binding.specs.From.{NamedTables}

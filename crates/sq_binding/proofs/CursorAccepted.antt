@@ -15,11 +15,11 @@ use Rattle.sq_meaning.specs.SortKeys.{query_names}
 use Rattle.sq_meaning.specs.Spelled.{Named, listed_if_any, query_of}
 use Rattle.sq_meaning.specs.Status as status
 use Rattle.sq_meaning.specs.Syntax.{Query, Select, select, specification, union}
-use Rattle.sq_rules.specs.Binding.{Judged, has_fault, is_well_formed, lacks_privilege}
-use Rattle.sq_rules.specs.Site.{Site, clause_sites, outside, plain_query, query_sites, select_sites}
-use Rattle.sq_rules.specs.WellFormed.{is_plain, only_specification, sort_sites}
-use Rattle.sq_rules.specs.declared.fault.BindingFault.{BindingFault}
-use Rattle.sq_rules.specs.declared.fault.BindingFault.TheVariants as fault
+use Rattle.sq_meaning.specs.Binding.{Judged, has_fault, is_well_formed, lacks_privilege}
+use Rattle.sq_meaning.specs.Site.{Site, clause_sites, outside, plain_query, query_sites, select_sites}
+use Rattle.sq_meaning.specs.WellFormedStatement.{is_plain, only_specification, sort_sites}
+use Rattle.sq_meaning.specs.declared.fault.BindingFault.{BindingFault}
+use Rattle.sq_meaning.specs.declared.fault.BindingFault.TheVariants as fault
 use Rattle.sq_binding.specs.Changeable.{NumberedUpdatable, UnderTable, UserNames, columns_shown, condition_bound, filter_of, from_of, has_plain_rows, list_of, made, may_be_changed, only_one, shown_of, table_over, updatable_bound, updatable_over, updatable_where}
 use Rattle.sq_binding.specs.Condition.{select_bound}
 use Rattle.sq_binding.specs.Cursor.{behind, cursor_bound, cursor_of, cursor_over, select_cursor, sorted_bound, sorted_cursor}

@@ -8,11 +8,11 @@ use Rattle.sq_meaning.specs.Environment.{TableName}
 use Rattle.sq_meaning.specs.Rows.{SortColumn}
 use Rattle.sq_meaning.specs.Spelled.{Named, listed_if_any, query_of}
 use Rattle.sq_meaning.specs.Syntax.{Query, Select, specification, union}
-use Rattle.sq_rules.specs.Binding.{Judged}
-use Rattle.sq_rules.specs.Privileges.{updatable_here}
-use Rattle.sq_rules.specs.Site.{query_count, query_kinds_of, query_sites}
-use Rattle.sq_rules.specs.WellFormed.{is_plain, only_specification}
-use Rattle.sq_rules.specs.declared.fault.BindingFault.TheVariants as fault
+use Rattle.sq_meaning.specs.Binding.{Judged}
+use Rattle.sq_meaning.specs.Privileges.{updatable_here}
+use Rattle.sq_meaning.specs.Site.{query_count, query_kinds_of, query_sites}
+use Rattle.sq_meaning.specs.WellFormedStatement.{is_plain, only_specification}
+use Rattle.sq_meaning.specs.declared.fault.BindingFault.TheVariants as fault
 use Rattle.sq_binding.specs.Changeable.{NumberedUpdatable, UserNames, updatable_bound}
 use Rattle.sq_binding.specs.Condition.{select_bound}
 use Rattle.sq_binding.specs.Cursor.{NumberedCursor, behind, cursor_bound, cursor_of, cursor_over, select_cursor, sorted_bound, sorted_cursor}

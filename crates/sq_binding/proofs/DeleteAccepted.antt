@@ -6,10 +6,10 @@ use Rattle.sq_lex.specs.declared.name.Name.{Name}
 use Rattle.sq_tree.specs.declared.statement.Delete.{Delete}
 use Rattle.sq_meaning.specs.Environment.{TableName}
 use Rattle.sq_meaning.specs.Spelled.{table_of}
-use Rattle.sq_rules.specs.Binding.{Judged}
-use Rattle.sq_rules.specs.Privilege.{Privilege}
-use Rattle.sq_rules.specs.Site.{Site}
-use Rattle.sq_rules.specs.WellFormed.{means_own_column, with_select}
+use Rattle.sq_meaning.specs.Binding.{Judged}
+use Rattle.sq_meaning.specs.Privilege.{Privilege}
+use Rattle.sq_meaning.specs.Site.{Site}
+use Rattle.sq_meaning.specs.WellFormedStatement.{means_own_column, with_select}
 use Rattle.sq_binding.specs.Change.{NamedCursor, NamedCursors, NumberedChange, delete_bound, reading, rows_bound}
 use Rattle.sq_binding.specs.Changeable.{ChangedTable, UserNames, changed_table}
 use Rattle.sq_binding.specs.Found.{Binding, ◌>>=◌, ◌>>◌, has_found, outcome, pure}

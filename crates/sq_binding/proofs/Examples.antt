@@ -17,10 +17,10 @@ use Rattle.sq_bound.specs.Expression.{PlacedExpr}
 use Rattle.sq_bound.specs.declared.condition.Compared.TheVariants as compared
 use Rattle.sq_bound.specs.declared.condition.TablePlace.{TablePlace}
 use Rattle.sq_bound.specs.declared.condition.TablePlace.TheVariants as at
-use Rattle.sq_rules.specs.Binding.{Judged, has_fault, lacks_privilege, syntax_faults}
-use Rattle.sq_rules.specs.Site.{outside, select_sites}
-use Rattle.sq_rules.specs.declared.fault.BindingFault.{BindingFault}
-use Rattle.sq_rules.specs.declared.fault.BindingFault.TheVariants as fault
+use Rattle.sq_meaning.specs.Binding.{Judged, has_fault, lacks_privilege, syntax_faults}
+use Rattle.sq_meaning.specs.Site.{outside, select_sites}
+use Rattle.sq_meaning.specs.declared.fault.BindingFault.{BindingFault}
+use Rattle.sq_meaning.specs.declared.fault.BindingFault.TheVariants as fault
 use Rattle.sq_binding.specs.Condition.{select_bound, subquery}
 use Rattle.sq_binding.specs.Found.{Found}
 use Rattle.sq_binding.specs.From.{NamedTable, NamedTables}

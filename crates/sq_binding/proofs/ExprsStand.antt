@@ -23,8 +23,8 @@ use Rattle.sq_meaning.specs.Tables.{Declared}
 use Rattle.sq_meaning.specs.WellFormed.{HasValue, IsInQuery, IsThere, inside_function, froms, kinds_by_place}
 use Rattle.sq_bound.specs.Expression.{PlacedExpr}
 use Rattle.sq_bound.specs.WellFormed.{Levels, TableKinds}
-use Rattle.sq_rules.specs.Binding.{is_indicator_domain}
-use Rattle.sq_rules.specs.declared.fault.BindingFault.TheVariants as fault
+use Rattle.sq_meaning.specs.Binding.{is_indicator_domain}
+use Rattle.sq_meaning.specs.declared.fault.BindingFault.TheVariants as fault
 use Rattle.sq_binding.specs.Expression.{Bound, as_indicator, bound, indicator_bound, parameter_named, place_of_found}
 use Rattle.sq_binding.specs.Outcome.{Outcome, and_then, or_fault}
 use Rattle.sq_binding.specs.Placed.{placed}

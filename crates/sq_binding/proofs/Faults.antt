@@ -26,12 +26,12 @@ use Rattle.sq_meaning.specs.Status as status
 use Rattle.sq_meaning.specs.Syntax.{Expr, added, bracketed, column, count_rows, literal, parameter, scaled, set_function, signed, user}
 use Rattle.sq_meaning.specs.WellFormed.{HasValue, is_text}
 use Rattle.sq_meaning.specs.Tables.{Declared}
-use Rattle.sq_rules.specs.Binding.{Judged, breaks, domain_named, has_fault, indicator_name, is_indicator_domain, is_of_text, is_ungrouped, is_unknown_name, reads_outer, scale_exceeded}
-use Rattle.sq_rules.specs.Binding as rules
-use Rattle.sq_rules.specs.Site.{Around, EnclosingQuery, Site, expr_sites, kind_here, summed_sites}
-use Rattle.sq_rules.specs.Words.{is_some_and}
-use Rattle.sq_rules.specs.declared.fault.BindingFault.{BindingFault}
-use Rattle.sq_rules.specs.declared.fault.BindingFault.TheVariants as fault
+use Rattle.sq_meaning.specs.Binding.{Judged, breaks, domain_named, has_fault, indicator_name, is_indicator_domain, is_of_text, is_ungrouped, is_unknown_name, reads_outer, scale_exceeded}
+use Rattle.sq_meaning.specs.Binding as rules
+use Rattle.sq_meaning.specs.Site.{Around, EnclosingQuery, Site, expr_sites, kind_here, summed_sites}
+use Rattle.sq_meaning.specs.Words.{is_some_and}
+use Rattle.sq_meaning.specs.declared.fault.BindingFault.{BindingFault}
+use Rattle.sq_meaning.specs.declared.fault.BindingFault.TheVariants as fault
 use Rattle.sq_binding.specs.Expression.{Bound, as_indicator, bound, column_allowed, column_bound, count_bound, function_call, function_over, indicator_bound, kind_of_call, kind_operated, operands, operated_as, operated_kind, parameter_as, parameter_named, product_operator, signed_as, signed_by, sum_operator}
 use Rattle.sq_binding.specs.Outcome.{Outcome, and_then, or_fault}
 use Rattle.sq_binding.specs.Scope.{FoundColumn, Scope, column_meant}

@@ -7,10 +7,10 @@ use Rattle.sq_tree.specs.declared.statement.Fetch.{Fetch}
 use Rattle.sq_meaning.specs.Placed.{PlacedParameter}
 use Rattle.sq_meaning.specs.Spelled.{listed}
 use Rattle.sq_meaning.specs.Status as status
-use Rattle.sq_rules.specs.Binding.{Judged, unknown_cursor}
-use Rattle.sq_rules.specs.Site.{Site}
-use Rattle.sq_rules.specs.WellFormed.{into_sites, orientation_of}
-use Rattle.sq_rules.specs.declared.fault.BindingFault.TheVariants as fault
+use Rattle.sq_meaning.specs.Binding.{Judged, unknown_cursor}
+use Rattle.sq_meaning.specs.Site.{Site}
+use Rattle.sq_meaning.specs.WellFormedStatement.{into_sites, orientation_of}
+use Rattle.sq_meaning.specs.declared.fault.BindingFault.TheVariants as fault
 use Rattle.sq_binding.specs.Change.{NamedCursor, NamedCursors, cursor_named}
 use Rattle.sq_binding.specs.NumberedCondition.{ResultColumn}
 use Rattle.sq_binding.specs.Orientation.{fetched}

@@ -18,9 +18,9 @@ use Rattle.sq_meaning.specs.Status as status
 use Rattle.sq_meaning.specs.Syntax.{Expr, added, bracketed, column, count_rows, literal, parameter, scaled, set_function, signed, user}
 use Rattle.sq_meaning.specs.Tables.{Declared, TableDescriptor, column_names, descriptor_of, item_of, kind_at, kinds_by_name}
 use Rattle.sq_meaning.specs.WellFormed.{HasValue}
-use Rattle.sq_rules.specs.Binding.{Judged, column_of_site, domain_named, is_outer, item_here, items_here, reads_outer}
-use Rattle.sq_rules.specs.Binding as rules
-use Rattle.sq_rules.specs.Site.{Around, EnclosingQuery, Known, Site, expr_sites}
+use Rattle.sq_meaning.specs.Binding.{Judged, column_of_site, domain_named, is_outer, item_here, items_here, reads_outer}
+use Rattle.sq_meaning.specs.Binding as rules
+use Rattle.sq_meaning.specs.Site.{Around, EnclosingQuery, Known, Site, expr_sites}
 use Rattle.sq_binding.specs.Expression.{Bound, bound}
 use Rattle.sq_binding.specs.Scope.{FoundColumn, Scope, column_meant}
 use Rattle.sq_binding.proofs.Cases.{Cases, it_holds}

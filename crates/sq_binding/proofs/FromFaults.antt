@@ -13,10 +13,10 @@ use Rattle.sq_meaning.specs.Environment.{TableName, TableReference}
 use Rattle.sq_meaning.specs.Status as status
 use Rattle.sq_meaning.specs.Tables.{ColumnDescriptor, TableDescriptor, column_kinds, descriptor_of}
 use Rattle.sq_meaning.specs.WellFormed.{HasValue}
-use Rattle.sq_rules.specs.Binding.{Judged, breaks, has_fault, has_item_twice}
-use Rattle.sq_rules.specs.Site.{Known, Site, count_in}
-use Rattle.sq_rules.specs.declared.fault.BindingFault.{BindingFault}
-use Rattle.sq_rules.specs.declared.fault.BindingFault.TheVariants as fault
+use Rattle.sq_meaning.specs.Binding.{Judged, breaks, has_fault, has_item_twice}
+use Rattle.sq_meaning.specs.Site.{Known, Site, count_in}
+use Rattle.sq_meaning.specs.declared.fault.BindingFault.{BindingFault}
+use Rattle.sq_meaning.specs.declared.fault.BindingFault.TheVariants as fault
 use Rattle.sq_binding.specs.Found.{◌>>=◌, ◌>>◌, each, has_found, must, outcome, pure}
 use Rattle.sq_binding.specs.From.{NamedItem, NamedTable, NamedTables, column_over, from_bound, item_bound, item_over, items_of, table_findings}
 use Rattle.sq_binding.specs.Outcome.{or_fault}

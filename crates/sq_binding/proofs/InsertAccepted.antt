@@ -16,12 +16,12 @@ use Rattle.sq_meaning.specs.Spelled.{Named, expr_of, listed, listed_if_any, sele
 use Rattle.sq_meaning.specs.Status as status
 use Rattle.sq_meaning.specs.Syntax.{Select}
 use Rattle.sq_meaning.specs.WellFormed.{is_comparable}
-use Rattle.sq_rules.specs.Binding.{Judged, breaks, has_fault}
-use Rattle.sq_rules.specs.Privilege.{Privilege}
-use Rattle.sq_rules.specs.Site.{Around, Site, expr_sites, kinds_here, outside, select_count, select_sites}
-use Rattle.sq_rules.specs.WellFormed.{column_kind, each_kind, insert_columns, pair_sites, value_sites}
-use Rattle.sq_rules.specs.declared.fault.BindingFault.{BindingFault}
-use Rattle.sq_rules.specs.declared.fault.BindingFault.TheVariants as fault
+use Rattle.sq_meaning.specs.Binding.{Judged, breaks, has_fault}
+use Rattle.sq_meaning.specs.Privilege.{Privilege}
+use Rattle.sq_meaning.specs.Site.{Around, Site, expr_sites, kinds_here, outside, select_count, select_sites}
+use Rattle.sq_meaning.specs.WellFormedStatement.{column_kind, each_kind, insert_columns, pair_sites, value_sites}
+use Rattle.sq_meaning.specs.declared.fault.BindingFault.{BindingFault}
+use Rattle.sq_meaning.specs.declared.fault.BindingFault.TheVariants as fault
 use Rattle.sq_binding.specs.Change.{NumberedInsert, NumberedSource, Receiver, column_for, insert_bound, itself, new_value_bound, receivers_bound, receivers_of, source_bound, value_for}
 use Rattle.sq_binding.specs.Changeable.{ChangedTable, UserNames, changed_table}
 use Rattle.sq_binding.specs.Condition.{must_agree, select_bound}

@@ -12,12 +12,12 @@ use Rattle.sq_meaning.specs.Environment.{TableName, same_name}
 use Rattle.sq_meaning.specs.Spelled.{listed, listed_if_any}
 use Rattle.sq_meaning.specs.Status as status
 use Rattle.sq_meaning.specs.Tables.{ColumnDescriptor, TableDescriptor, column_names}
-use Rattle.sq_rules.specs.Binding.{Judged, breaks, has_fault}
-use Rattle.sq_rules.specs.Schema.{has_name_twice}
-use Rattle.sq_rules.specs.Site.{Site}
-use Rattle.sq_rules.specs.WellFormed.{column_kind, insert_columns}
-use Rattle.sq_rules.specs.declared.fault.BindingFault.{BindingFault}
-use Rattle.sq_rules.specs.declared.fault.BindingFault.TheVariants as fault
+use Rattle.sq_meaning.specs.Binding.{Judged, breaks, has_fault}
+use Rattle.sq_meaning.specs.Schema.{has_name_twice}
+use Rattle.sq_meaning.specs.Site.{Site}
+use Rattle.sq_meaning.specs.WellFormedStatement.{column_kind, insert_columns}
+use Rattle.sq_meaning.specs.declared.fault.BindingFault.{BindingFault}
+use Rattle.sq_meaning.specs.declared.fault.BindingFault.TheVariants as fault
 use Rattle.sq_binding.specs.Change.{Receiver, itself, receiver_over, receivers_bound, receivers_of}
 use Rattle.sq_binding.specs.Changeable.{ChangedTable, UserNames}
 use Rattle.sq_binding.specs.Found.{Found}

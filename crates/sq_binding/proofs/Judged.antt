@@ -4,10 +4,10 @@ use Rattle.std.proofs.Common.{◌≡◌, ℕ, Bool, true, false, List, [], ◌�
 use Rattle.std.specs.Prelude.{⊤, nat_lt, if◌then◌else◌}
 use Rattle.std.specs.List.{AllByRecursion, AllZip, flat_map}
 use Rattle.sq_meaning.specs.Query.{is_some_of}
-use Rattle.sq_rules.specs.Binding.{Judged, has_fault}
-use Rattle.sq_rules.specs.Site.{Site}
-use Rattle.sq_rules.specs.declared.fault.BindingFault.{BindingFault}
-use Rattle.sq_rules.specs.declared.fault.BindingFault.TheVariants as fault
+use Rattle.sq_meaning.specs.Binding.{Judged, has_fault}
+use Rattle.sq_meaning.specs.Site.{Site}
+use Rattle.sq_meaning.specs.declared.fault.BindingFault.{BindingFault}
+use Rattle.sq_meaning.specs.declared.fault.BindingFault.TheVariants as fault
 use Rattle.sq_binding.specs.Found.{Binding, Counts, Found, ◌>>=◌, after, at_most, each, from_first, has_found, must, outcome, pure, refused, then_joined}
 use Rattle.sq_binding.specs.Outcome.{Outcome, and_then}
 use Rattle.sq_binding.specs.QueryFindings.{QueryFindings}

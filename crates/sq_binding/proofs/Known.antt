@@ -21,12 +21,12 @@ use Rattle.sq_meaning.specs.Environment.{Place, TableReference, column_in, fitti
 use Rattle.sq_meaning.specs.Status as status
 use Rattle.sq_meaning.specs.Tables.{ColumnDescriptor, Declared, TableDescriptor, Tables, column_kinds, column_names, descriptor_of, kind_at}
 use Rattle.sq_meaning.specs.WellFormed.{HasValue}
-use Rattle.sq_rules.specs.Binding.{domain_named, is_ungrouped_at, item_here, items_here, nearest_fits, one_further}
-use Rattle.sq_rules.specs.Binding as rules
-use Rattle.sq_rules.specs.Site.{EnclosingQuery, Known}
-use Rattle.sq_rules.specs.Words.{is_some_and}
-use Rattle.sq_rules.specs.declared.fault.BindingFault.{BindingFault}
-use Rattle.sq_rules.specs.declared.fault.BindingFault.TheVariants as fault
+use Rattle.sq_meaning.specs.Binding.{domain_named, is_ungrouped_at, item_here, items_here, nearest_fits, one_further}
+use Rattle.sq_meaning.specs.Binding as rules
+use Rattle.sq_meaning.specs.Site.{EnclosingQuery, Known}
+use Rattle.sq_meaning.specs.Words.{is_some_and}
+use Rattle.sq_meaning.specs.declared.fault.BindingFault.{BindingFault}
+use Rattle.sq_meaning.specs.declared.fault.BindingFault.TheVariants as fault
 use Rattle.sq_binding.specs.Expression.{parameter_named, place_of_found}
 use Rattle.sq_binding.specs.From.{column_over}
 use Rattle.sq_binding.specs.Outcome.{Outcome, or_fault}

@@ -7,9 +7,9 @@ use Rattle.sq_meaning.specs.Environment.{TableReference}
 use Rattle.sq_meaning.specs.Spelled.{Named}
 use Rattle.sq_meaning.specs.Syntax.{Clause}
 use Rattle.sq_meaning.specs.Tables.{ColumnDescriptor, descriptor_of}
-use Rattle.sq_rules.specs.Binding.{Judged, has_fault}
-use Rattle.sq_rules.specs.Site.{Site, clause_sites, plain_query}
-use Rattle.sq_rules.specs.declared.fault.BindingFault.TheVariants as fault
+use Rattle.sq_meaning.specs.Binding.{Judged, has_fault}
+use Rattle.sq_meaning.specs.Site.{Site, clause_sites, plain_query}
+use Rattle.sq_meaning.specs.declared.fault.BindingFault.TheVariants as fault
 use Rattle.sq_binding.specs.Changeable.{ChangedTable, UnderTable, condition_bound, item_at_leaf}
 use Rattle.sq_binding.specs.Condition.{clause_bound}
 use Rattle.sq_binding.specs.Found.{Counts, Found}

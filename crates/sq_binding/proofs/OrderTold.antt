@@ -7,9 +7,9 @@ use Rattle.sq_tree.specs.declared.«module».SortKey.{SortKey}
 use Rattle.sq_tree.specs.declared.«module».SortSpecification.{SortSpecification}
 use Rattle.sq_meaning.specs.SortKeys.{goes_down, key_column}
 use Rattle.sq_meaning.specs.Status as status
-use Rattle.sq_rules.specs.Binding.{Judged}
-use Rattle.sq_rules.specs.Site.{Site}
-use Rattle.sq_rules.specs.declared.fault.BindingFault.TheVariants as fault
+use Rattle.sq_meaning.specs.Binding.{Judged}
+use Rattle.sq_meaning.specs.Site.{Site}
+use Rattle.sq_meaning.specs.declared.fault.BindingFault.TheVariants as fault
 use Rattle.sq_binding.specs.Order.{order_bound, sort_column_bound}
 use Rattle.sq_binding.specs.Outcome.{and_then, or_fault}
 use Rattle.sq_binding.proofs.Clean.{CleanSite, clean_more, no_site}

@@ -9,10 +9,10 @@ use Rattle.sq_tree.specs.declared.statement.Orientation.TheVariants as written
 use Rattle.sq_tree.specs.declared.statement.Position.{Position}
 use Rattle.sq_tree.specs.declared.statement.Position.TheVariants as position
 use Rattle.sq_meaning.specs.Spelled.{has_point, signed_number}
-use Rattle.sq_rules.specs.Binding.{Judged, bad_orientation, breaks, domain_named, has_fault, is_bad_orientation, is_bad_position, is_whole_domain, orientation_names, position_name, unknown_parameter}
-use Rattle.sq_rules.specs.Site.{Site}
-use Rattle.sq_rules.specs.Words.{is_some_and}
-use Rattle.sq_rules.specs.declared.fault.BindingFault.TheVariants as fault
+use Rattle.sq_meaning.specs.Binding.{Judged, bad_orientation, breaks, domain_named, has_fault, is_bad_orientation, is_bad_position, is_whole_domain, orientation_names, position_name, unknown_parameter}
+use Rattle.sq_meaning.specs.Site.{Site}
+use Rattle.sq_meaning.specs.Words.{is_some_and}
+use Rattle.sq_meaning.specs.declared.fault.BindingFault.TheVariants as fault
 use Rattle.sq_bound.specs.declared.statement.Distance.{Distance}
 use Rattle.sq_bound.specs.declared.statement.Distance.TheVariants as distance
 use Rattle.sq_bound.specs.declared.statement.FetchOrientation.{FetchOrientation}

@@ -12,10 +12,10 @@ use Rattle.sq_tree.specs.declared.names.ColumnReference.{ColumnReference}
 use Rattle.sq_meaning.specs.Spelled.{Named}
 use Rattle.sq_meaning.specs.Status as status
 use Rattle.sq_meaning.specs.Syntax.{Expr}
-use Rattle.sq_rules.specs.Binding.{Judged}
-use Rattle.sq_rules.specs.Site.{EnclosingQuery, Site, expr_sites, kind_here, summed_sites}
-use Rattle.sq_rules.specs.WellFormed.{means_own_column}
-use Rattle.sq_rules.specs.declared.fault.BindingFault.TheVariants as fault
+use Rattle.sq_meaning.specs.Binding.{Judged}
+use Rattle.sq_meaning.specs.Site.{EnclosingQuery, Site, expr_sites, kind_here, summed_sites}
+use Rattle.sq_meaning.specs.WellFormedStatement.{means_own_column}
+use Rattle.sq_meaning.specs.declared.fault.BindingFault.TheVariants as fault
 use Rattle.sq_binding.specs.Expression.{Bound, bound}
 use Rattle.sq_binding.specs.From.{NamedTables}
 use Rattle.sq_binding.specs.Outcome.{Outcome, and_then, or_fault}

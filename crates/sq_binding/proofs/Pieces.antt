@@ -9,8 +9,8 @@ use Rattle.sq_meaning.specs.SortKeys.{item_name}
 use Rattle.sq_meaning.specs.Spelled.{Named}
 use Rattle.sq_meaning.specs.Syntax.{Expr, all_columns, expressions}
 use Rattle.sq_meaning.specs.WellFormed.{IsOnlyKind, is_comparable, is_text}
-use Rattle.sq_rules.specs.Binding.{has_item_twice}
-use Rattle.sq_rules.specs.declared.fault.BindingFault.TheVariants as fault
+use Rattle.sq_meaning.specs.Binding.{has_item_twice}
+use Rattle.sq_meaning.specs.declared.fault.BindingFault.TheVariants as fault
 use Rattle.sq_binding.specs.Condition.{agreeing, as_subquery, beside, escape_bound, must_be_beside, scalar, subquery, text}
 use Rattle.sq_binding.specs.Expression.{Bound, bound, column_findings, place_of_found}
 use Rattle.sq_binding.specs.Found.{Binding, Counts, Found, ◌>>=◌, ◌>>◌, after, each, joined, must, pure}

@@ -26,9 +26,9 @@ use Rattle.sq_meaning.specs.Syntax.{Expr, literal, parameter, user, column, coun
 use Rattle.sq_meaning.specs.Tables.{Declared}
 use Rattle.sq_meaning.specs.WellFormed.{is_text}
 use Rattle.sq_bound.specs.Expression.{PlacedExpr, missing, operated}
-use Rattle.sq_rules.specs.Binding.{is_indicator_domain}
-use Rattle.sq_rules.specs.declared.fault.BindingFault.{BindingFault}
-use Rattle.sq_rules.specs.declared.fault.BindingFault.TheVariants as fault
+use Rattle.sq_meaning.specs.Binding.{is_indicator_domain}
+use Rattle.sq_meaning.specs.declared.fault.BindingFault.{BindingFault}
+use Rattle.sq_meaning.specs.declared.fault.BindingFault.TheVariants as fault
 use Rattle.sq_binding.specs.Expression.{Bound, as_indicator, bound, column_bound, indicator_bound, operated_kind, parameter_as, parameter_named, place_of_found, plain, product_operator, sum_operator, user_findings}
 use Rattle.sq_binding.specs.Findings.{none}
 use Rattle.sq_binding.specs.Numbered.{Numbered, tree_of}

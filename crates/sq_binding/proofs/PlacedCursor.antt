@@ -12,8 +12,8 @@ use Rattle.sq_meaning.specs.Spelled as spelled
 use Rattle.sq_meaning.specs.Spelled.{Named, listed_if_any}
 use Rattle.sq_meaning.specs.Syntax.{Query, Select, specification, union}
 use Rattle.sq_meaning.specs.Tables.{Declared}
-use Rattle.sq_rules.specs.WellFormed.{is_plain, only_specification}
-use Rattle.sq_rules.specs.declared.fault.BindingFault.TheVariants as fault
+use Rattle.sq_meaning.specs.WellFormedStatement.{is_plain, only_specification}
+use Rattle.sq_meaning.specs.declared.fault.BindingFault.TheVariants as fault
 use Rattle.sq_binding.specs.Changeable.{ChangedTable, NumberedUpdatable, UserNames, columns_shown, condition_bound, filter_of, from_of, has_plain_rows, item_at_leaf, list_of, made, may_be_changed, only_one, only_table, outside, shown_of, target_over, updatable_bound, updatable_over, updatable_where}
 use Rattle.sq_binding.specs.Condition.{select_bound}
 use Rattle.sq_binding.specs.Cursor.{NumberedCursor, NumberedRows, behind, cursor_bound, cursor_of, cursor_over, select_cursor, sorted_bound, sorted_cursor}

@@ -13,9 +13,9 @@ use Rattle.sq_meaning.specs.Spelled.{listed, table_of}
 use Rattle.sq_meaning.specs.Status as status
 use Rattle.sq_meaning.specs.Tables.{Declared}
 use Rattle.sq_meaning.specs.WellFormed.{is_comparable}
-use Rattle.sq_rules.specs.Privilege.{Privilege}
-use Rattle.sq_rules.specs.declared.fault.BindingFault.{BindingFault}
-use Rattle.sq_rules.specs.declared.fault.BindingFault.TheVariants as fault
+use Rattle.sq_meaning.specs.Privilege.{Privilege}
+use Rattle.sq_meaning.specs.declared.fault.BindingFault.{BindingFault}
+use Rattle.sq_meaning.specs.declared.fault.BindingFault.TheVariants as fault
 use Rattle.sq_bound.specs.Expression.{PlacedExpr}
 use Rattle.sq_binding.specs.Change.{NumberedInsert, NumberedSource, Receiver, column_for, insert_bound, itself, receivers_bound, receivers_of, source_bound, value_for}
 use Rattle.sq_binding.specs.Changeable.{ChangedTable, UserNames, changed_table, outside}

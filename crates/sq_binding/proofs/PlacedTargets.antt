@@ -13,10 +13,10 @@ use Rattle.sq_meaning.specs.Spelled.{listed}
 use Rattle.sq_meaning.specs.Status as status
 use Rattle.sq_meaning.specs.Tables.{Declared}
 use Rattle.sq_meaning.specs.WellFormed.{is_comparable}
-use Rattle.sq_rules.specs.WellFormed.{orientation_of, select_of_statement}
-use Rattle.sq_rules.specs.Words.{has_twice}
-use Rattle.sq_rules.specs.declared.fault.BindingFault.{BindingFault}
-use Rattle.sq_rules.specs.declared.fault.BindingFault.TheVariants as fault
+use Rattle.sq_meaning.specs.WellFormedStatement.{orientation_of, select_of_statement}
+use Rattle.sq_meaning.specs.Words.{has_twice}
+use Rattle.sq_meaning.specs.declared.fault.BindingFault.{BindingFault}
+use Rattle.sq_meaning.specs.declared.fault.BindingFault.TheVariants as fault
 use Rattle.sq_binding.specs.Change.{NamedCursor, NamedCursors, cursor_named}
 use Rattle.sq_binding.specs.Changeable.{UserNames, outside}
 use Rattle.sq_binding.specs.Condition.{select_bound}

@@ -12,7 +12,7 @@ use Rattle.sq_meaning.specs.SortKeys.{common_name, goes_down, key_column, sort_c
 use Rattle.sq_meaning.specs.Spelled.{Named}
 use Rattle.sq_meaning.specs.Status as status
 use Rattle.sq_meaning.specs.Syntax.{Clause, Query, specification, union}
-use Rattle.sq_rules.specs.declared.fault.BindingFault.TheVariants as fault
+use Rattle.sq_meaning.specs.declared.fault.BindingFault.TheVariants as fault
 use Rattle.sq_bound.specs.Condition.{PlacedClause}
 use Rattle.sq_bound.specs.Expression.{PlacedExpr}
 use Rattle.sq_bound.specs.Query.{PlacedQuery}

@@ -9,8 +9,8 @@ use Rattle.sq_meaning.specs.Query.{is_grouped, is_present, is_some_of, list_func
 use Rattle.sq_meaning.specs.Spelled.{Named}
 use Rattle.sq_meaning.specs.Syntax.{Clause, SelectList, absent, present, select}
 use Rattle.sq_bound.specs.Expression.{PlacedExpr}
-use Rattle.sq_rules.specs.Binding.{Judged}
-use Rattle.sq_rules.specs.Site.{Site, plain_query, shown_query}
+use Rattle.sq_meaning.specs.Binding.{Judged}
+use Rattle.sq_meaning.specs.Site.{Site, plain_query, shown_query}
 use Rattle.sq_binding.specs.Changeable.{has_plain_rows}
 use Rattle.sq_binding.specs.Changeable as changeable
 use Rattle.sq_binding.specs.Condition.{clause_bound, cond_bound, select_bound}

@@ -14,11 +14,11 @@ use Rattle.sq_meaning.specs.SortKeys.{common_name}
 use Rattle.sq_meaning.specs.Spelled.{Named}
 use Rattle.sq_meaning.specs.Status as status
 use Rattle.sq_meaning.specs.Syntax.{Expr, Query, Select, added, bracketed, column, count_rows, literal, parameter, scaled, set_function, signed, specification, union, user}
-use Rattle.sq_rules.specs.Binding.{Judged, breaks}
-use Rattle.sq_rules.specs.Privilege.{Privilege}
-use Rattle.sq_rules.specs.Site.{Around, EnclosingQuery, Site, alike_pairs, expr_sites, operand_of, outside, query_count, query_kinds_of, query_sites, select_sites, summed_sites, kind_here}
-use Rattle.sq_rules.specs.WellFormed.{sort_sites}
-use Rattle.sq_rules.specs.declared.fault.BindingFault.TheVariants as fault
+use Rattle.sq_meaning.specs.Binding.{Judged, breaks}
+use Rattle.sq_meaning.specs.Privilege.{Privilege}
+use Rattle.sq_meaning.specs.Site.{Around, EnclosingQuery, Site, alike_pairs, expr_sites, operand_of, outside, query_count, query_kinds_of, query_sites, select_sites, summed_sites, kind_here}
+use Rattle.sq_meaning.specs.WellFormedStatement.{sort_sites}
+use Rattle.sq_meaning.specs.declared.fault.BindingFault.TheVariants as fault
 use Rattle.sq_binding.specs.Condition.{select_bound}
 use Rattle.sq_binding.specs.Found.{Binding, ◌>>=◌, each, must, outcome, pure}
 use Rattle.sq_binding.specs.From.{NamedTable, NamedTables}

@@ -11,10 +11,10 @@ use Rattle.sq_meaning.specs.Query.{is_grouped}
 use Rattle.sq_meaning.specs.Spelled.{Named}
 use Rattle.sq_meaning.specs.Status as status
 use Rattle.sq_meaning.specs.Syntax.{Expr, literal, parameter, user, column, count_rows, set_function, signed, added, scaled, bracketed, SelectList, all_columns, expressions, Cond, Conds, Clause, Select, select}
-use Rattle.sq_rules.specs.Binding.{Judged, has_fault, privilege_missing}
-use Rattle.sq_rules.specs.Privilege.{Privilege}
-use Rattle.sq_rules.specs.Site.{Around, Known as Tables, Site, beside_subquery, clause_sites, compared_sites, cond_sites, conds_sites, escape_sites, expr_sites, inside, kind_here, list_count, list_sites, operand_of, plain_query, select_sites, shown_query, summed_sites, text_sites}
-use Rattle.sq_rules.specs.declared.fault.BindingFault.TheVariants as fault
+use Rattle.sq_meaning.specs.Binding.{Judged, has_fault, privilege_missing}
+use Rattle.sq_meaning.specs.Privilege.{Privilege}
+use Rattle.sq_meaning.specs.Site.{Around, Known as Tables, Site, beside_subquery, clause_sites, compared_sites, cond_sites, conds_sites, escape_sites, expr_sites, inside, kind_here, list_count, list_sites, operand_of, plain_query, select_sites, shown_query, summed_sites, text_sites}
+use Rattle.sq_meaning.specs.declared.fault.BindingFault.TheVariants as fault
 use Rattle.sq_binding.specs.Condition.{agreeing, as_subquery, cond_bound, escape_bound, select_bound}
 use Rattle.sq_binding.specs.Expression.{column_findings}
 use Rattle.sq_binding.specs.Findings.{Findings}

@@ -9,14 +9,14 @@ use Rattle.sq_tree.specs.declared.«module».ModuleText.{ModuleText}
 use Rattle.sq_tree.specs.declared.«module».Procedure.{Procedure}
 use Rattle.sq_meaning.specs.Environment.{TableName, same_name}
 use Rattle.sq_meaning.specs.Spelled.{query_of}
-use Rattle.sq_rules.specs.Binding.{Judged, unknown_cursor}
-use Rattle.sq_rules.specs.Binding as rules
-use Rattle.sq_rules.specs.Module.{cursor_named, cursors}
-use Rattle.sq_rules.specs.Privilege.{Privilege}
-use Rattle.sq_rules.specs.Schema.{Elements}
-use Rattle.sq_rules.specs.Site.{KnownCursor, Site}
-use Rattle.sq_rules.specs.WellFormed.{Surroundings, cursor_query, cursor_sites, is_sound, is_well_formed_procedure, judged_by, known_cursor, known_in, known_in_query, opener_parameters, opener_surroundings, own, surroundings_of}
-use Rattle.sq_rules.specs.Words.{is_some_and}
+use Rattle.sq_meaning.specs.Binding.{Judged, unknown_cursor}
+use Rattle.sq_meaning.specs.Binding as rules
+use Rattle.sq_meaning.specs.Module.{cursor_named, cursors}
+use Rattle.sq_meaning.specs.Privilege.{Privilege}
+use Rattle.sq_meaning.specs.Schema.{Elements}
+use Rattle.sq_meaning.specs.Site.{KnownCursor, Site}
+use Rattle.sq_meaning.specs.WellFormedStatement.{Surroundings, cursor_query, cursor_sites, is_sound, is_well_formed_procedure, judged_by, known_cursor, known_in, known_in_query, opener_parameters, opener_surroundings, own, surroundings_of}
+use Rattle.sq_meaning.specs.Words.{is_some_and}
 use Rattle.sq_binding.specs.Change.{NamedCursor, NamedCursors}
 use Rattle.sq_binding.specs.Changeable.{UnderTable, UserNames}
 use Rattle.sq_binding.specs.Cursor.{NumberedCursor, cursor_bound}

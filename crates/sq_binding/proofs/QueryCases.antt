@@ -10,7 +10,7 @@ use Rattle.sq_meaning.specs.Spelled.{Named}
 use Rattle.sq_meaning.specs.Syntax.{Expr, SelectList, all_columns, expressions, Cond, Conds, Clause, Select, compare, compare_subquery, compare_quantified, between, in_subquery, in_list, like, is_null, exists, negated, conjunction, disjunction, no_cond, a_cond, absent, present, select}
 use Rattle.sq_meaning.specs.WellFormed.{IsOnlyKind, is_comparable, is_text}
 use Rattle.sq_bound.specs.declared.condition.Compared.TheVariants.{Scalar}
-use Rattle.sq_rules.specs.declared.fault.BindingFault.TheVariants as fault
+use Rattle.sq_meaning.specs.declared.fault.BindingFault.TheVariants as fault
 use Rattle.sq_binding.specs.Condition.{agreeing, as_subquery, beside, clause_bound, compared_as, cond_bound, escape_bound, noted, scalar, select_bound, subquery, terms_bound, test, tests_bound, text}
 use Rattle.sq_binding.specs.Found.{Binding, Counts, Found, ◌>>=◌, after, each, from_first, joined, pure}
 use Rattle.sq_binding.specs.From.{NamedItem, NamedTables, from_bound, item_bound, items_of, tables_of}

@@ -13,9 +13,9 @@ use Rattle.sq_meaning.specs.Syntax.{Clause, Expr, Query, Select, SelectList, all
 use Rattle.sq_meaning.specs.Tables.{ColumnDescriptor, TableDescriptor, column_names, descriptor_of, item_of}
 use Rattle.sq_meaning.specs.WellFormed.{HasValue}
 use Rattle.sq_tree.specs.declared.names.ColumnReference.{ColumnReference}
-use Rattle.sq_rules.specs.Binding.{Judged}
-use Rattle.sq_rules.specs.Site.{Known, Site}
-use Rattle.sq_rules.specs.declared.fault.BindingFault.TheVariants as fault
+use Rattle.sq_meaning.specs.Binding.{Judged}
+use Rattle.sq_meaning.specs.Site.{Known, Site}
+use Rattle.sq_meaning.specs.declared.fault.BindingFault.TheVariants as fault
 use Rattle.sq_binding.specs.Condition.{select_bound, clause_bound}
 use Rattle.sq_binding.specs.Found.{Binding, Counts, Found, ◌>>=◌, each, from_first, must, outcome, pure, refused}
 use Rattle.sq_binding.specs.From.{NamedItem, NamedTables, column_over, from_bound, items_of, tables_of}

@@ -10,9 +10,9 @@ use Rattle.sq_tree.specs.declared.statement.Select.{Select as SelectStatement}
 use Rattle.sq_meaning.specs.Spelled.{Named, listed}
 use Rattle.sq_meaning.specs.Status as status
 use Rattle.sq_meaning.specs.Syntax.{Select}
-use Rattle.sq_rules.specs.Binding.{Judged, lacks_privilege}
-use Rattle.sq_rules.specs.Site.{Site, kinds_here, outside, select_count, select_sites}
-use Rattle.sq_rules.specs.WellFormed.{each_kind, into_sites, pair_sites, select_of_statement, target_kind}
+use Rattle.sq_meaning.specs.Binding.{Judged, lacks_privilege}
+use Rattle.sq_meaning.specs.Site.{Site, kinds_here, outside, select_count, select_sites}
+use Rattle.sq_meaning.specs.WellFormedStatement.{each_kind, into_sites, pair_sites, select_of_statement, target_kind}
 use Rattle.sq_binding.specs.Changeable.{UserNames}
 use Rattle.sq_binding.specs.Condition.{select_bound}
 use Rattle.sq_binding.specs.Found.{Counts, Found, ◌>>=◌, outcome, pure}

@@ -15,11 +15,11 @@ use Rattle.sq_meaning.specs.Spelled.{Named, cond_of, expr_of}
 use Rattle.sq_meaning.specs.Status as status
 use Rattle.sq_meaning.specs.Syntax.{Clause, present}
 use Rattle.sq_meaning.specs.WellFormed.{is_comparable}
-use Rattle.sq_rules.specs.Binding.{Judged}
-use Rattle.sq_rules.specs.Privilege.{Privilege}
-use Rattle.sq_rules.specs.Site.{Around, EnclosingQuery, Site, expr_sites, kind_here, plain_query}
-use Rattle.sq_rules.specs.WellFormed.{means_own_column, value_sites, with_select}
-use Rattle.sq_rules.specs.declared.fault.BindingFault.TheVariants as fault
+use Rattle.sq_meaning.specs.Binding.{Judged}
+use Rattle.sq_meaning.specs.Privilege.{Privilege}
+use Rattle.sq_meaning.specs.Site.{Around, EnclosingQuery, Site, expr_sites, kind_here, plain_query}
+use Rattle.sq_meaning.specs.WellFormedStatement.{means_own_column, value_sites, with_select}
+use Rattle.sq_meaning.specs.declared.fault.BindingFault.TheVariants as fault
 use Rattle.sq_binding.specs.Change.{NamedCursors, NumberedChange, cursor_named, new_value_bound, reading, rows_bound, with_reading}
 use Rattle.sq_binding.specs.Changeable.{ChangedTable, UnderTable, UserNames, condition_bound, target_over}
 use Rattle.sq_binding.specs.Condition.{clause_bound, must_agree}

@@ -8,12 +8,12 @@ use Rattle.sq_tree.specs.declared.statement.Where.TheVariants as rows_where
 use Rattle.sq_meaning.specs.Environment.{TableName, TableReference, same_table}
 use Rattle.sq_meaning.specs.Spelled.{Named, cond_of}
 use Rattle.sq_meaning.specs.Syntax.{Clause, present}
-use Rattle.sq_rules.specs.Binding.{Judged, cursor_known, is_known_table, is_over, not_updatable}
-use Rattle.sq_rules.specs.Privilege.{Privilege}
-use Rattle.sq_rules.specs.Site.{KnownCursor, Site, clause_sites, cond_sites, plain_query}
-use Rattle.sq_rules.specs.WellFormed.{beside_table, means_own_column, with_select}
-use Rattle.sq_rules.specs.Words.{is_some_and}
-use Rattle.sq_rules.specs.declared.fault.BindingFault.TheVariants as fault
+use Rattle.sq_meaning.specs.Binding.{Judged, cursor_known, is_known_table, is_over, not_updatable}
+use Rattle.sq_meaning.specs.Privilege.{Privilege}
+use Rattle.sq_meaning.specs.Site.{KnownCursor, Site, clause_sites, cond_sites, plain_query}
+use Rattle.sq_meaning.specs.WellFormedStatement.{beside_table, means_own_column, with_select}
+use Rattle.sq_meaning.specs.Words.{is_some_and}
+use Rattle.sq_meaning.specs.declared.fault.BindingFault.TheVariants as fault
 use Rattle.sq_binding.specs.Change.{NamedCursor, NamedCursors, NumberedChange, cursor_named, positioned_bound, reading, rows_bound, with_reading}
 use Rattle.sq_binding.specs.Changeable.{ChangedTable, UserNames, condition_bound, target_over}
 use Rattle.sq_binding.specs.Found.{Binding, Counts, Found, ◌>>=◌, ◌>>◌, after, joined, must, outcome, pure}

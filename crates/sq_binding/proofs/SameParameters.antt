@@ -12,8 +12,8 @@ use Rattle.sq_value.specs.declared.domain.Domain.{Domain}
 use Rattle.sq_value.specs.declared.domain.Domain.TheVariants as domain
 use Rattle.sq_meaning.specs.Environment.{same_name}
 use Rattle.sq_meaning.specs.Tables.{Declared}
-use Rattle.sq_rules.specs.Words.{has_twice}
-use Rattle.sq_rules.specs.declared.fault.BindingFault.TheVariants as fault
+use Rattle.sq_meaning.specs.Words.{has_twice}
+use Rattle.sq_meaning.specs.declared.fault.BindingFault.TheVariants as fault
 use Rattle.sq_binding.specs.Expression.{parameter_named}
 use Rattle.sq_binding.specs.Outcome.{Outcome, or_fault}
 

@@ -13,10 +13,10 @@ use Rattle.sq_meaning.specs.Spelled.{Named}
 use Rattle.sq_meaning.specs.Status as status
 use Rattle.sq_meaning.specs.Syntax.{Clause, Expr, SelectList, all_columns, expressions}
 use Rattle.sq_meaning.specs.Tables.{kinds_by_name}
-use Rattle.sq_rules.specs.Binding.{Judged, fits_here, is_at, is_ungrouped_at, items_here, nearest_fits, one_further}
-use Rattle.sq_rules.specs.Binding as rules
-use Rattle.sq_rules.specs.Site.{Around, EnclosingQuery, Site, expr_sites, kind_here, list_count, list_sites, plain_query, shown_query}
-use Rattle.sq_rules.specs.declared.fault.BindingFault.TheVariants as fault
+use Rattle.sq_meaning.specs.Binding.{Judged, fits_here, is_at, is_ungrouped_at, items_here, nearest_fits, one_further}
+use Rattle.sq_meaning.specs.Binding as rules
+use Rattle.sq_meaning.specs.Site.{Around, EnclosingQuery, Site, expr_sites, kind_here, list_count, list_sites, plain_query, shown_query}
+use Rattle.sq_meaning.specs.declared.fault.BindingFault.TheVariants as fault
 use Rattle.sq_binding.specs.Expression.{column_findings, place_of_found}
 use Rattle.sq_binding.specs.Found.{◌>>◌, each, has_found, must, outcome, pure}
 use Rattle.sq_binding.specs.From.{NamedItem, NamedTables, items_of}

@@ -13,7 +13,7 @@ use Rattle.sq_meaning.specs.Status as status
 use Rattle.sq_meaning.specs.Syntax.{Expr, added, all_columns, bracketed, column, count_rows, expressions, literal, parameter, scaled, set_function, signed, user}
 use Rattle.sq_meaning.specs.Tables.{ColumnDescriptor}
 use Rattle.sq_meaning.specs.Target.{are_distinct, shown_column, shown_columns}
-use Rattle.sq_rules.specs.Binding.{nearest_fits}
+use Rattle.sq_meaning.specs.Binding.{nearest_fits}
 use Rattle.sq_binding.specs.Changeable.{UnderTable, columns_shown, if_distinct, is_reference, leaf_column, leaf_columns}
 use Rattle.sq_binding.specs.From.{column_over}
 use Rattle.sq_binding.specs.Numbered.{Numbered}

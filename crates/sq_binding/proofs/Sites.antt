@@ -1,9 +1,9 @@
 -- Faults at the sites of a text: at some of them, and so at all.
 use Rattle.std.proofs.Common.{◌≡◌, Bool, true, false, not, ◌&&◌, ◌||◌, List, [], ◌∷◌, ◌++◌, Ok, Err, refl, sym, ap, ◌∙◌}
 use Rattle.std.specs.Prelude.{⊤, if◌then◌else◌}
-use Rattle.sq_rules.specs.Binding.{Judged, breaks, has_fault}
-use Rattle.sq_rules.specs.Site.{Site}
-use Rattle.sq_rules.specs.declared.fault.BindingFault.{BindingFault}
+use Rattle.sq_meaning.specs.Binding.{Judged, breaks, has_fault}
+use Rattle.sq_meaning.specs.Site.{Site}
+use Rattle.sq_meaning.specs.declared.fault.BindingFault.{BindingFault}
 use Rattle.sq_binding.specs.Outcome.{Outcome, and_then}
 
 -- ---- faults at sites

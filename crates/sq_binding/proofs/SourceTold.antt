@@ -10,10 +10,10 @@ use Rattle.sq_tree.specs.declared.statement.NewValue.{NewValue}
 use Rattle.sq_meaning.specs.Spelled.{Named, listed, select_of}
 use Rattle.sq_meaning.specs.Status as status
 use Rattle.sq_meaning.specs.Syntax.{Select}
-use Rattle.sq_rules.specs.Binding.{Judged}
-use Rattle.sq_rules.specs.Site.{Site, kinds_here, outside, select_count, select_sites}
-use Rattle.sq_rules.specs.WellFormed.{each_kind, pair_sites, value_sites}
-use Rattle.sq_rules.specs.declared.fault.BindingFault.TheVariants as fault
+use Rattle.sq_meaning.specs.Binding.{Judged}
+use Rattle.sq_meaning.specs.Site.{Site, kinds_here, outside, select_count, select_sites}
+use Rattle.sq_meaning.specs.WellFormedStatement.{each_kind, pair_sites, value_sites}
+use Rattle.sq_meaning.specs.declared.fault.BindingFault.TheVariants as fault
 use Rattle.sq_binding.specs.Change.{NumberedSource, Receiver, column_for, source_bound, value_for}
 use Rattle.sq_binding.specs.Changeable.{UserNames}
 use Rattle.sq_binding.specs.Condition.{select_bound}

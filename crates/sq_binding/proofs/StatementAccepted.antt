@@ -17,13 +17,13 @@ use Rattle.sq_tree.specs.declared.statement.Where.TheVariants as rows_where
 use Rattle.sq_meaning.specs.Environment.{TableName}
 use Rattle.sq_meaning.specs.Spelled.{listed, listed_if_any, table_of}
 use Rattle.sq_meaning.specs.Status as status
-use Rattle.sq_rules.specs.Binding.{Judged, is_well_formed}
-use Rattle.sq_rules.specs.Catalog.{tables_of}
-use Rattle.sq_rules.specs.Module.{cursor_named}
-use Rattle.sq_rules.specs.Privilege.{Privilege}
-use Rattle.sq_rules.specs.Site.{Site, query_count}
-use Rattle.sq_rules.specs.WellFormed.{Surroundings, cursor_columns, cursor_query, fetch_from_sites, fetch_sites, insert_columns, into_sites, column_kind, judged_by, known_in, orientation_of, own, select_of_statement, source_sites, statement_sites, where_sites, with_select}
-use Rattle.sq_rules.specs.WellFormed as rules
+use Rattle.sq_meaning.specs.Binding.{Judged, is_well_formed}
+use Rattle.sq_meaning.specs.Catalog.{tables_of}
+use Rattle.sq_meaning.specs.Module.{cursor_named}
+use Rattle.sq_meaning.specs.Privilege.{Privilege}
+use Rattle.sq_meaning.specs.Site.{Site, query_count}
+use Rattle.sq_meaning.specs.WellFormedStatement.{Surroundings, cursor_columns, cursor_query, fetch_from_sites, fetch_sites, insert_columns, into_sites, column_kind, judged_by, known_in, orientation_of, own, select_of_statement, source_sites, statement_sites, where_sites, with_select}
+use Rattle.sq_meaning.specs.WellFormedStatement as rules
 use Rattle.sq_binding.specs.Change.{NamedCursor, NamedCursors, delete_bound, insert_bound, update_bound}
 use Rattle.sq_binding.specs.Change as change
 use Rattle.sq_binding.specs.Changeable.{UnderTable, UserNames}

@@ -7,8 +7,8 @@ use Rattle.sq_meaning.specs.Target.{clause_has_subquery, has_subquery, have_subq
 use Rattle.sq_value.specs.declared.domain.Kind.{Kind}
 use Rattle.sq_meaning.specs.WellFormed.{is_comparable, is_text}
 use Rattle.sq_bound.specs.declared.condition.Compared.TheVariants.{Scalar}
-use Rattle.sq_rules.specs.declared.fault.BindingFault.{BindingFault}
-use Rattle.sq_rules.specs.declared.fault.BindingFault.TheVariants as fault
+use Rattle.sq_meaning.specs.declared.fault.BindingFault.{BindingFault}
+use Rattle.sq_meaning.specs.declared.fault.BindingFault.TheVariants as fault
 use Rattle.sq_binding.specs.Condition.{agreeing, as_subquery, beside, clause_bound, compared_as, cond_bound, escape_bound, must_agree, must_be_beside, noted, scalar, select_bound, subquery, terms_bound, test, tests_bound, text}
 use Rattle.sq_binding.specs.Expression.{bound}
 use Rattle.sq_binding.specs.Found.{Binding, Counts, Found, ◌>>=◌, ◌>>◌, each, has_found, must, pure}

@@ -17,13 +17,13 @@ use Rattle.sq_meaning.specs.Status as status
 use Rattle.sq_meaning.specs.Syntax.{parameter}
 use Rattle.sq_meaning.specs.Tables.{Declared}
 use Rattle.sq_meaning.specs.WellFormed.{is_comparable}
-use Rattle.sq_rules.specs.Binding.{Judged, breaks, domain_named, has_fault, is_bad_indicator, is_indicator_domain, is_unknown_name, kind_mismatch, parameter_names}
-use Rattle.sq_rules.specs.Schema.{has_name_twice}
-use Rattle.sq_rules.specs.Site.{Site}
-use Rattle.sq_rules.specs.WellFormed.{pair_sites, target_kind}
-use Rattle.sq_rules.specs.Words.{has_twice}
-use Rattle.sq_rules.specs.declared.fault.BindingFault.{BindingFault}
-use Rattle.sq_rules.specs.declared.fault.BindingFault.TheVariants as fault
+use Rattle.sq_meaning.specs.Binding.{Judged, breaks, domain_named, has_fault, is_bad_indicator, is_indicator_domain, is_unknown_name, kind_mismatch, parameter_names}
+use Rattle.sq_meaning.specs.Schema.{has_name_twice}
+use Rattle.sq_meaning.specs.Site.{Site}
+use Rattle.sq_meaning.specs.WellFormedStatement.{pair_sites, target_kind}
+use Rattle.sq_meaning.specs.Words.{has_twice}
+use Rattle.sq_meaning.specs.declared.fault.BindingFault.{BindingFault}
+use Rattle.sq_meaning.specs.declared.fault.BindingFault.TheVariants as fault
 use Rattle.sq_binding.specs.Expression.{Bound, as_indicator, indicator_bound, parameter_as, parameter_bound, parameter_named}
 use Rattle.sq_binding.specs.Outcome.{Outcome, and_then}
 use Rattle.sq_binding.specs.Targets.{set_by, target_bound, targets_bound, targets_in_turn}

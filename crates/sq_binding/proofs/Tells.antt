@@ -3,9 +3,9 @@ use Rattle.std.proofs.Common.{◌≡◌, Bool, true, false, ◌||◌, List, [], 
 use Rattle.std.proofs.lemmas.List.{append-nil}
 use Rattle.std.specs.List.{AllByRecursion, flat_map}
 use Rattle.std.specs.Prelude.{⊤}
-use Rattle.sq_rules.specs.Binding.{Judged, breaks, has_fault}
-use Rattle.sq_rules.specs.Site.{Site}
-use Rattle.sq_rules.specs.declared.fault.BindingFault.{BindingFault}
+use Rattle.sq_meaning.specs.Binding.{Judged, breaks, has_fault}
+use Rattle.sq_meaning.specs.Site.{Site}
+use Rattle.sq_meaning.specs.declared.fault.BindingFault.{BindingFault}
 use Rattle.sq_binding.specs.Found.{Binding, Counts, Found, ◌>>=◌, after, each, has_found, joined, must, outcome, pure, then_joined}
 use Rattle.sq_binding.specs.Outcome.{Outcome, and_then}
 use Rattle.sq_binding.specs.QueryFindings.{QueryFindings}

@@ -1,8 +1,8 @@
 -- Outcomes that are as the rules say: what is answered is a fault at these sites, or no rule is broken there.
 use Rattle.std.proofs.Common.{◌≡◌, Bool, true, false, List, ◌++◌, Ok, Err, refl}
-use Rattle.sq_rules.specs.Binding.{Judged, has_fault}
-use Rattle.sq_rules.specs.Site.{Site}
-use Rattle.sq_rules.specs.declared.fault.BindingFault.{BindingFault}
+use Rattle.sq_meaning.specs.Binding.{Judged, has_fault}
+use Rattle.sq_meaning.specs.Site.{Site}
+use Rattle.sq_meaning.specs.declared.fault.BindingFault.{BindingFault}
 use Rattle.sq_binding.specs.Outcome.{Outcome, and_then}
 use Rattle.sq_binding.specs.Whole.{must_hold}
 use Rattle.sq_binding.proofs.Clean.{AllHeld, Clean, clean_both}

@@ -12,9 +12,9 @@ use Rattle.sq_meaning.specs.SortKeys.{common_name}
 use Rattle.sq_meaning.specs.Spelled.{Named}
 use Rattle.sq_meaning.specs.Status as status
 use Rattle.sq_meaning.specs.Syntax.{Query, specification, union}
-use Rattle.sq_rules.specs.Binding.{Judged, breaks, kind_mismatch}
-use Rattle.sq_rules.specs.Site.{Site, alike_pairs, query_count, query_kinds_of, query_sites}
-use Rattle.sq_rules.specs.declared.fault.BindingFault.TheVariants as fault
+use Rattle.sq_meaning.specs.Binding.{Judged, breaks, kind_mismatch}
+use Rattle.sq_meaning.specs.Site.{Site, alike_pairs, query_count, query_kinds_of, query_sites}
+use Rattle.sq_meaning.specs.declared.fault.BindingFault.TheVariants as fault
 use Rattle.sq_binding.specs.Condition.{select_bound}
 use Rattle.sq_binding.specs.Found.{◌>>=◌, each, must, outcome, pure}
 use Rattle.sq_binding.specs.From.{NamedTables}

@@ -16,8 +16,8 @@ use Rattle.sq_meaning.specs.Syntax.{Clause, Expr, SelectList, added, all_columns
 use Rattle.sq_meaning.specs.Tables.{TableDescriptor, column_names, descriptor_of, item_of}
 use Rattle.sq_meaning.specs.Target.{Source, Target, are_distinct, only_table, shown_columns, target_of}
 use Rattle.sq_meaning.specs.WellFormed.{HasValue}
-use Rattle.sq_rules.specs.Binding.{Judged, item_here}
-use Rattle.sq_rules.specs.Site.{EnclosingQuery}
+use Rattle.sq_meaning.specs.Binding.{Judged, item_here}
+use Rattle.sq_meaning.specs.Site.{EnclosingQuery}
 use Rattle.sq_binding.specs.Changeable.{UnderTable, UserNames, columns_shown, shown_of}
 use Rattle.sq_binding.specs.Condition.{clause_bound, select_bound}
 use Rattle.sq_binding.specs.Expression.{bound, column_allowed, column_bound, place_of_found}
@@ -26,7 +26,7 @@ use Rattle.sq_binding.specs.From.{NamedItem, NamedTable, column_over, from_bound
 use Rattle.sq_binding.specs.NumberedCondition.{NumberedClause, NumberedSelect}
 use Rattle.sq_binding.specs.Scope.{Scope, column_meant}
 use Rattle.sq_binding.specs.Select.{Parts, ShownColumn, Surroundings, Typed, column_of_item, columns_of_items, grouping_column, groups_of, is_star, list_bound, most_columns, rightly_grouped, select_found, shown_column, value, value_found}
-use Rattle.sq_rules.specs.declared.fault.BindingFault.TheVariants as fault
+use Rattle.sq_meaning.specs.declared.fault.BindingFault.TheVariants as fault
 use Rattle.sq_binding.proofs.ChangedTold.{TablesFit}
 use Rattle.sq_binding.proofs.Clean.{steps_of}
 use Rattle.sq_binding.proofs.CleanConds.{KnownIf, known_of}
@@ -40,7 +40,7 @@ use Rattle.sq_binding.proofs.PredicateFaults.{surrounded}
 use Rattle.sq_binding.proofs.ResultNames.{rightly_is}
 use Rattle.sq_binding.proofs.SelectFaults.{groups_over, lines_over}
 use Rattle.sq_binding.proofs.ShownColumns.{IsShownAs, expressions_shown, fit_column, star_shown}
-use Rattle.sq_rules.specs.Site.{Site}
+use Rattle.sq_meaning.specs.Site.{Site}
 
 -- no column of a base table stands for two of a table
 abbrev pub ColumnsFit : UserNames → Type 0

@@ -11,8 +11,8 @@ use Rattle.sq_meaning.specs.Syntax.{Clause, Select, SelectList, select}
 use Rattle.sq_meaning.specs.Tables.{TableDescriptor, column_names, descriptor_of, item_of}
 use Rattle.sq_meaning.specs.Target.{clause_has_subquery}
 use Rattle.sq_meaning.specs.WellFormed.{HasValue}
-use Rattle.sq_rules.specs.Binding.{Judged, item_here}
-use Rattle.sq_rules.specs.Privileges.{updatable_here}
+use Rattle.sq_meaning.specs.Binding.{Judged, item_here}
+use Rattle.sq_meaning.specs.Privileges.{updatable_here}
 use Rattle.sq_binding.specs.Changeable.{NumberedUpdatable, UnderTable, UserNames, columns_shown, condition_bound, filter_of, has_plain_rows, list_of, made, may_be_changed, only_one, shown_of, table_over, target_over, updatable_bound, updatable_over, updatable_where}
 use Rattle.sq_binding.specs.Condition.{select_bound}
 use Rattle.sq_binding.specs.Found.{Counts, Found, pure}

@@ -7,10 +7,10 @@ use Rattle.sq_tree.specs.declared.statement.Assignment.{Assignment}
 use Rattle.sq_tree.specs.declared.statement.Update.{Update}
 use Rattle.sq_meaning.specs.Environment.{TableName, TableReference}
 use Rattle.sq_meaning.specs.Spelled.{listed, table_of}
-use Rattle.sq_rules.specs.Binding.{Judged}
-use Rattle.sq_rules.specs.Privilege.{Privilege}
-use Rattle.sq_rules.specs.Site.{EnclosingQuery, Site, plain_query}
-use Rattle.sq_rules.specs.WellFormed.{beside_table, column_kind, means_own_column, value_sites, with_select}
+use Rattle.sq_meaning.specs.Binding.{Judged}
+use Rattle.sq_meaning.specs.Privilege.{Privilege}
+use Rattle.sq_meaning.specs.Site.{EnclosingQuery, Site, plain_query}
+use Rattle.sq_meaning.specs.WellFormedStatement.{beside_table, column_kind, means_own_column, value_sites, with_select}
 use Rattle.sq_binding.specs.Change.{NamedCursor, NamedCursors, NumberedAssignment, NumberedChange, NumberedUpdate, Receiver, assignment_bound, each_column, new_value_bound, reading, rows_bound, update_bound, update_parts, with_reading}
 use Rattle.sq_binding.specs.Changeable.{ChangedTable, UserNames, changed_table, item_at_leaf}
 use Rattle.sq_binding.specs.Found.{Binding, Found, ◌>>=◌, ◌>>◌, has_found, outcome, pure}

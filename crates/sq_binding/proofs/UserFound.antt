@@ -6,10 +6,10 @@ use Rattle.sq_meaning.specs.Spelled.{Named}
 use Rattle.sq_meaning.specs.Syntax.{Expr, Cond, Conds, compare, compare_subquery, compare_quantified, between, in_subquery, in_list, like, is_null, exists, negated, conjunction, disjunction, no_cond, a_cond}
 use Rattle.sq_meaning.specs.Target.{has_subquery, have_subquery}
 use Rattle.sq_meaning.specs.WellFormed.{is_comparable, is_text}
-use Rattle.sq_rules.specs.SchemaRefusal.{is_refused_in_check}
-use Rattle.sq_rules.specs.Site.{Around, Known, Site, compared_sites, cond_sites, conds_sites, escape_sites, expr_sites, kind_here, text_sites}
-use Rattle.sq_rules.specs.declared.fault.BindingFault.{BindingFault}
-use Rattle.sq_rules.specs.declared.fault.BindingFault.TheVariants as fault
+use Rattle.sq_meaning.specs.SchemaRefusal.{is_refused_in_check}
+use Rattle.sq_meaning.specs.Site.{Around, Known, Site, compared_sites, cond_sites, conds_sites, escape_sites, expr_sites, kind_here, text_sites}
+use Rattle.sq_meaning.specs.declared.fault.BindingFault.{BindingFault}
+use Rattle.sq_meaning.specs.declared.fault.BindingFault.TheVariants as fault
 use Rattle.sq_binding.specs.Condition.{agreeing, cond_bound, escape_bound, must_agree, noted, terms_bound, test, tests_bound, text}
 use Rattle.sq_binding.specs.Expression.{Bound, bound}
 use Rattle.sq_binding.specs.Found.{Binding, Counts, Found, ◌>>=◌, ◌>>◌, each, has_found, must, pure}

@@ -12,11 +12,11 @@ use Rattle.sq_meaning.specs.Spelled.{Named, expr_of}
 use Rattle.sq_meaning.specs.Status as status
 use Rattle.sq_meaning.specs.Syntax.{Expr}
 use Rattle.sq_meaning.specs.WellFormed.{is_comparable}
-use Rattle.sq_rules.specs.Binding.{Judged, breaks, has_fault}
-use Rattle.sq_rules.specs.Site.{Around, EnclosingQuery, Site, expr_sites, kind_here, plain_query}
-use Rattle.sq_rules.specs.WellFormed.{value_sites}
-use Rattle.sq_rules.specs.declared.fault.BindingFault.{BindingFault}
-use Rattle.sq_rules.specs.declared.fault.BindingFault.TheVariants as fault
+use Rattle.sq_meaning.specs.Binding.{Judged, breaks, has_fault}
+use Rattle.sq_meaning.specs.Site.{Around, EnclosingQuery, Site, expr_sites, kind_here, plain_query}
+use Rattle.sq_meaning.specs.WellFormedStatement.{value_sites}
+use Rattle.sq_meaning.specs.declared.fault.BindingFault.{BindingFault}
+use Rattle.sq_meaning.specs.declared.fault.BindingFault.TheVariants as fault
 use Rattle.sq_binding.specs.Change.{new_value_bound}
 use Rattle.sq_binding.specs.Changeable.{UnderTable, item_at_leaf}
 use Rattle.sq_binding.specs.Condition.{must_agree}

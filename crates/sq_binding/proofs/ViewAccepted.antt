@@ -4,8 +4,8 @@ use Rattle.std.proofs.Common.{◌≡◌, true, false, not, [], Option, Ok, Err, 
 use Rattle.std.specs.Prelude.{is_ok}
 use Rattle.sq_meaning.specs.Spelled.{Named}
 use Rattle.sq_meaning.specs.Syntax.{Select}
-use Rattle.sq_rules.specs.Binding.{Judged, has_fault, has_syntax_fault, lacks_privilege}
-use Rattle.sq_rules.specs.Site.{outside, select_sites}
+use Rattle.sq_meaning.specs.Binding.{Judged, has_fault, has_syntax_fault, lacks_privilege}
+use Rattle.sq_meaning.specs.Site.{outside, select_sites}
 use Rattle.sq_binding.specs.Changeable.{NumberedUpdatable, UserNames, updatable_bound}
 use Rattle.sq_binding.specs.Changeable as changeable
 use Rattle.sq_binding.specs.Condition.{select_bound}

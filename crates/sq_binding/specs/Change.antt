@@ -19,9 +19,9 @@ use Rattle.sq_meaning.specs.Environment.{TableName, same_name, same_table}
 use Rattle.sq_meaning.specs.Spelled.{cond_of, expr_of, listed, select_of, table_of}
 use Rattle.sq_meaning.specs.Syntax.{present}
 use Rattle.sq_meaning.specs.Tables.{ColumnDescriptor, Declared}
-use Rattle.sq_rules.specs.Privilege.{Privilege}
-use Rattle.sq_rules.specs.Schema.{has_name_twice}
-use Rattle.sq_rules.specs.declared.fault.BindingFault.TheVariants as fault
+use Rattle.sq_meaning.specs.Privilege.{Privilege}
+use Rattle.sq_meaning.specs.Schema.{has_name_twice}
+use Rattle.sq_meaning.specs.declared.fault.BindingFault.TheVariants as fault
 use Rattle.sq_bound.specs.Known.{Under}
 use Rattle.sq_binding.specs.Changeable.{ChangedTable, NumberedTarget, UserNames, changed_table, condition_bound, item_at_leaf, outside, target_over}
 use Rattle.sq_binding.specs.Condition.{must_agree, select_bound}

@@ -9,8 +9,8 @@ use Rattle.sq_meaning.specs.Spelled.{Named}
 use Rattle.sq_meaning.specs.Syntax.{Clause, Expr, SelectList, Select, column, all_columns, expressions, select}
 use Rattle.sq_meaning.specs.Tables.{Declared}
 use Rattle.sq_meaning.specs.Target.{are_distinct}
-use Rattle.sq_rules.specs.Privilege.{Privilege}
-use Rattle.sq_rules.specs.declared.fault.BindingFault.TheVariants as fault
+use Rattle.sq_meaning.specs.Privilege.{Privilege}
+use Rattle.sq_meaning.specs.declared.fault.BindingFault.TheVariants as fault
 use Rattle.sq_bound.specs.Known.{Under}
 use Rattle.sq_bound.specs.declared.condition.TablePlace.{TablePlace}
 use Rattle.sq_binding.specs.Condition.{clause_bound}

@@ -6,7 +6,7 @@ use Rattle.sq_meaning.specs.Rows.{SortColumn}
 use Rattle.sq_meaning.specs.Spelled.{Named, listed_if_any, query_of}
 use Rattle.sq_meaning.specs.Syntax.{Query, Select}
 use Rattle.sq_meaning.specs.Tables.{Declared}
-use Rattle.sq_rules.specs.WellFormed.{is_plain, only_specification}
+use Rattle.sq_meaning.specs.WellFormedStatement.{is_plain, only_specification}
 use Rattle.sq_tree.specs.declared.«module».SortSpecification.{SortSpecification}
 use Rattle.sq_binding.specs.Changeable.{NumberedUpdatable, UserNames, outside, updatable_bound}
 use Rattle.sq_binding.specs.Condition.{select_bound}

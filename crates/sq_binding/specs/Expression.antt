@@ -29,8 +29,8 @@ use Rattle.sq_meaning.specs.WellFormed.{is_text}
 use Rattle.sq_bound.specs.Expression.{PlacedExpr}
 use Rattle.sq_bound.specs.declared.expression.Operator.{Operator}
 use Rattle.sq_bound.specs.declared.expression.Operator.TheVariants as operator
-use Rattle.sq_rules.specs.Binding.{is_indicator_domain}
-use Rattle.sq_rules.specs.declared.fault.BindingFault.TheVariants as fault
+use Rattle.sq_meaning.specs.Binding.{is_indicator_domain}
+use Rattle.sq_meaning.specs.declared.fault.BindingFault.TheVariants as fault
 use Rattle.sq_binding.specs.Findings.{Findings, both, failing, none}
 use Rattle.sq_binding.specs.Numbered.{Numbered, tree_of}
 use Rattle.sq_binding.specs.Outcome.{Outcome, ◌>>=◌, or_fault}

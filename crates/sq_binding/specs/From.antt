@@ -3,8 +3,8 @@ use Rattle.std.specs.Prelude.{ℕ, Bool, false, not, List, map, length, Option}
 use Rattle.std.specs.List.{enumerate_from}
 use Rattle.sq_meaning.specs.Environment.{TableName, TableReference}
 use Rattle.sq_meaning.specs.Tables.{ColumnDescriptor}
-use Rattle.sq_rules.specs.Binding.{has_item_twice}
-use Rattle.sq_rules.specs.declared.fault.BindingFault.TheVariants as fault
+use Rattle.sq_meaning.specs.Binding.{has_item_twice}
+use Rattle.sq_meaning.specs.declared.fault.BindingFault.TheVariants as fault
 use Rattle.sq_bound.specs.Noted.{may_fail}
 use Rattle.sq_bound.specs.declared.condition.TablePlace.{TablePlace}
 use Rattle.sq_binding.specs.Findings.{none}

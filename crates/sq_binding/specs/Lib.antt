@@ -26,3 +26,17 @@ pub mod Statement
 pub mod Targets
 pub mod View
 pub mod Whole
+pub mod Catalog
+pub mod Column
+pub mod Declaring
+pub mod Grant
+pub mod Key
+pub mod ElementOutcome
+pub mod Position
+pub mod Reference
+pub mod Table
+pub mod CreateView
+pub mod Names
+pub mod SeenQuery
+pub mod There
+pub mod Written

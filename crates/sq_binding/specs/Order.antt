@@ -5,7 +5,7 @@ use Rattle.sq_lex.specs.declared.name.Name.{Name}
 use Rattle.sq_tree.specs.declared.«module».SortSpecification.{SortSpecification}
 use Rattle.sq_meaning.specs.Rows.{SortColumn}
 use Rattle.sq_meaning.specs.SortKeys.{goes_down, key_column}
-use Rattle.sq_rules.specs.declared.fault.BindingFault.TheVariants as fault
+use Rattle.sq_meaning.specs.declared.fault.BindingFault.TheVariants as fault
 use Rattle.sq_binding.specs.NumberedCondition.{ResultColumn}
 use Rattle.sq_binding.specs.Outcome.{Outcome, ◌>>=◌, or_fault}
 

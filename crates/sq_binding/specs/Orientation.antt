@@ -6,8 +6,8 @@ use Rattle.sq_tree.specs.declared.statement.Position.{Position}
 use Rattle.sq_tree.specs.declared.statement.Position.TheVariants as position
 use Rattle.sq_meaning.specs.Spelled.{has_point, signed_number}
 use Rattle.sq_meaning.specs.Tables.{Declared}
-use Rattle.sq_rules.specs.Binding.{is_whole_domain}
-use Rattle.sq_rules.specs.declared.fault.BindingFault.TheVariants as fault
+use Rattle.sq_meaning.specs.Binding.{is_whole_domain}
+use Rattle.sq_meaning.specs.declared.fault.BindingFault.TheVariants as fault
 use Rattle.sq_bound.specs.declared.statement.Distance.{Distance}
 use Rattle.sq_bound.specs.declared.statement.Distance.TheVariants as distance
 use Rattle.sq_bound.specs.declared.statement.FetchOrientation.{FetchOrientation}

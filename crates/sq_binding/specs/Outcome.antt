@@ -1,6 +1,6 @@
 -- A part of a text is bound, or has a fault: the first one in the order in which the text is read.
 use Rattle.std.specs.Prelude.{Option, Some, None, Result, Ok, Err}
-use Rattle.sq_rules.specs.declared.fault.BindingFault.{BindingFault}
+use Rattle.sq_meaning.specs.declared.fault.BindingFault.{BindingFault}
 
 abbrev pub Outcome : Type 0 → Type 0
 Outcome A = Result A BindingFault

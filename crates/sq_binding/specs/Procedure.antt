@@ -7,8 +7,8 @@ use Rattle.sq_lex.specs.declared.name.Name.{Name}
 use Rattle.sq_tree.specs.declared.«module».Cursor.{Cursor}
 use Rattle.sq_tree.specs.declared.«module».ModuleText.{ModuleText}
 use Rattle.sq_tree.specs.declared.«module».Procedure.{Procedure}
-use Rattle.sq_rules.specs.Module.{cursor_named, declared_parameters}
-use Rattle.sq_rules.specs.WellFormed.{opener_parameters}
+use Rattle.sq_meaning.specs.Module.{cursor_named, declared_parameters}
+use Rattle.sq_meaning.specs.WellFormedStatement.{opener_parameters}
 use Rattle.sq_binding.specs.Change.{NamedCursor, NamedCursors}
 use Rattle.sq_binding.specs.Changeable.{UserNames}
 use Rattle.sq_binding.specs.Cursor.{NumberedCursor, cursor_bound}

@@ -6,7 +6,7 @@ use Rattle.sq_meaning.specs.Kind.{common_kind}
 use Rattle.sq_meaning.specs.SortKeys.{common_name}
 use Rattle.sq_meaning.specs.Spelled.{Named}
 use Rattle.sq_meaning.specs.Syntax.{Query, specification, union}
-use Rattle.sq_rules.specs.declared.fault.BindingFault.TheVariants as fault
+use Rattle.sq_meaning.specs.declared.fault.BindingFault.TheVariants as fault
 use Rattle.sq_bound.specs.Query.{PlacedQuery}
 use Rattle.sq_binding.specs.Condition.{select_bound}
 use Rattle.sq_binding.specs.Found.{Binding, ◌>>=◌, ◌>>◌, each, must, outcome, pure}

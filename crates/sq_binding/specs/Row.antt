@@ -4,7 +4,7 @@ use Rattle.sq_tree.specs.declared.statement.Select.{Select as SelectStatement}
 use Rattle.sq_meaning.specs.Placed.{PlacedParameter}
 use Rattle.sq_meaning.specs.Spelled.{listed}
 use Rattle.sq_meaning.specs.Tables.{Declared}
-use Rattle.sq_rules.specs.WellFormed.{select_of_statement}
+use Rattle.sq_meaning.specs.WellFormedStatement.{select_of_statement}
 use Rattle.sq_binding.specs.Changeable.{UserNames, outside}
 use Rattle.sq_binding.specs.Condition.{select_bound}
 use Rattle.sq_binding.specs.Found.{Binding, ◌>>=◌, outcome, pure}

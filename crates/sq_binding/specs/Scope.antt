@@ -6,7 +6,7 @@ use Rattle.sq_lex.specs.declared.name.Name.{Name}
 use Rattle.sq_value.specs.declared.domain.Kind.{Kind}
 use Rattle.sq_tree.specs.declared.names.ColumnReference.{ColumnReference}
 use Rattle.sq_meaning.specs.Environment.{Item, Place, TableReference, fitting}
-use Rattle.sq_rules.specs.declared.fault.BindingFault.TheVariants as fault
+use Rattle.sq_meaning.specs.declared.fault.BindingFault.TheVariants as fault
 use Rattle.sq_binding.specs.Outcome.{Outcome, ◌>>=◌, or_fault}
 
 -- a column of an item: its name, its position in the rows that are read, and its kind

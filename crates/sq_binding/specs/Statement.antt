@@ -6,7 +6,7 @@ use Rattle.sq_tree.specs.declared.statement.Statement.TheVariants as statement
 use Rattle.sq_meaning.specs.Placed.{PlacedParameter}
 use Rattle.sq_meaning.specs.Spelled.{listed}
 use Rattle.sq_meaning.specs.Tables.{Declared}
-use Rattle.sq_rules.specs.WellFormed.{orientation_of}
+use Rattle.sq_meaning.specs.WellFormedStatement.{orientation_of}
 use Rattle.sq_bound.specs.declared.statement.FetchOrientation.{FetchOrientation}
 use Rattle.sq_binding.specs.Change.{NamedCursors, NumberedChange, NumberedInsert, NumberedUpdate, cursor_named, delete_bound, insert_bound, update_bound}
 use Rattle.sq_binding.specs.Changeable.{UserNames}

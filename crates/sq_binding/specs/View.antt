@@ -5,7 +5,7 @@ use Rattle.sq_meaning.specs.Environment.{TableName}
 use Rattle.sq_meaning.specs.Spelled.{Named}
 use Rattle.sq_meaning.specs.Syntax.{Cond, Select}
 use Rattle.sq_meaning.specs.Tables.{ColumnDescriptor}
-use Rattle.sq_rules.specs.declared.fault.BindingFault.{BindingFault}
+use Rattle.sq_meaning.specs.declared.fault.BindingFault.{BindingFault}
 use Rattle.sq_binding.specs.Changeable.{NumberedUpdatable, UserNames, outside, updatable_bound}
 use Rattle.sq_binding.specs.Condition.{cond_bound, select_bound}
 use Rattle.sq_binding.specs.Cursor.{behind}

@@ -1,7 +1,7 @@
 -- What is bound by itself, in no query: its subqueries are numbered from 0, and a missing privilege is a fault where there is no other.
 use Rattle.std.specs.Prelude.{Bool, false, not, if◌then◌else◌, Ok, Err}
-use Rattle.sq_rules.specs.declared.fault.BindingFault.{BindingFault}
-use Rattle.sq_rules.specs.declared.fault.BindingFault.TheVariants as fault
+use Rattle.sq_meaning.specs.declared.fault.BindingFault.{BindingFault}
+use Rattle.sq_meaning.specs.declared.fault.BindingFault.TheVariants as fault
 use Rattle.sq_binding.specs.Findings.{none}
 use Rattle.sq_binding.specs.Found.{Binding, Counts, Found}
 use Rattle.sq_binding.specs.Outcome.{Outcome, and_then}

@@ -4,10 +4,10 @@ use Rattle.std.proofs.lemmas.List.{drop_all, drop_more}
 use Rattle.std.specs.List.{enumerate_from}
 use Rattle.sq_tree.specs.declared.schema.SchemaDefinition.{SchemaDefinition}
 use Rattle.sq_tree.specs.declared.schema.SchemaElement.{SchemaElement}
-use Rattle.sq_rules.specs.SchemaRefusal.{Part, SchemaRefusal, parts_of_schema}
-use Rattle.sq_declaring.specs.Catalog.{Catalog}
-use Rattle.sq_declaring.specs.Declaring.{then_parts, with_element, with_part, with_parts, with_user}
-use Rattle.sq_declaring.specs.Outcome.{Outcome}
+use Rattle.sq_meaning.specs.SchemaRefusal.{Part, SchemaRefusal, parts_of_schema}
+use Rattle.sq_binding.specs.Catalog.{Catalog}
+use Rattle.sq_binding.specs.Declaring.{then_parts, with_element, with_part, with_parts, with_user}
+use Rattle.sq_binding.specs.ElementOutcome.{Outcome}
 use Rattle.sq_catalog.specs.Exact.{StopsAt}
 use Rattle.sq_catalog.specs.Fault.{Stops, placed}
 use Rattle.sq_catalog.specs.declared.fault.CatalogFault.{CatalogFault}

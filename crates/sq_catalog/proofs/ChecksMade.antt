@@ -12,10 +12,10 @@ use Rattle.sq_bound.specs.declared.names.Column.{Column}
 use Rattle.sq_binding.specs.NumberedCondition.{NumberedCond}
 use Rattle.sq_binding.specs.Seen.{cond_seen}
 use Rattle.sq_binding.specs.View.{CheckFault, check_bound}
-use Rattle.sq_declaring.specs.Outcome.{Outcome, and_then, each}
-use Rattle.sq_declaring.specs.Table.{or_bad_check}
-use Rattle.sq_promises.specs.Names.{descriptor_of}
-use Rattle.sq_promises.proofs.Checks.{check_is_written, check_stands}
+use Rattle.sq_binding.specs.ElementOutcome.{Outcome, and_then, each}
+use Rattle.sq_binding.specs.Table.{or_bad_check}
+use Rattle.sq_binding.specs.Names.{descriptor_of}
+use Rattle.sq_binding.proofs.Checks.{check_is_written, check_stands}
 use Rattle.sq_catalog.specs.Checks.{AreChecksOf, check_over}
 use Rattle.sq_catalog.specs.Exact.{name_in}
 use Rattle.sq_catalog.specs.Stored.{AreChecksAt}

@@ -6,7 +6,7 @@ use Rattle.std.specs.List.{list_any}
 use Rattle.std.proofs.lemmas.Cmp.{nat_list_eq_equiv}
 use Rattle.sq_lex.specs.declared.name.Name.{Name}
 use Rattle.sq_meaning.specs.Environment.{same_name}
-use Rattle.sq_rules.specs.Schema.{has_name_twice, is_among}
+use Rattle.sq_meaning.specs.Schema.{has_name_twice, is_among}
 
 -- one of the names is among those that are seen, or stands twice
 abbrev pub twice_behind : List Name → List Name → Bool

@@ -9,8 +9,8 @@ use Rattle.std.specs.Result.{OnOk}
 use Rattle.std.proofs.lemmas.Cmp.{nat_list_eq_equiv}
 use Rattle.sq_lex.specs.declared.name.Name.{Name}
 use Rattle.sq_meaning.specs.Environment.{TableName, same_table}
-use Rattle.sq_rules.specs.SchemaRefusal.{same_user}
-use Rattle.sq_rules.specs.declared.refusal.SchemaFault.TheVariants as fault
+use Rattle.sq_meaning.specs.SchemaRefusal.{same_user}
+use Rattle.sq_meaning.specs.declared.refusal.SchemaFault.TheVariants as fault
 use Rattle.sq_bound.specs.Fits.{IsBase}
 use Rattle.sq_bound.specs.WellFormed.{place_of}
 use Rattle.sq_bound.specs.declared.condition.TablePlace.TheVariants.{Base, View}
@@ -18,12 +18,12 @@ use Rattle.sq_bound.specs.declared.names.BaseTable.{BaseTable}
 use Rattle.sq_bound.specs.declared.names.TableBody.{TableBody}
 use Rattle.sq_bound.specs.declared.names.TableBody.TheVariants as body
 use Rattle.sq_bound.specs.declared.names.TableDesc.{TableDesc}
-use Rattle.sq_declaring.specs.Catalog as definition
-use Rattle.sq_declaring.specs.Catalog.{DeclaredBase, DeclaredView, Entry, Grant, entry}
-use Rattle.sq_declaring.specs.Catalog.{table_count}
-use Rattle.sq_declaring.specs.Outcome.{Outcome, and_then, refused_if}
-use Rattle.sq_declaring.specs.Table.{has_place, most_tables, with_base}
-use Rattle.sq_declaring.proofs.Names.{table_same}
+use Rattle.sq_binding.specs.Catalog as definition
+use Rattle.sq_binding.specs.Catalog.{DeclaredBase, DeclaredView, Entry, Grant, entry}
+use Rattle.sq_binding.specs.Catalog.{table_count}
+use Rattle.sq_binding.specs.ElementOutcome.{Outcome, and_then, refused_if}
+use Rattle.sq_binding.specs.Table.{has_place, most_tables, with_base}
+use Rattle.sq_binding.proofs.Names.{table_same}
 use Rattle.sq_catalog.specs.Catalog.{Catalog, is_table}
 use Rattle.sq_catalog.specs.Exact.{base_declared, base_in, bases_declared, declared, described, entry_declared, entry_with, name_in, view_declared, view_in, views_declared}
 use Rattle.sq_catalog.specs.Fault.{Passes}

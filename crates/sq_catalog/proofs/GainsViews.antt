@@ -17,9 +17,9 @@ use Rattle.sq_bound.specs.declared.names.Column.{Column}
 use Rattle.sq_bound.specs.declared.names.TableBody.{TableBody}
 use Rattle.sq_bound.specs.declared.names.TableBody.TheVariants as body
 use Rattle.sq_bound.specs.declared.names.TableDesc.{TableDesc}
-use Rattle.sq_declaring.proofs.Made.{zip_weaker}
-use Rattle.sq_promises.specs.Names.{outside}
-use Rattle.sq_promises.proofs.MoreKnown.{names_stay, select_stays, updatable_stays}
+use Rattle.sq_binding.proofs.Made.{zip_weaker}
+use Rattle.sq_binding.specs.Names.{outside}
+use Rattle.sq_binding.proofs.MoreKnown.{names_stay, select_stays, updatable_stays}
 use Rattle.sq_catalog.specs.Catalog.{Catalog, IsNewName, SeenView, column_kinds, known, meant}
 use Rattle.sq_catalog.specs.Stored.{IsNextView, IsViewOver, columns_of, queries_of, query_in, seen, seen_of}
 use Rattle.sq_catalog.specs.Views.{AddsViews, GainsViews, HasNamesOf, HasQueryKinds, HasQueryOf, IsSeenAs, IsUnderView, IsViewOf, WrittenView, column_names, names_written, view_name}

@@ -5,11 +5,11 @@ use Rattle.sq_lex.specs.declared.name.Name.{Name}
 use Rattle.sq_tree.specs.declared.schema.GrantStatement.{GrantStatement}
 use Rattle.sq_meaning.specs.Environment.{TableName}
 use Rattle.sq_meaning.specs.Spelled.{table_of}
-use Rattle.sq_rules.specs.declared.refusal.SchemaFault.TheVariants as fault
-use Rattle.sq_declaring.specs.Catalog as definition
-use Rattle.sq_declaring.specs.Catalog.{DeclaredBase, DeclaredView, Entry, entry, entry_column_names, may, with_grants}
-use Rattle.sq_declaring.specs.Grant.{declared_grants, grants_on, with_granted}
-use Rattle.sq_declaring.specs.Outcome.{Outcome, and_then, or_fault}
+use Rattle.sq_meaning.specs.declared.refusal.SchemaFault.TheVariants as fault
+use Rattle.sq_binding.specs.Catalog as definition
+use Rattle.sq_binding.specs.Catalog.{DeclaredBase, DeclaredView, Entry, entry, entry_column_names, may, with_grants}
+use Rattle.sq_binding.specs.Grant.{declared_grants, grants_on, with_granted}
+use Rattle.sq_binding.specs.ElementOutcome.{Outcome, and_then, or_fault}
 use Rattle.sq_catalog.specs.Fault.{Makes}
 use Rattle.sq_catalog.specs.declared.fault.ElementFault.{ElementFault}
 use Rattle.sq_catalog.specs.declared.fault.ElementFault.TheVariants as element

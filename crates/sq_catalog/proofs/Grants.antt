@@ -7,10 +7,10 @@ use Rattle.std.specs.Bool.{beq}
 use Rattle.std.specs.Prelude.{if◌then◌else◌}
 use Rattle.sq_lex.specs.declared.name.Name.{Name}
 use Rattle.sq_meaning.specs.Environment.{TableName, same_name, same_table}
-use Rattle.sq_rules.specs.Privilege as rules
-use Rattle.sq_declaring.specs.Catalog as definition
-use Rattle.sq_declaring.specs.Catalog.{gives, same_grant, same_holder, same_option, same_privilege, with_grant}
-use Rattle.sq_declaring.proofs.GrantsAdded.{by_name_or_public}
+use Rattle.sq_meaning.specs.Privilege as rules
+use Rattle.sq_binding.specs.Catalog as definition
+use Rattle.sq_binding.specs.Catalog.{gives, same_grant, same_holder, same_option, same_privilege, with_grant}
+use Rattle.sq_binding.proofs.GrantsAdded.{by_name_or_public}
 use Rattle.indexmap.specs.IndexSet.{insert_key}
 use Rattle.sq_catalog.specs.Exact.{name_in}
 use Rattle.sq_catalog.specs.Held.{grant_seen, privilege_of}

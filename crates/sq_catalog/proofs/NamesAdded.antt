@@ -1,9 +1,9 @@
 -- Names that are added one by one, none of them twice.
 use Rattle.std.proofs.Common.{◌≡◌, Bool, true, false, List, [], ◌∷◌, ◌++◌, Ok, Err, refl, sym, ap, ◌∙◌}
 use Rattle.sq_lex.specs.declared.name.Name.{Name}
-use Rattle.sq_rules.specs.Schema.{has_name_twice, is_among}
-use Rattle.sq_rules.specs.declared.refusal.SchemaFault.TheVariants as fault
-use Rattle.sq_declaring.specs.Outcome.{and_then, refused_if}
+use Rattle.sq_meaning.specs.Schema.{has_name_twice, is_among}
+use Rattle.sq_meaning.specs.declared.refusal.SchemaFault.TheVariants as fault
+use Rattle.sq_binding.specs.ElementOutcome.{and_then, refused_if}
 use Rattle.sq_catalog.specs.Exact.{name_added}
 use Rattle.sq_catalog.specs.Fault.{Stops}
 use Rattle.sq_catalog.specs.declared.fault.ElementFault.{ElementFault}

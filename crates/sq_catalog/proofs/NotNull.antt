@@ -2,9 +2,9 @@
 use Rattle.std.proofs.Common.{◌≡◌, ℕ, zero, suc, Bool, true, false, not, ◌&&◌, List, [], ◌∷◌, map, refl}
 use Rattle.std.specs.List.{list_all, list_any}
 use Rattle.sq_bound.specs.NotNull.{are_not_null, is_not_null}
-use Rattle.sq_declaring.specs.Column.{refuses_null}
-use Rattle.sq_declaring.specs.Key.{has_nullable, is_nullable_at}
-use Rattle.sq_declaring.proofs.Names.{none_of}
+use Rattle.sq_binding.specs.Column.{refuses_null}
+use Rattle.sq_binding.specs.Key.{has_nullable, is_nullable_at}
+use Rattle.sq_binding.proofs.Names.{none_of}
 use Rattle.sq_catalog.specs.Table.{typed_seen, written_not_null}
 use Rattle.sq_catalog.specs.declared.typed.TypedColumn.{TypedColumn}
 

@@ -23,7 +23,7 @@ use Rattle.sq_bound.specs.declared.names.Reference.{Reference}
 use Rattle.sq_bound.specs.declared.names.TableBody.{TableBody}
 use Rattle.sq_bound.specs.declared.names.TableBody.TheVariants as body
 use Rattle.sq_bound.specs.declared.names.TableDesc.{TableDesc}
-use Rattle.sq_declaring.proofs.Made.{zip_weaker}
+use Rattle.sq_binding.proofs.Made.{zip_weaker}
 use Rattle.sq_catalog.specs.Catalog.{Adds, Catalog, HaveReferences, IsNewName, is_table, named_by, number_meant, table_number}
 use Rattle.sq_catalog.specs.Columns.{AreColumnsOf, HasColumnsOf, IsColumnOf, columns_written}
 use Rattle.sq_catalog.specs.Keys.{StandAt, names_written}

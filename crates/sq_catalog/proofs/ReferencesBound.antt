@@ -16,9 +16,9 @@ use Rattle.sq_value.specs.declared.domain.Kind.{Kind}
 use Rattle.sq_meaning.specs.Environment.{TableName, same_table}
 use Rattle.sq_meaning.specs.Spelled.{table_of}
 use Rattle.sq_meaning.specs.Tables.{ColumnDescriptor}
-use Rattle.sq_rules.specs.Privilege.{Privilege}
-use Rattle.sq_rules.specs.Words.{is_none_or}
-use Rattle.sq_rules.specs.declared.refusal.SchemaFault.TheVariants as fault
+use Rattle.sq_meaning.specs.Privilege.{Privilege}
+use Rattle.sq_meaning.specs.Words.{is_none_or}
+use Rattle.sq_meaning.specs.declared.refusal.SchemaFault.TheVariants as fault
 use Rattle.sq_bound.specs.WellFormed.{IsTable, base_kinds, kinds_of_columns, place_of}
 use Rattle.sq_bound.specs.declared.names.BaseColumn.{BaseColumn}
 use Rattle.sq_bound.specs.declared.names.BaseTable.{BaseTable}
@@ -27,13 +27,13 @@ use Rattle.sq_bound.specs.declared.names.Reference.{Reference}
 use Rattle.sq_bound.specs.declared.names.TableBody.{TableBody}
 use Rattle.sq_bound.specs.declared.names.TableBody.TheVariants as body
 use Rattle.sq_bound.specs.declared.names.TableDesc.{TableDesc}
-use Rattle.sq_declaring.specs.Catalog as declaring
-use Rattle.sq_declaring.specs.Catalog.{DeclaredColumn, Entry, column_descriptor, entry, entry_column_names, may}
-use Rattle.sq_declaring.specs.Outcome.{Outcome, and_then, or_fault}
-use Rattle.sq_declaring.specs.Position.{positions_of}
-use Rattle.sq_declaring.specs.Reference as definition
-use Rattle.sq_declaring.specs.Reference.{BoundReference, ReferencedKey, ReferencedTable, are_paired, earlier_table, paired_reference, positions_listed, reference_to}
-use Rattle.sq_promises.specs.Names.{descriptor_of}
+use Rattle.sq_binding.specs.Catalog as declaring
+use Rattle.sq_binding.specs.Catalog.{DeclaredColumn, Entry, column_descriptor, entry, entry_column_names, may}
+use Rattle.sq_binding.specs.ElementOutcome.{Outcome, and_then, or_fault}
+use Rattle.sq_binding.specs.Position.{positions_of}
+use Rattle.sq_binding.specs.Reference as definition
+use Rattle.sq_binding.specs.Reference.{BoundReference, ReferencedKey, ReferencedTable, are_paired, earlier_table, paired_reference, positions_listed, reference_to}
+use Rattle.sq_binding.specs.Names.{descriptor_of}
 use Rattle.sq_catalog.specs.Catalog.{Catalog, base_there, column_kinds}
 use Rattle.sq_catalog.specs.Exact.{column_declared, entry_declared, entry_with, names_in as column_names}
 use Rattle.sq_catalog.specs.Fault.{Makes, Stops}

@@ -9,8 +9,8 @@ use Rattle.sq_catalog.specs.declared.catalog.FullName.{FullName}
 use Rattle.sq_bound.specs.declared.names.TableBody.{TableBody}
 use Rattle.sq_bound.specs.declared.names.TableBody.TheVariants as body
 use Rattle.sq_bound.specs.declared.names.TableDesc.{TableDesc}
-use Rattle.sq_declaring.specs.Catalog.{column_descriptor, entry_column_names}
-use Rattle.sq_promises.specs.Names.{descriptor_of}
+use Rattle.sq_binding.specs.Catalog.{column_descriptor, entry_column_names}
+use Rattle.sq_binding.specs.Names.{descriptor_of}
 use Rattle.sq_catalog.specs.Exact.{column_declared, entry_declared, entry_with, names_in}
 use Rattle.sq_catalog.specs.Stored.{IsBody, IsStored}
 

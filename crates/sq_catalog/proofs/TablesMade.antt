@@ -10,9 +10,9 @@ use Rattle.sq_tree.specs.declared.schema.ColumnDefinition.{ColumnDefinition}
 use Rattle.sq_tree.specs.declared.schema.TableDefinition.{TableDefinition}
 use Rattle.sq_meaning.specs.Spelled.{table_of}
 use Rattle.sq_meaning.specs.Tables.{ColumnDescriptor}
-use Rattle.sq_rules.specs.Schema as rules
-use Rattle.sq_rules.specs.Schema.{column_definitions, table_columns, table_references}
-use Rattle.sq_rules.specs.declared.refusal.SchemaFault.TheVariants as fault
+use Rattle.sq_meaning.specs.Schema as rules
+use Rattle.sq_meaning.specs.Schema.{column_definitions, table_columns, table_references}
+use Rattle.sq_meaning.specs.declared.refusal.SchemaFault.TheVariants as fault
 use Rattle.sq_bound.specs.WellFormed.{base_kinds, kinds_of_columns}
 use Rattle.sq_bound.specs.declared.condition.BoundCond.{BoundCond}
 use Rattle.sq_bound.specs.declared.names.BaseColumn.{BaseColumn}
@@ -22,17 +22,17 @@ use Rattle.sq_bound.specs.declared.names.Reference.{Reference}
 use Rattle.sq_bound.specs.declared.names.TableDesc.{TableDesc}
 use Rattle.sq_binding.specs.NumberedCondition.{NumberedCond}
 use Rattle.sq_binding.specs.Seen.{cond_seen}
-use Rattle.sq_declaring.specs.Catalog.{Catalog, DeclaredBase, DeclaredColumn}
-use Rattle.sq_declaring.specs.Column as column
-use Rattle.sq_declaring.specs.Column.{declared_column, typed_column}
-use Rattle.sq_declaring.specs.Key.{has_nullable, is_bad_list, primary_place}
-use Rattle.sq_declaring.specs.Outcome.{Outcome, and_then, each, refused_if}
-use Rattle.sq_declaring.specs.Position.{positions_of}
-use Rattle.sq_declaring.specs.Reference.{BoundReference, ReferencedTable, bound_reference, found_reference}
-use Rattle.sq_declaring.specs.Reference as reference
-use Rattle.sq_declaring.specs.Table as definition
-use Rattle.sq_declaring.specs.Table.{create_table, drafted, drafted_table, has_bad_lists, is_taken, own_table, typed_descriptor, with_base}
-use Rattle.sq_promises.specs.Names.{descriptor_of}
+use Rattle.sq_binding.specs.Catalog.{Catalog, DeclaredBase, DeclaredColumn}
+use Rattle.sq_binding.specs.Column as column
+use Rattle.sq_binding.specs.Column.{declared_column, typed_column}
+use Rattle.sq_binding.specs.Key.{has_nullable, is_bad_list, primary_place}
+use Rattle.sq_binding.specs.ElementOutcome.{Outcome, and_then, each, refused_if}
+use Rattle.sq_binding.specs.Position.{positions_of}
+use Rattle.sq_binding.specs.Reference.{BoundReference, ReferencedTable, bound_reference, found_reference}
+use Rattle.sq_binding.specs.Reference as reference
+use Rattle.sq_binding.specs.Table as definition
+use Rattle.sq_binding.specs.Table.{create_table, drafted, drafted_table, has_bad_lists, is_taken, own_table, typed_descriptor, with_base}
+use Rattle.sq_binding.specs.Names.{descriptor_of}
 use Rattle.sq_catalog.specs.Checks.{check_over, checks_written}
 use Rattle.sq_catalog.specs.Columns.{columns_written}
 use Rattle.sq_catalog.specs.Draft.{IsBaseFor, IsDraftOf, draft_seen}

@@ -2,7 +2,7 @@
 use Rattle.std.proofs.Common.{◌≡◌, ℕ, ◌+◌, ◌<◌, ◌≤◌, List, [], ◌∷◌, ◌++◌, length, get_or, take, drop, map, Result, Ok, Err, IfOk, refl, ap, sym, subst, ◌∙◌}
 use Rattle.std.proofs.lemmas.List.{append_assoc, map-append, take-append-drop, take_all, take_more}
 use Rattle.std.specs.Result.{IfErr, IsErrAnd, OnOk}
-use Rattle.sq_declaring.specs.Outcome.{Outcome, and_then, each}
+use Rattle.sq_binding.specs.ElementOutcome.{Outcome, and_then, each}
 use Rattle.sq_catalog.specs.Fault.{Makes, Stops}
 use Rattle.sq_bound.specs.Parts.{IsFaultOf}
 use Rattle.sq_catalog.specs.declared.fault.ElementFault.{ElementFault}

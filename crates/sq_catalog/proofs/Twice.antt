@@ -11,10 +11,10 @@ use Rattle.sq_lex.specs.declared.name.Name.{Name}
 use Rattle.sq_tree.specs.declared.schema.ColumnDefinition.{ColumnDefinition}
 use Rattle.sq_meaning.specs.Environment.{same_name}
 use Rattle.sq_meaning.specs.Target.{are_distinct}
-use Rattle.sq_rules.specs.Schema.{has_name_twice, is_among}
-use Rattle.sq_rules.specs.Words.{has_twice}
-use Rattle.sq_rules.specs.declared.refusal.SchemaFault.TheVariants.{NameTwice}
-use Rattle.sq_declaring.specs.Outcome.{and_then, refused_if}
+use Rattle.sq_meaning.specs.Schema.{has_name_twice, is_among}
+use Rattle.sq_meaning.specs.Words.{has_twice}
+use Rattle.sq_meaning.specs.declared.refusal.SchemaFault.TheVariants.{NameTwice}
+use Rattle.sq_binding.specs.ElementOutcome.{and_then, refused_if}
 use Rattle.sq_catalog.specs.Exact.{name_added}
 use Rattle.sq_catalog.specs.Fault.{Stops}
 use Rattle.sq_catalog.specs.Written.{definitions_lent}

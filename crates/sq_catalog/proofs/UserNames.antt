@@ -13,7 +13,7 @@ use Rattle.sq_value.specs.declared.domain.Kind.{Kind}
 use Rattle.sq_meaning.specs.Environment.{TableName}
 use Rattle.sq_meaning.specs.Status.{well_formed}
 use Rattle.sq_meaning.specs.Target.{places_of}
-use Rattle.sq_rules.specs.Privilege.{Privilege}
+use Rattle.sq_meaning.specs.Privilege.{Privilege}
 use Rattle.sq_bound.specs.Known.{KnownTable, known_by, under_of}
 use Rattle.sq_bound.specs.WellFormed.{IsTable, base_kinds, kinds_of_columns, place_of}
 use Rattle.sq_bound.specs.declared.condition.TablePlace.{TablePlace}
@@ -27,12 +27,12 @@ use Rattle.sq_bound.specs.declared.names.TableBody.TheVariants as body
 use Rattle.sq_bound.specs.declared.names.TableDesc.{TableDesc}
 use Rattle.sq_binding.proofs.Known.{within}
 use Rattle.sq_binding.specs.Changeable.{UnderTable}
-use Rattle.sq_declaring.specs.Catalog as definition
-use Rattle.sq_declaring.specs.Catalog.{Entry, column_descriptor, entry_columns, entry_place, entry_under, may, names_of}
-use Rattle.sq_cursor_binder.specs.Names as binder
-use Rattle.sq_promises.specs.Names.{NamesMean, Stands, descriptor_of}
-use Rattle.sq_promises.specs.Names as promises
-use Rattle.sq_promises.proofs.Named.{described_stands}
+use Rattle.sq_binding.specs.Catalog as definition
+use Rattle.sq_binding.specs.Catalog.{Entry, column_descriptor, entry_columns, entry_place, entry_under, may, names_of}
+use Rattle.sq_binder.specs.Names as binder
+use Rattle.sq_binding.specs.Names.{NamesMean, Stands, descriptor_of}
+use Rattle.sq_binding.specs.Names as promises
+use Rattle.sq_binding.proofs.Named.{described_stands}
 use Rattle.sq_catalog.specs.Catalog.{Catalog, base_meant, column_kinds, is_table, itself, known, known_at, known_first, table_number, view_meant}
 use Rattle.sq_catalog.specs.Exact.{base_declared, column_declared, declared, described, entry_declared, entry_with, names_in as column_names, under_declared}
 use Rattle.sq_catalog.specs.Stored.{AreStored, AreTables, HasOwnPlaces, IsBody, IsStored, IsUnderItself, StandFrom, columns_of, seen_of}

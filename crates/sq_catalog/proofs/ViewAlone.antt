@@ -15,10 +15,10 @@ use Rattle.sq_binding.specs.Outcome as binding
 use Rattle.sq_binding.specs.Select.{Surroundings}
 use Rattle.sq_binding.specs.View.{NumberedView, view_bound, view_of}
 use Rattle.sq_binding.specs.Whole.{at_first}
-use Rattle.sq_declaring.specs.Outcome.{and_then}
-use Rattle.sq_declaring.specs.View.{or_bad_view}
-use Rattle.sq_cursor_binder.specs.View.{view_seen}
-use Rattle.sq_cursor_binder.specs.declared.view.BoundView.{BoundView}
+use Rattle.sq_binding.specs.ElementOutcome.{and_then}
+use Rattle.sq_binding.specs.CreateView.{or_bad_view}
+use Rattle.sq_binder.specs.View.{view_seen}
+use Rattle.sq_binder.specs.declared.view.BoundView.{BoundView}
 use Rattle.sq_catalog.specs.Fault.{Makes, Stops}
 use Rattle.sq_catalog.specs.UserTables.{without_conditions, without_conditions_under}
 use Rattle.sq_catalog.specs.ViewMade.{over_alone, view_alone, view_found}

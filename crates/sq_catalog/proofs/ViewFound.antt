@@ -7,7 +7,7 @@ use Rattle.sq_lex.specs.declared.name.Name.{Name}
 use Rattle.sq_tree.specs.declared.schema.ViewDefinition.{ViewDefinition}
 use Rattle.sq_meaning.specs.Environment.{TableName}
 use Rattle.sq_meaning.specs.Spelled.{select_of}
-use Rattle.sq_rules.specs.Privilege.{Privilege}
+use Rattle.sq_meaning.specs.Privilege.{Privilege}
 use Rattle.sq_bound.specs.Fits.{IsBase}
 use Rattle.sq_bound.specs.Known.{under_of}
 use Rattle.sq_bound.specs.declared.names.Leaf.{Leaf}
@@ -19,12 +19,12 @@ use Rattle.sq_binding.specs.Seen.{cond_seen}
 use Rattle.sq_binding.specs.View.{view_bound}
 use Rattle.sq_binder.specs.Binds.{Binds}
 use Rattle.sq_binder.specs.declared.stop.Stop.{Stop}
-use Rattle.sq_declaring.specs.Catalog.{entry, entry_under, itself as declared_itself, may}
-use Rattle.sq_promises.proofs.Views.{IsViewBound, view_fits, view_is_written, view_names, view_over, view_stands, view_updatable}
-use Rattle.sq_promises.specs.Seen.{table_named}
-use Rattle.sq_cursor_binder.specs.Names.{Beneath, IsUnder}
-use Rattle.sq_cursor_binder.specs.View.{view_seen}
-use Rattle.sq_cursor_binder.specs.declared.view.BoundView.{BoundView}
+use Rattle.sq_binding.specs.Catalog.{entry, entry_under, itself as declared_itself, may}
+use Rattle.sq_binding.proofs.Views.{IsViewBound, view_fits, view_is_written, view_names, view_over, view_stands, view_updatable}
+use Rattle.sq_binding.specs.SeenQuery.{table_named}
+use Rattle.sq_binder.specs.Names.{Beneath, IsUnder}
+use Rattle.sq_binder.specs.View.{view_seen}
+use Rattle.sq_binder.specs.declared.view.BoundView.{BoundView}
 use Rattle.sq_catalog.specs.Catalog.{Catalog, column_kinds, itself, known}
 use Rattle.sq_catalog.specs.Exact.{base_declared, declared, described, entry_declared, entry_with, under_declared}
 use Rattle.sq_catalog.specs.Stored.{IsStored, IsUnderItself}

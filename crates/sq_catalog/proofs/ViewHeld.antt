@@ -11,7 +11,7 @@ use Rattle.std.specs.Result.{OnOk}
 use Rattle.sq_lex.specs.declared.name.Name.{Name}
 use Rattle.sq_meaning.specs.Environment.{TableName}
 use Rattle.sq_meaning.specs.Tables.{ColumnDescriptor}
-use Rattle.sq_rules.specs.Privilege.{Privilege}
+use Rattle.sq_meaning.specs.Privilege.{Privilege}
 use Rattle.sq_bound.specs.declared.condition.BoundSpecification.{out-BoundSpecification}
 use Rattle.sq_bound.specs.declared.expression.BoundExpr.{BoundExpr}
 use Rattle.sq_bound.specs.declared.expression.BoundExpr.TheVariants as bound
@@ -26,18 +26,18 @@ use Rattle.sq_binding.specs.Changeable.{shown_of}
 use Rattle.sq_binding.specs.Numbered.{Numbered}
 use Rattle.sq_binding.specs.Seen.{numbered_of, operation_of, select_seen}
 use Rattle.sq_binder.proofs.Images.{numbered_of-Operations, operation_of-out}
-use Rattle.sq_declaring.specs.Catalog as definition
-use Rattle.sq_declaring.specs.Catalog.{entry, entry_column_names}
-use Rattle.sq_declaring.specs.View.{column_shown, followed, grants_over, names_underneath, owner_grants, updates, view_grants}
-use Rattle.sq_promises.specs.Names.{descriptor_of}
+use Rattle.sq_binding.specs.Catalog as definition
+use Rattle.sq_binding.specs.Catalog.{entry, entry_column_names}
+use Rattle.sq_binding.specs.CreateView.{column_shown, followed, grants_over, names_underneath, owner_grants, updates, view_grants}
+use Rattle.sq_binding.specs.Names.{descriptor_of}
 use Rattle.sq_catalog.specs.Exact.{column_declared, entry_with, name_in, names_in}
 use Rattle.sq_catalog.specs.Held.{grant_seen}
 use Rattle.sq_catalog.specs.Stored.{IsBody}
 use Rattle.sq_catalog.specs.ViewGrants.{HoldsMore, all_followed, followed_over, updates_over}
-use Rattle.sq_promises.specs.Seen.{updatable_seen}
+use Rattle.sq_binding.specs.SeenQuery.{updatable_seen}
 use Rattle.sq_bound.specs.declared.query.UpdatableQuery.{UpdatableQuery}
-use Rattle.sq_cursor_binder.specs.declared.view.BoundView.{BoundView}
-use Rattle.sq_cursor_binder.proofs.Updatables.{shown_is}
+use Rattle.sq_binder.specs.declared.view.BoundView.{BoundView}
+use Rattle.sq_binder.proofs.Updatables.{shown_is}
 use Rattle.sq_catalog.specs.ViewMade.{over_alone, view_found}
 use Rattle.sq_catalog.specs.declared.catalog.FullName.{FullName}
 use Rattle.sq_catalog.specs.declared.held.Grant.{Grant}

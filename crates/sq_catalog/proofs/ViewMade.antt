@@ -8,7 +8,7 @@ use Rattle.sq_lex.specs.declared.name.Name.{Name}
 use Rattle.sq_tree.specs.declared.schema.ViewDefinition.{ViewDefinition}
 use Rattle.sq_meaning.specs.Environment.{TableName}
 use Rattle.sq_meaning.specs.Spelled.{listed, select_of, table_of}
-use Rattle.sq_rules.specs.declared.refusal.SchemaFault.TheVariants as fault
+use Rattle.sq_meaning.specs.declared.refusal.SchemaFault.TheVariants as fault
 use Rattle.sq_bound.specs.WellFormed.{kinds_of_columns, kinds_of_select, place_of}
 use Rattle.sq_bound.specs.declared.condition.BoundCond.{BoundCond}
 use Rattle.sq_bound.specs.declared.condition.BoundSpecification.{BoundSpecification, out-BoundSpecification}
@@ -24,15 +24,15 @@ use Rattle.sq_binding.proofs.SeenLevels.{columns_seen}
 use Rattle.sq_binding.specs.NumberedCondition.{columns_of}
 use Rattle.sq_binding.specs.Seen.{clause_if, column_of, cond_seen, select_seen}
 use Rattle.sq_binding.specs.View.{NumberedView, view_bound}
-use Rattle.sq_declaring.specs.Catalog as definition
-use Rattle.sq_declaring.specs.Catalog.{names_of, with_grants}
-use Rattle.sq_declaring.specs.Outcome.{Outcome, and_then, refused_if}
-use Rattle.sq_declaring.specs.Table.{has_place, is_taken}
-use Rattle.sq_declaring.specs.View as spec
-use Rattle.sq_declaring.specs.View.{NewView, above, column_names, create_view, declared_view, lists_twice, new_view, or_bad_view, view_columns, view_grants, view_under, with_view}
-use Rattle.sq_promises.specs.Names.{descriptor_of}
-use Rattle.sq_promises.specs.Seen.{table_named, updatable_seen}
-use Rattle.sq_cursor_binder.specs.declared.view.BoundView.{BoundView}
+use Rattle.sq_binding.specs.Catalog as definition
+use Rattle.sq_binding.specs.Catalog.{names_of, with_grants}
+use Rattle.sq_binding.specs.ElementOutcome.{Outcome, and_then, refused_if}
+use Rattle.sq_binding.specs.Table.{has_place, is_taken}
+use Rattle.sq_binding.specs.CreateView as spec
+use Rattle.sq_binding.specs.CreateView.{NewView, above, column_names, create_view, declared_view, lists_twice, new_view, or_bad_view, view_columns, view_grants, view_under, with_view}
+use Rattle.sq_binding.specs.Names.{descriptor_of}
+use Rattle.sq_binding.specs.SeenQuery.{table_named, updatable_seen}
+use Rattle.sq_binder.specs.declared.view.BoundView.{BoundView}
 use Rattle.sq_catalog.specs.Catalog.{Catalog, column_kinds}
 use Rattle.sq_catalog.specs.Exact.{bases_declared, declared, name_in, under_declared, view_in, views_declared, with_view_entry}
 use Rattle.sq_catalog.specs.Fault.{Makes, Passes, Stops}

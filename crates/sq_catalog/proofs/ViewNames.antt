@@ -17,14 +17,14 @@ use Rattle.sq_bound.specs.declared.names.Leaf.{Leaf}
 use Rattle.sq_bound.specs.declared.names.TableDesc.{TableDesc}
 use Rattle.sq_bound.specs.declared.query.UpdatableQuery.{UpdatableQuery}
 use Rattle.sq_bound.specs.declared.condition.ResultColumn.{ResultColumn}
-use Rattle.sq_rules.specs.Schema.{has_name_twice}
-use Rattle.sq_rules.specs.declared.refusal.SchemaFault.TheVariants as fault
+use Rattle.sq_meaning.specs.Schema.{has_name_twice}
+use Rattle.sq_meaning.specs.declared.refusal.SchemaFault.TheVariants as fault
 use Rattle.sq_binding.specs.NumberedCondition as numbered
 use Rattle.sq_binding.specs.Seen.{column_of}
-use Rattle.sq_declaring.specs.Outcome.{and_then, refused_if}
-use Rattle.sq_declaring.specs.View as definition
-use Rattle.sq_declaring.specs.View.{as_many, own_names as declared_names}
-use Rattle.sq_promises.specs.Written.{IsUpdatableOf, NamesAre}
+use Rattle.sq_binding.specs.ElementOutcome.{and_then, refused_if}
+use Rattle.sq_binding.specs.CreateView as definition
+use Rattle.sq_binding.specs.CreateView.{as_many, own_names as declared_names}
+use Rattle.sq_binding.specs.Written.{IsUpdatableOf, NamesAre}
 use Rattle.sq_catalog.specs.Fault.{Makes, Stops}
 use Rattle.sq_catalog.specs.declared.fault.ElementFault.{ElementFault}
 use Rattle.sq_catalog.proofs.Turns.{stops_then}

@@ -9,7 +9,7 @@ use Rattle.std.proofs.lemmas.List.Elements.{filter_map-append}
 use Rattle.std.proofs.lemmas.List.Folds.{position_or_len_push}
 use Rattle.std.proofs.lemmas.List.Sums.{prefix_len-le-length}
 use Rattle.sq_catalog.proofs.Zips.{zip_more}
-use Rattle.sq_declaring.proofs.Names.{position_there}
+use Rattle.sq_binding.proofs.Names.{position_there}
 use Rattle.sq_catalog.specs.Keys.{primaries, primary_among, primary_columns}
 use Rattle.sq_catalog.specs.declared.written.WrittenKey.{WrittenKey}
 

@@ -14,9 +14,9 @@ use Rattle.sq_tree.specs.declared.schema.TableDefinition.{TableDefinition}
 use Rattle.sq_tree.specs.declared.schema.TableElement.{TableElement}
 use Rattle.sq_tree.specs.declared.schema.TableElement.TheVariants as element
 use Rattle.sq_meaning.specs.Spelled.{listed}
-use Rattle.sq_rules.specs.Schema as rules
-use Rattle.sq_rules.specs.Schema.{checks, column_defined, column_definitions, condition_in, constraints, constraints_in, key_columns, keys, of_column, primary_keys, reference_in, table_columns, table_references}
-use Rattle.sq_declaring.specs.Key.{is_primary, primary_place}
+use Rattle.sq_meaning.specs.Schema as rules
+use Rattle.sq_meaning.specs.Schema.{checks, column_defined, column_definitions, condition_in, constraints, constraints_in, key_columns, keys, of_column, primary_keys, reference_in, table_columns, table_references}
+use Rattle.sq_binding.specs.Key.{is_primary, primary_place}
 use Rattle.sq_catalog.specs.Checks.{check_of_column, checks_in, checks_written}
 use Rattle.sq_catalog.specs.Columns.{column_in, columns_written}
 use Rattle.sq_catalog.specs.Keys.{key_of_column, keys_in, keys_written, names_written, primaries, primary_among, primary_columns}

@@ -2,7 +2,7 @@
 use Rattle.std.proofs.Common.{◌≡◌, ℕ, ◌+◌, ◌<◌, ◌≤◌, List, [], ◌∷◌, ◌++◌, get_or, length, take, Result, Ok, IfOk, ap, sym, subst, ◌∙◌}
 use Rattle.std.proofs.lemmas.List.{take_all, take_more}
 use Rattle.std.specs.List.{AllZip}
-use Rattle.sq_declaring.proofs.Made.{zip_behind}
+use Rattle.sq_binding.proofs.Made.{zip_behind}
 
 -- ---- two lists, place by place
 

@@ -24,7 +24,7 @@ use Rattle.sq_bound.specs.declared.condition.TablePlace.TheVariants.{Base, View}
 use Rattle.sq_bound.specs.declared.names.BaseTable.{BaseTable}
 use Rattle.sq_bound.specs.declared.names.Column.{Column}
 use Rattle.sq_bound.specs.declared.names.TableDesc.{TableDesc}
-use Rattle.sq_declaring.specs.Catalog.{Grant}
+use Rattle.sq_binding.specs.Catalog.{Grant}
 use Rattle.sq_catalog.specs.Base.{AreBasesOf}
 use Rattle.sq_catalog.specs.Columns.{HasColumnsOf}
 use Rattle.sq_catalog.specs.References.{HasReferencesOf}

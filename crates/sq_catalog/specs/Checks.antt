@@ -15,9 +15,9 @@ use Rattle.sq_meaning.specs.Environment.{TableName}
 use Rattle.sq_meaning.specs.Tables.{ColumnDescriptor}
 use Rattle.sq_binding.specs.NumberedCondition.{NumberedCond}
 use Rattle.sq_binding.specs.View.{check_bound}
-use Rattle.sq_declaring.specs.Outcome.{Outcome}
-use Rattle.sq_declaring.specs.Table.{or_bad_check}
-use Rattle.sq_promises.specs.Written.{CondIs, check_placed}
+use Rattle.sq_binding.specs.ElementOutcome.{Outcome}
+use Rattle.sq_binding.specs.Table.{or_bad_check}
+use Rattle.sq_binding.specs.Written.{CondIs, check_placed}
 use Rattle.sq_catalog.specs.Columns.{HasColumnsOf}
 use Rattle.sq_catalog.specs.declared.catalog.FullName.{FullName}
 

@@ -3,15 +3,15 @@ use Rattle.std.specs.Prelude.{◌≡◌, ℕ, true, List, length, map, nat_lt, v
 use Rattle.std.specs.List.{All, AllZip, list_all}
 use Rattle.sq_lex.specs.declared.name.Name.{Name}
 use Rattle.sq_meaning.specs.Spelled.{table_of}
-use Rattle.sq_rules.specs.Schema as rules
-use Rattle.sq_rules.specs.Schema.{column_definitions, primary_keys}
+use Rattle.sq_meaning.specs.Schema as rules
+use Rattle.sq_meaning.specs.Schema.{column_definitions, primary_keys}
 use Rattle.sq_bound.specs.Names.{are_positions}
 use Rattle.sq_bound.specs.WellFormed.{base_kinds, kinds_of_columns}
 use Rattle.sq_bound.specs.declared.names.BaseTable.{BaseTable}
 use Rattle.sq_bound.specs.declared.names.Column.{Column}
-use Rattle.sq_declaring.specs.Key.{primary_place}
-use Rattle.sq_declaring.specs.Table as definition
-use Rattle.sq_promises.specs.Names.{descriptor_of}
+use Rattle.sq_binding.specs.Key.{primary_place}
+use Rattle.sq_binding.specs.Table as definition
+use Rattle.sq_binding.specs.Names.{descriptor_of}
 use Rattle.sq_catalog.specs.Catalog.{Catalog}
 use Rattle.sq_catalog.specs.Columns.{AreBaseColumnsOf}
 use Rattle.sq_catalog.specs.Exact.{name_in}

@@ -6,8 +6,8 @@ use Rattle.std.specs.Option.{option_map, option_or}
 use Rattle.sq_lex.specs.declared.name.Name.{Name}
 use Rattle.sq_tree.specs.declared.schema.SchemaText.{SchemaText}
 use Rattle.sq_meaning.specs.Environment.{TableName}
-use Rattle.sq_rules.specs.Schema.{is_among}
-use Rattle.sq_rules.specs.declared.refusal.SchemaFault.TheVariants as fault
+use Rattle.sq_meaning.specs.Schema.{is_among}
+use Rattle.sq_meaning.specs.declared.refusal.SchemaFault.TheVariants as fault
 use Rattle.sq_bound.specs.declared.names.BaseColumn.{BaseColumn}
 use Rattle.sq_bound.specs.declared.names.BaseTable.{BaseTable}
 use Rattle.sq_bound.specs.declared.names.Column.{Column}
@@ -17,11 +17,11 @@ use Rattle.sq_bound.specs.declared.names.TableBody.TheVariants as body
 use Rattle.sq_bound.specs.declared.names.TableDesc.{TableDesc}
 use Rattle.sq_bound.specs.declared.names.View.{View}
 use Rattle.sq_binding.specs.Seen.{cond_seen, select_seen}
-use Rattle.sq_declaring.specs.Catalog as definition
-use Rattle.sq_declaring.specs.Catalog.{DeclaredBase, DeclaredColumn, DeclaredUnder, DeclaredView, Entry}
-use Rattle.sq_declaring.specs.Declaring.{Declared, catalog_of}
-use Rattle.sq_declaring.specs.Outcome.{Outcome, ◌>>◌, refused_if}
-use Rattle.sq_promises.specs.Names.{descriptor_of}
+use Rattle.sq_binding.specs.Catalog as definition
+use Rattle.sq_binding.specs.Catalog.{DeclaredBase, DeclaredColumn, DeclaredUnder, DeclaredView, Entry}
+use Rattle.sq_binding.specs.Declaring.{Declared, catalog_of}
+use Rattle.sq_binding.specs.ElementOutcome.{Outcome, ◌>>◌, refused_if}
+use Rattle.sq_binding.specs.Names.{descriptor_of}
 use Rattle.sq_catalog.specs.Catalog.{Catalog, is_table}
 use Rattle.sq_catalog.specs.Fault.{refusal_seen}
 use Rattle.sq_catalog.specs.declared.catalog.FullName.{FullName}

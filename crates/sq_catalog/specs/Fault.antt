@@ -1,7 +1,7 @@
 -- What functions that may refuse an element answer: what the definitions compute. And which text a fault is of.
 use Rattle.std.specs.Prelude.{◌≡◌, ◌<◌, ℕ, ⊤, Option, Result, Ok, Err}
-use Rattle.sq_rules.specs.SchemaRefusal as rules
-use Rattle.sq_declaring.specs.Outcome.{Outcome}
+use Rattle.sq_meaning.specs.SchemaRefusal as rules
+use Rattle.sq_binding.specs.ElementOutcome.{Outcome}
 use Rattle.sq_catalog.specs.declared.fault.CatalogFault.{CatalogFault}
 use Rattle.sq_catalog.specs.declared.fault.CatalogFault.TheVariants.{Refused, NoMemory}
 use Rattle.sq_catalog.specs.declared.fault.ElementFault.{ElementFault}

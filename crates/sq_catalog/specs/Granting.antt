@@ -4,12 +4,12 @@ use Rattle.std.specs.List.{list_any}
 use Rattle.sq_lex.specs.declared.name.Name.{Name}
 use Rattle.sq_tree.specs.declared.schema.GrantStatement.{GrantStatement}
 use Rattle.sq_meaning.specs.Environment.{TableName}
-use Rattle.sq_rules.specs.Privilege.{Privilege}
-use Rattle.sq_rules.specs.SchemaRefusal.{action_repeats, actions_of}
-use Rattle.sq_rules.specs.declared.refusal.SchemaFault.TheVariants as fault
-use Rattle.sq_declaring.specs.Catalog.{Grant}
-use Rattle.sq_declaring.specs.Grant.{grants_made, is_empty, privileges_granted}
-use Rattle.sq_declaring.specs.Outcome.{Outcome, ◌>>=◌, ◌>>◌, refused_if}
+use Rattle.sq_meaning.specs.Privilege.{Privilege}
+use Rattle.sq_meaning.specs.SchemaRefusal.{action_repeats, actions_of}
+use Rattle.sq_meaning.specs.declared.refusal.SchemaFault.TheVariants as fault
+use Rattle.sq_binding.specs.Catalog.{Grant}
+use Rattle.sq_binding.specs.Grant.{grants_made, is_empty, privileges_granted}
+use Rattle.sq_binding.specs.ElementOutcome.{Outcome, ◌>>=◌, ◌>>◌, refused_if}
 
 -- the grants of these privileges; no list of columns has one twice
 abbrev pub grants_of : TableName → List Privilege → GrantStatement → Outcome (List Grant)

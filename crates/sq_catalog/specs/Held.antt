@@ -1,8 +1,8 @@
 -- Privileges, as the definitions see them (ISO/IEC 9075:1992, 10.3).
 use Rattle.std.specs.Prelude.{List, map}
 use Rattle.sq_lex.specs.declared.name.Name.{Name}
-use Rattle.sq_rules.specs.Privilege as rules
-use Rattle.sq_declaring.specs.Catalog as definition
+use Rattle.sq_meaning.specs.Privilege as rules
+use Rattle.sq_binding.specs.Catalog as definition
 use Rattle.sq_catalog.specs.Exact.{name_in}
 use Rattle.sq_catalog.specs.declared.held.Grant.{Grant}
 use Rattle.sq_catalog.specs.declared.held.Held.{Held}

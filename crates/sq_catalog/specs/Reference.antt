@@ -8,9 +8,9 @@ use Rattle.sq_store.specs.Keys.{Keys, keys_at}
 use Rattle.sq_tree.specs.declared.schema.TableDefinition.{TableDefinition}
 use Rattle.sq_bound.specs.Fits.{keys_of_bases}
 use Rattle.sq_value.specs.declared.domain.Kind.{Kind}
-use Rattle.sq_rules.specs.Privilege.{Privilege}
-use Rattle.sq_rules.specs.Schema as rules
-use Rattle.sq_rules.specs.Words.{is_none_or}
+use Rattle.sq_meaning.specs.Privilege.{Privilege}
+use Rattle.sq_meaning.specs.Schema as rules
+use Rattle.sq_meaning.specs.Words.{is_none_or}
 use Rattle.sq_bound.specs.Names.{are_positions, option_all}
 use Rattle.sq_bound.specs.WellFormed.{base_kinds, kinds_of_columns}
 use Rattle.sq_bound.specs.declared.names.BaseTable.{BaseTable}
@@ -19,11 +19,11 @@ use Rattle.sq_bound.specs.declared.names.Reference.{Reference}
 use Rattle.sq_bound.specs.declared.names.TableBody.{TableBody}
 use Rattle.sq_bound.specs.declared.names.TableBody.TheVariants as body
 use Rattle.sq_bound.specs.declared.names.TableDesc.{TableDesc}
-use Rattle.sq_declaring.specs.Catalog as declaring
-use Rattle.sq_declaring.specs.Catalog.{Entry, may}
-use Rattle.sq_declaring.specs.Outcome.{Outcome, ◌>>=◌, each}
-use Rattle.sq_declaring.specs.Reference as definition
-use Rattle.sq_declaring.specs.Reference.{BoundReference, ReferencedTable}
+use Rattle.sq_binding.specs.Catalog as declaring
+use Rattle.sq_binding.specs.Catalog.{Entry, may}
+use Rattle.sq_binding.specs.ElementOutcome.{Outcome, ◌>>=◌, each}
+use Rattle.sq_binding.specs.Reference as definition
+use Rattle.sq_binding.specs.Reference.{BoundReference, ReferencedTable}
 use Rattle.sq_catalog.specs.Catalog.{Catalog, named_by, number_meant}
 use Rattle.sq_catalog.specs.Exact.{entry_declared, names_in as column_names}
 use Rattle.sq_catalog.specs.Keys.{StandAt}

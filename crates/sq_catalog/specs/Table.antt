@@ -10,24 +10,24 @@ use Rattle.sq_tree.specs.declared.schema.TableDefinition.{TableDefinition}
 use Rattle.sq_meaning.specs.Environment.{TableName}
 use Rattle.sq_meaning.specs.Spelled.{table_of}
 use Rattle.sq_meaning.specs.Tables.{ColumnDescriptor}
-use Rattle.sq_rules.specs.Schema as rules
-use Rattle.sq_rules.specs.declared.refusal.SchemaFault.TheVariants as fault
+use Rattle.sq_meaning.specs.Schema as rules
+use Rattle.sq_meaning.specs.declared.refusal.SchemaFault.TheVariants as fault
 use Rattle.sq_bound.specs.declared.names.BaseColumn.{BaseColumn}
 use Rattle.sq_bound.specs.declared.condition.BoundCond.{BoundCond}
 use Rattle.sq_bound.specs.declared.names.Column.{Column}
 use Rattle.sq_binding.specs.NumberedCondition.{NumberedCond}
 use Rattle.sq_binding.specs.Seen.{cond_seen}
 use Rattle.sq_catalog.specs.Written.{is_written_not_null}
-use Rattle.sq_declaring.specs.Catalog.{Catalog, DeclaredBase, DeclaredColumn}
-use Rattle.sq_declaring.specs.Column as definition
-use Rattle.sq_declaring.specs.Column.{declared_column, typed_column}
-use Rattle.sq_declaring.specs.Key.{primary_place}
-use Rattle.sq_declaring.specs.Outcome.{Outcome, ◌>>=◌, ◌>>◌, each, refused_if}
-use Rattle.sq_declaring.specs.Position.{positions_of}
-use Rattle.sq_declaring.specs.Reference.{FoundReference, bound_reference, found_reference}
-use Rattle.sq_declaring.specs.Table.{Draft, check_made, has_place, most_columns, own_table}
+use Rattle.sq_binding.specs.Catalog.{Catalog, DeclaredBase, DeclaredColumn}
+use Rattle.sq_binding.specs.Column as definition
+use Rattle.sq_binding.specs.Column.{declared_column, typed_column}
+use Rattle.sq_binding.specs.Key.{primary_place}
+use Rattle.sq_binding.specs.ElementOutcome.{Outcome, ◌>>=◌, ◌>>◌, each, refused_if}
+use Rattle.sq_binding.specs.Position.{positions_of}
+use Rattle.sq_binding.specs.Reference.{FoundReference, bound_reference, found_reference}
+use Rattle.sq_binding.specs.Table.{Draft, check_made, has_place, most_columns, own_table}
 use Rattle.sq_catalog.specs.Checks.{check_over}
-use Rattle.sq_promises.specs.Names.{descriptor_of}
+use Rattle.sq_binding.specs.Names.{descriptor_of}
 use Rattle.sq_catalog.specs.Exact.{column_declared, name_in}
 use Rattle.sq_catalog.specs.declared.catalog.FullName.{FullName}
 use Rattle.sq_catalog.specs.declared.typed.TypedColumn.{TypedColumn}

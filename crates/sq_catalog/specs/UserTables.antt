@@ -4,16 +4,16 @@ use Rattle.std.specs.Prelude.{◌≡◌, Bool, false, true, [], Option, IfSome}
 use Rattle.std.specs.Option.{option_and_then, option_map}
 use Rattle.sq_lex.specs.declared.name.Name.{Name}
 use Rattle.sq_meaning.specs.Environment.{TableName}
-use Rattle.sq_rules.specs.Privilege.{Privilege}
+use Rattle.sq_meaning.specs.Privilege.{Privilege}
 use Rattle.sq_bound.specs.declared.names.Leaf.{Leaf}
 use Rattle.sq_bound.specs.declared.names.TableBody.{TableBody}
 use Rattle.sq_bound.specs.declared.names.TableBody.TheVariants as body
 use Rattle.sq_bound.specs.declared.names.TableDesc.{TableDesc}
 use Rattle.sq_binding.specs.Changeable.{UnderTable, UserNames}
 use Rattle.sq_binding.specs.From.{NamedTables}
-use Rattle.sq_declaring.specs.Catalog.{entry, may, names_of}
-use Rattle.sq_cursor_binder.specs.Names.{Beneath, Changes, user_names}
-use Rattle.sq_promises.specs.Names as promises
+use Rattle.sq_binding.specs.Catalog.{entry, may, names_of}
+use Rattle.sq_binder.specs.Names.{Beneath, Changes, user_names}
+use Rattle.sq_binding.specs.Names as promises
 use Rattle.sq_catalog.specs.Catalog.{Catalog, column_kinds, known}
 use Rattle.sq_catalog.specs.Exact.{declared, described, entry_declared}
 use Rattle.sq_catalog.specs.Stored.{IsStored}

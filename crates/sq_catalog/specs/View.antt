@@ -2,8 +2,8 @@
 use Rattle.std.specs.Prelude.{◌≡◌, Bool, if◌then◌else◌, length, List, [], ◌∷◌, ◌++◌, map, Option, None, Some}
 use Rattle.std.specs.Option.{IsSomeAnd}
 use Rattle.sq_lex.specs.declared.name.Name.{Name}
-use Rattle.sq_rules.specs.Schema.{has_name_twice}
-use Rattle.sq_rules.specs.declared.refusal.SchemaFault.TheVariants as fault
+use Rattle.sq_meaning.specs.Schema.{has_name_twice}
+use Rattle.sq_meaning.specs.declared.refusal.SchemaFault.TheVariants as fault
 use Rattle.sq_bound.specs.declared.condition.BoundCond.{BoundCond}
 use Rattle.sq_bound.specs.declared.condition.BoundSpecification.{BoundSpecification}
 use Rattle.sq_bound.specs.declared.names.Column.{Column}
@@ -11,8 +11,8 @@ use Rattle.sq_bound.specs.declared.names.Leaf.{Leaf}
 use Rattle.sq_bound.specs.declared.names.TableDesc.{TableDesc}
 use Rattle.sq_bound.specs.declared.query.UpdatableQuery.{UpdatableQuery}
 use Rattle.sq_binding.specs.NumberedCondition.{ResultColumn}
-use Rattle.sq_declaring.specs.Outcome.{Outcome, ◌>>◌, refused_if}
-use Rattle.sq_declaring.specs.View.{as_many, own_names}
+use Rattle.sq_binding.specs.ElementOutcome.{Outcome, ◌>>◌, refused_if}
+use Rattle.sq_binding.specs.CreateView.{as_many, own_names}
 use Rattle.sq_catalog.specs.Stored.{query_in}
 
 -- the names that are listed, or else the columns' own

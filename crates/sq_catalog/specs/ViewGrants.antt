@@ -1,10 +1,10 @@
 -- What the owner of a view holds on it, as it is added to a list (ISO/IEC 9075:1992, 11.19).
 use Rattle.std.specs.Prelude.{◌≡◌, List, ◌∷◌, ◌++◌, flat_map, map, zip}
 use Rattle.sq_lex.specs.declared.name.Name.{Name}
-use Rattle.sq_rules.specs.Privilege.{Privilege}
+use Rattle.sq_meaning.specs.Privilege.{Privilege}
 use Rattle.sq_binding.specs.Numbered.{Numbered}
-use Rattle.sq_declaring.specs.Catalog as definition
-use Rattle.sq_declaring.specs.View.{followed, names_underneath, updates}
+use Rattle.sq_binding.specs.Catalog as definition
+use Rattle.sq_binding.specs.CreateView.{followed, names_underneath, updates}
 use Rattle.sq_catalog.specs.Exact.{name_in}
 use Rattle.sq_catalog.specs.Held.{grant_seen}
 use Rattle.sq_catalog.specs.declared.held.Grant.{Grant}

@@ -6,7 +6,7 @@ use Rattle.sq_lex.specs.declared.name.Name.{Name}
 use Rattle.sq_tree.specs.declared.schema.ViewDefinition.{ViewDefinition}
 use Rattle.sq_meaning.specs.Environment.{TableName}
 use Rattle.sq_meaning.specs.Spelled.{select_of, table_of}
-use Rattle.sq_rules.specs.declared.refusal.SchemaFault.TheVariants as fault
+use Rattle.sq_meaning.specs.declared.refusal.SchemaFault.TheVariants as fault
 use Rattle.sq_bound.specs.Known.{Under}
 use Rattle.sq_bound.specs.declared.condition.BoundSpecification.{BoundSpecification}
 use Rattle.sq_bound.specs.declared.names.Leaf.{Leaf}
@@ -15,15 +15,15 @@ use Rattle.sq_binding.specs.Changeable.{NumberedUpdatable}
 use Rattle.sq_binding.specs.NumberedCondition.{columns_of}
 use Rattle.sq_binding.specs.Seen.{cond_seen}
 use Rattle.sq_binding.specs.View.{NumberedView}
-use Rattle.sq_declaring.specs.Catalog as definition
-use Rattle.sq_declaring.specs.Catalog.{DeclaredUnder, entry, entry_under}
-use Rattle.sq_declaring.specs.Outcome.{Outcome, ◌>>=◌, ◌>>◌, refused_if}
-use Rattle.sq_declaring.specs.Table.{has_place}
-use Rattle.sq_declaring.specs.View.{NewView, column_names, new_view}
-use Rattle.sq_cursor_binder.specs.View.{view_seen}
-use Rattle.sq_cursor_binder.specs.declared.view.BoundView.{BoundView}
-use Rattle.sq_promises.specs.Seen.{table_named}
-use Rattle.sq_promises.specs.Written.{IsUpdatableOf, NamesAre}
+use Rattle.sq_binding.specs.Catalog as definition
+use Rattle.sq_binding.specs.Catalog.{DeclaredUnder, entry, entry_under}
+use Rattle.sq_binding.specs.ElementOutcome.{Outcome, ◌>>=◌, ◌>>◌, refused_if}
+use Rattle.sq_binding.specs.Table.{has_place}
+use Rattle.sq_binding.specs.CreateView.{NewView, column_names, new_view}
+use Rattle.sq_binder.specs.View.{view_seen}
+use Rattle.sq_binder.specs.declared.view.BoundView.{BoundView}
+use Rattle.sq_binding.specs.SeenQuery.{table_named}
+use Rattle.sq_binding.specs.Written.{IsUpdatableOf, NamesAre}
 use Rattle.sq_catalog.specs.Catalog.{Catalog, known}
 use Rattle.sq_catalog.specs.Exact.{declared, view_in}
 use Rattle.sq_catalog.specs.Fault.{Stops}

@@ -18,8 +18,8 @@ use Rattle.sq_bound.specs.declared.names.TableDesc.{TableDesc}
 use Rattle.sq_bound.specs.declared.query.UpdatableQuery.{UpdatableQuery}
 use Rattle.sq_binding.specs.PlacedQuery.{select_placed}
 use Rattle.sq_binding.specs.ColumnNames.{names_placed}
-use Rattle.sq_promises.specs.Names.{outside, tables_of}
-use Rattle.sq_promises.specs.Written.{IsUpdatableOf, SelectIs}
+use Rattle.sq_binding.specs.Names.{outside, tables_of}
+use Rattle.sq_binding.specs.Written.{IsUpdatableOf, SelectIs}
 use Rattle.sq_catalog.specs.Catalog.{Catalog, SeenView, known, named_by}
 use Rattle.sq_catalog.specs.Stored.{query_in, seen}
 use Rattle.sq_catalog.specs.View.{conditions_with}

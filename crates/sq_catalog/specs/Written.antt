@@ -7,7 +7,7 @@ use Rattle.sq_lex.specs.declared.name.Name.{Name}
 use Rattle.sq_tree.specs.declared.cond.Cond.{Cond}
 use Rattle.sq_tree.specs.declared.schema.ColumnConstraint.{ColumnConstraint}
 use Rattle.sq_tree.specs.declared.schema.ColumnDefinition.{ColumnDefinition}
-use Rattle.sq_declaring.specs.Column.{is_not_null}
+use Rattle.sq_binding.specs.Column.{is_not_null}
 use Rattle.sq_catalog.specs.declared.written.NamedColumns.{NamedColumns}
 
 -- the column definitions that are lent

@@ -3,16 +3,16 @@
 ghost use Rattle.std.specs.Prelude.{◌≡◌, ◌||◌, IfOk, OnOk, length, map, nat_lt, true, vec_len};
 ghost use Rattle.std.specs.List.{list_all, list_any};
 ghost use Rattle.sq_value.specs.Domain.{kind_of};
-ghost use Rattle.sq_rules.specs.declared.refusal.SchemaFault.TheVariants as refusal;
+ghost use Rattle.sq_meaning.specs.declared.refusal.SchemaFault.TheVariants as refusal;
 ghost use Rattle.sq_bound.specs.Names.{are_positions, option_all};
 ghost use Rattle.sq_bound.specs.NotNull.{are_not_null};
 ghost use Rattle.sq_bound.specs.WellFormed.{kinds_of_columns};
 ghost use Rattle.sq_binding.specs.Seen.{cond_seen};
-ghost use Rattle.sq_declaring.specs.Key.{has_nullable, is_bad_list, is_nullable_at};
-ghost use Rattle.sq_declaring.specs.Outcome.{and_then, refused_if as asked};
-ghost use Rattle.sq_declaring.specs.Reference as reference;
-ghost use Rattle.sq_declaring.specs.Table as spec;
-ghost use Rattle.sq_promises.specs.Names.{descriptor_of};
+ghost use Rattle.sq_binding.specs.Key.{has_nullable, is_bad_list, is_nullable_at};
+ghost use Rattle.sq_binding.specs.ElementOutcome.{and_then, refused_if as asked};
+ghost use Rattle.sq_binding.specs.Reference as reference;
+ghost use Rattle.sq_binding.specs.Table as spec;
+ghost use Rattle.sq_binding.specs.Names.{descriptor_of};
 ghost use Rattle.sq_catalog.specs.Base.{IsMadeOf};
 ghost use Rattle.sq_catalog.specs.Checks.{AreChecksOf};
 ghost use Rattle.sq_catalog.specs.Columns.{AreBaseColumnsOf, AreColumnsOf};
@@ -38,7 +38,7 @@ use crate::written::is_not_null;
 use sq_bound::{BaseColumn, BaseTable, BoundCond, Column, Names, Shared, TableDesc, pair_of};
 use sq_items::Items;
 use sq_lex::Name;
-use sq_rules::SchemaFault;
+use sq_meaning::SchemaFault;
 use std::alloc::{AllocError, Global};
 
 /// The greatest number of columns of a table (own rule).

@@ -4,7 +4,7 @@ ghost use Rattle.std.specs.Prelude.{◌≡◌, ◌+◌, [], nat_eq, slice_get, �
 ghost use Rattle.std.specs.List.{All, AllZip, list_all, list_any, zip};
 ghost use Rattle.sq_bound.specs.Names.{are_positions};
 ghost use Rattle.sq_bound.specs.WellFormed.{kinds_of_columns};
-ghost use Rattle.sq_declaring.specs.Reference as definition;
+ghost use Rattle.sq_binding.specs.Reference as definition;
 ghost use Rattle.sq_catalog.specs.Exact.{declared};
 ghost use Rattle.sq_catalog.specs.Fault.{Makes, Stops};
 ghost use Rattle.sq_catalog.specs.Reference.{AddsBound, IsBound, IsFound, IsKeyReferenced, IsPairAdded, IsReferenceMade, RefersTo, entries_seen, found_seen, is_to, key_seen, keys_with, may_reference_at, names_in, own_seen, reference_with, references_made, target_seen};

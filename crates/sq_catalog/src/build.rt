@@ -1,8 +1,8 @@
 //! Schema texts, element by element (ISO/IEC 9075:1992, 11.1).
 
 ghost use Rattle.std.specs.Prelude.{◌≡◌, IfErr, IfOk, OnOk, length};
-ghost use Rattle.sq_rules.specs.SchemaRefusal.{parts_of_schema, parts_of_text, schema_parts};
-ghost use Rattle.sq_declaring.specs.Declaring.{with_element, with_parts};
+ghost use Rattle.sq_meaning.specs.SchemaRefusal.{parts_of_schema, parts_of_text, schema_parts};
+ghost use Rattle.sq_binding.specs.Declaring.{with_element, with_parts};
 ghost use Rattle.sq_catalog.specs.Catalog.{Gains, declared_definitions, declared_tables, definition_in, known, schema_definitions, schema_tables, table_in, text_definitions, text_tables};
 ghost use Rattle.sq_catalog.specs.Declares.{Declares};
 ghost use Rattle.sq_catalog.specs.Exact.{Builds, IsCatalogOf, declared};

@@ -2,8 +2,8 @@
 
 ghost use Rattle.std.specs.Prelude.{map};
 ghost use Rattle.sq_binding.specs.Seen.{cond_seen};
-ghost use Rattle.sq_declaring.specs.Outcome.{each};
-ghost use Rattle.sq_promises.specs.Names.{descriptor_of};
+ghost use Rattle.sq_binding.specs.ElementOutcome.{each};
+ghost use Rattle.sq_binding.specs.Names.{descriptor_of};
 ghost use Rattle.sq_catalog.specs.Checks.{check_over};
 ghost use Rattle.sq_catalog.specs.Exact.{name_in};
 ghost use Rattle.sq_catalog.specs.Fault.{Makes};
@@ -11,11 +11,11 @@ ghost use Rattle.sq_catalog.specs.Written.{conditions_lent};
 
 use crate::catalog::FullName;
 use crate::fault::ElementFault;
+use sq_binder::{CheckStop, bind_check};
 use sq_bound::{BoundCond, Column};
-use sq_cursor_binder::{CheckStop, bind_check};
 use sq_items::Items;
 use sq_lex::Name;
-use sq_rules::SchemaFault;
+use sq_meaning::SchemaFault;
 use sq_tree::Cond;
 use std::alloc::Global;
 

@@ -1,10 +1,10 @@
 //! Why schema texts are refused.
 
 ghost use Rattle.std.specs.Prelude.{◌≡◌, false, OnOk};
-ghost use Rattle.sq_declaring.specs.Outcome.{refused_if};
+ghost use Rattle.sq_binding.specs.ElementOutcome.{refused_if};
 ghost use Rattle.sq_catalog.specs.Fault.{Passes};
 
-use sq_rules::SchemaFault;
+use sq_meaning::SchemaFault;
 use std::alloc::AllocError;
 use std::{error, fmt};
 use thiserror::Error;

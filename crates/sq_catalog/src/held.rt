@@ -3,9 +3,9 @@
 ghost use Rattle.std.specs.Prelude.{◌≡◌, ◌&&◌, [], IfErr, OnOk, map};
 ghost use Rattle.std.specs.List.{list_any};
 ghost use Rattle.sq_meaning.specs.Environment.{same_name};
-ghost use Rattle.sq_rules.specs.Privileges.{is_on_column};
-ghost use Rattle.sq_rules.specs.Schema.{is_among};
-ghost use Rattle.sq_declaring.specs.Catalog.{gives, may, may_on, owns, same_grant, with_grant, with_grants};
+ghost use Rattle.sq_meaning.specs.Privileges.{is_on_column};
+ghost use Rattle.sq_meaning.specs.Schema.{is_among};
+ghost use Rattle.sq_binding.specs.Catalog.{gives, may, may_on, owns, same_grant, with_grant, with_grants};
 ghost use Rattle.sq_catalog.specs.Exact.{declared, entry_declared, name_in, names_in};
 ghost use Rattle.sq_catalog.specs.Stored.{IsStored};
 ghost use Rattle.sq_catalog.specs.declared.fault.ElementFault.TheVariants.{NoMemory};

@@ -4,7 +4,7 @@ ghost use Rattle.std.specs.Prelude.{◌≡◌, ◌∷◌, ◌++◌, [], IfErr, I
 ghost use Rattle.std.specs.Map.{keys_of};
 ghost use Rattle.sq_store.specs.Keys.{keys_of as keys_given};
 ghost use Rattle.sq_bound.specs.Fits.{keys_of_bases};
-ghost use Rattle.sq_declaring.specs.Table.{with_base};
+ghost use Rattle.sq_binding.specs.Table.{with_base};
 ghost use Rattle.sq_catalog.specs.Catalog.{Adds, Gains, IsNewName, table_number};
 ghost use Rattle.sq_catalog.specs.Exact.{base_declared, declared, with_view_entry};
 ghost use Rattle.sq_catalog.specs.declared.fault.ElementFault.TheVariants.{NoMemory};

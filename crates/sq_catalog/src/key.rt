@@ -4,9 +4,9 @@ ghost use Rattle.std.specs.Prelude.{◌≡◌, ◌&&◌, ◌||◌, ◌++◌, ◌
 ghost use Rattle.std.specs.List.{list_all, list_any};
 ghost use Rattle.std.specs.Option.{option_or};
 ghost use Rattle.sq_bound.specs.Names.{are_positions, option_all};
-ghost use Rattle.sq_declaring.specs.Key as definition;
-ghost use Rattle.sq_declaring.specs.Outcome.{each};
-ghost use Rattle.sq_declaring.specs.Position.{positions_of};
+ghost use Rattle.sq_binding.specs.Key as definition;
+ghost use Rattle.sq_binding.specs.ElementOutcome.{each};
+ghost use Rattle.sq_binding.specs.Position.{positions_of};
 ghost use Rattle.sq_catalog.specs.Fault.{Makes};
 ghost use Rattle.sq_catalog.specs.Keys.{KeysStandAt, primaries, primary_among};
 ghost use Rattle.sq_catalog.specs.Written.{column_count, names_at};

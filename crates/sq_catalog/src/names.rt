@@ -2,8 +2,8 @@
 
 ghost use Rattle.std.specs.Prelude.{◌≡◌, IfOk};
 ghost use Rattle.sq_meaning.specs.Spelled.{listed};
-ghost use Rattle.sq_rules.specs.Schema.{has_name_twice, is_among};
-ghost use Rattle.sq_rules.specs.SchemaRefusal.{has_unknown};
+ghost use Rattle.sq_meaning.specs.Schema.{has_name_twice, is_among};
+ghost use Rattle.sq_meaning.specs.SchemaRefusal.{has_unknown};
 ghost use Rattle.sq_catalog.specs.Exact.{names_in};
 
 use sq_bound::Column;

@@ -2,7 +2,7 @@
 
 ghost use Rattle.std.specs.Prelude.{◌≡◌, ◌++◌, IfOk, OnOk, flat_map, map};
 ghost use Rattle.sq_meaning.specs.Spelled.{listed};
-ghost use Rattle.sq_rules.specs.SchemaRefusal.{action_privileges, all_privileges, columns_granted};
+ghost use Rattle.sq_meaning.specs.SchemaRefusal.{action_privileges, all_privileges, columns_granted};
 ghost use Rattle.sq_catalog.specs.Held.{privilege_of, privilege_on};
 
 use sq_items::Items;

@@ -3,11 +3,11 @@
 ghost use Rattle.std.specs.Prelude.{◌≡◌, [], true, length, map, IfOk, IfSome, OnOk};
 ghost use Rattle.std.specs.List.{All, AllZip, list_any};
 ghost use Rattle.sq_bound.specs.Names.{are_positions, option_all};
-ghost use Rattle.sq_rules.specs.Words.{is_some_and};
-ghost use Rattle.sq_declaring.specs.Key as key;
-ghost use Rattle.sq_declaring.specs.Outcome as outcome;
-ghost use Rattle.sq_declaring.specs.Position as position;
-ghost use Rattle.sq_declaring.specs.Reference as definition;
+ghost use Rattle.sq_meaning.specs.Words.{is_some_and};
+ghost use Rattle.sq_binding.specs.Key as key;
+ghost use Rattle.sq_binding.specs.ElementOutcome as outcome;
+ghost use Rattle.sq_binding.specs.Position as position;
+ghost use Rattle.sq_binding.specs.Reference as definition;
 ghost use Rattle.sq_catalog.specs.Exact.{declared, name_in, names_in as column_names};
 ghost use Rattle.sq_catalog.specs.Fault.{Makes};
 ghost use Rattle.sq_catalog.specs.Keys.{StandAt};
@@ -23,7 +23,7 @@ use crate::written::{NamedColumns, WrittenReference, names_of, pushed};
 use sq_bound::{TableDesc, pair_of};
 use sq_items::Items;
 use sq_lex::Name;
-use sq_rules::SchemaFault;
+use sq_meaning::SchemaFault;
 use sq_tree::References;
 use std::alloc::Global;
 

@@ -5,9 +5,9 @@ ghost use Rattle.std.specs.List.{list_any};
 ghost use Rattle.sq_store.specs.Keys.{keys_at};
 ghost use Rattle.sq_bound.specs.Names.{are_positions, option_all};
 ghost use Rattle.sq_bound.specs.Fits.{IsBase};
-ghost use Rattle.sq_rules.specs.declared.refusal.SchemaFault.TheVariants as refusal;
-ghost use Rattle.sq_declaring.specs.Outcome as outcome;
-ghost use Rattle.sq_declaring.specs.Reference as definition;
+ghost use Rattle.sq_meaning.specs.declared.refusal.SchemaFault.TheVariants as refusal;
+ghost use Rattle.sq_binding.specs.ElementOutcome as outcome;
+ghost use Rattle.sq_binding.specs.Reference as definition;
 ghost use Rattle.sq_catalog.specs.Exact.{names_in as column_names};
 ghost use Rattle.sq_catalog.specs.Fault.{Makes};
 ghost use Rattle.sq_catalog.specs.Reference.{HasOwnKinds, IsKeyReferenced, IsTarget, IsTargetBody, entries_seen, key_seen, keys_with, names_in, own_seen, target_seen, target_width};
@@ -18,7 +18,7 @@ use crate::fault::ElementFault;
 use crate::target::{OwnKeys, Target};
 use sq_bound::{BaseTable, Column, TableBody, TableDesc};
 use sq_items::Items;
-use sq_rules::SchemaFault;
+use sq_meaning::SchemaFault;
 
 pub(crate) const BAD_REFERENCE: ElementFault = ElementFault::Refused(SchemaFault::BadReference);
 

@@ -3,11 +3,11 @@
 ghost use Rattle.std.specs.Prelude.{◌≡◌, ◌∷◌, [], IfOk, OnOk, map, true, vec_len};
 ghost use Rattle.std.specs.List.{list_all};
 ghost use Rattle.sq_meaning.specs.Spelled.{table_of};
-ghost use Rattle.sq_rules.specs.Schema as rules;
-ghost use Rattle.sq_rules.specs.declared.refusal.SchemaFault.TheVariants as refusal;
+ghost use Rattle.sq_meaning.specs.Schema as rules;
+ghost use Rattle.sq_meaning.specs.declared.refusal.SchemaFault.TheVariants as refusal;
 ghost use Rattle.sq_bound.specs.Names.{are_positions};
-ghost use Rattle.sq_declaring.specs.Outcome.{and_then, refused_if as asked};
-ghost use Rattle.sq_declaring.specs.Table as spec;
+ghost use Rattle.sq_binding.specs.ElementOutcome.{and_then, refused_if as asked};
+ghost use Rattle.sq_binding.specs.Table as spec;
 ghost use Rattle.sq_catalog.specs.Base.{IsBaseOf};
 ghost use Rattle.sq_catalog.specs.Catalog.{Gains, IsNewName, named_by};
 ghost use Rattle.sq_catalog.specs.Checks.{checks_written};

@@ -2,16 +2,15 @@
 
 ghost use Rattle.std.specs.Prelude.{◌≡◌};
 ghost use Rattle.std.specs.Option.{option_map};
-ghost use Rattle.sq_cursor_binder.specs.Names.{beneath_of, privilege_of};
+ghost use Rattle.sq_binder.specs.Names.{beneath_of, privilege_of};
 ghost use Rattle.sq_catalog.specs.Held.{privilege_of as privilege_seen};
 ghost use Rattle.sq_catalog.specs.Stored.{IsUnderItself};
 ghost use Rattle.sq_catalog.specs.UserTables.{NamesStand, beneath_in, is_base_table};
 
 use crate::catalog::{Catalog, FullName};
 use crate::privilege::Privilege;
-use sq_binder::{NamedTable, Tables};
+use sq_binder::{ChangeableTables, NamedTable, Privilege as NeededPrivilege, Tables, UnderTable};
 use sq_bound::{TableBody, TableDesc};
-use sq_cursor_binder::{ChangeableTables, Privilege as NeededPrivilege, UnderTable};
 use sq_lex::Name;
 
 /// The tables and views of a catalog, with the privileges that a user holds.

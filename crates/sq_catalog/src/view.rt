@@ -8,9 +8,9 @@ ghost use Rattle.sq_bound.specs.declared.condition.TablePlace.TheVariants.{View}
 ghost use Rattle.sq_binding.specs.Outcome.{Outcome};
 ghost use Rattle.sq_binding.specs.View.{NumberedView, view_bound};
 ghost use Rattle.sq_binder.specs.Binds.{Binds};
-ghost use Rattle.sq_cursor_binder.specs.View.{view_seen};
-ghost use Rattle.sq_declaring.specs.Catalog.{names_of};
-ghost use Rattle.sq_declaring.specs.View as spec;
+ghost use Rattle.sq_binder.specs.View.{view_seen};
+ghost use Rattle.sq_binding.specs.Catalog.{names_of};
+ghost use Rattle.sq_binding.specs.CreateView as spec;
 ghost use Rattle.sq_catalog.specs.Catalog.{Gains, IsNewName, known, named_by};
 ghost use Rattle.sq_catalog.specs.Exact.{declared, name_in};
 ghost use Rattle.sq_catalog.specs.Fault.{Makes, Passes};
@@ -25,12 +25,11 @@ use crate::fault::{ElementFault, refused_if};
 use crate::held::Grant;
 use crate::user_tables::UserTables;
 use crate::view_names::{column_names, listed_names};
-use sq_binder::Stop;
+use sq_binder::{BoundView, Stop, ViewResult, bind_view};
 use sq_bound::TableDesc;
-use sq_cursor_binder::{BoundView, ViewResult, bind_view};
 use sq_items::Items;
 use sq_lex::Name;
-use sq_rules::SchemaFault;
+use sq_meaning::SchemaFault;
 use sq_tree::ViewDefinition;
 use std::alloc::AllocError;
 

@@ -3,7 +3,7 @@
 ghost use Rattle.std.specs.Prelude.{◌≡◌, ◌∷◌, [], Some, IfOk, OnOk, map, slice_get, zip};
 ghost use Rattle.std.specs.Option.{option_and_then};
 ghost use Rattle.sq_binding.specs.Seen.{numbered_of};
-ghost use Rattle.sq_declaring.specs.View as spec;
+ghost use Rattle.sq_binding.specs.CreateView as spec;
 ghost use Rattle.sq_catalog.specs.Exact.{declared, name_in, names_in};
 ghost use Rattle.sq_catalog.specs.Held.{grant_seen, privilege_of};
 ghost use Rattle.sq_catalog.specs.ViewGrants.{HoldsMore, all_followed, followed_over, updates_over};
@@ -12,8 +12,8 @@ ghost use Rattle.sq_catalog.specs.ViewMade.{view_found};
 use crate::catalog::{Catalog, FullName};
 use crate::held::Grant;
 use crate::privilege::Privilege;
+use sq_binder::BoundView;
 use sq_bound::{BoundExpr, Column};
-use sq_cursor_binder::BoundView;
 use sq_items::Items;
 use sq_lex::Name;
 use std::alloc::AllocError;

@@ -4,11 +4,11 @@ ghost use Rattle.std.specs.Prelude.{◌≡◌, IfOk, length, map};
 ghost use Rattle.std.specs.List.{filter_map};
 ghost use Rattle.std.specs.Option.{option_map};
 ghost use Rattle.sq_meaning.specs.Spelled as meaning;
-ghost use Rattle.sq_rules.specs.Schema.{has_name_twice};
-ghost use Rattle.sq_rules.specs.declared.refusal.SchemaFault.TheVariants.{NameTwice};
+ghost use Rattle.sq_meaning.specs.Schema.{has_name_twice};
+ghost use Rattle.sq_meaning.specs.declared.refusal.SchemaFault.TheVariants.{NameTwice};
 ghost use Rattle.sq_binding.specs.Seen.{column_of};
-ghost use Rattle.sq_declaring.specs.Outcome.{refused_if};
-ghost use Rattle.sq_declaring.specs.View as spec;
+ghost use Rattle.sq_binding.specs.ElementOutcome.{refused_if};
+ghost use Rattle.sq_binding.specs.CreateView as spec;
 ghost use Rattle.sq_catalog.specs.Fault.{Makes, Passes};
 ghost use Rattle.sq_catalog.specs.View.{names_for, names_of_query, names_or};
 
@@ -18,7 +18,7 @@ use indexmap::IndexSet;
 use sq_bound::ResultColumn;
 use sq_items::Items;
 use sq_lex::Name;
-use sq_rules::SchemaFault;
+use sq_meaning::SchemaFault;
 use sq_tree::CommaList;
 use std::alloc::{AllocError, Global};
 

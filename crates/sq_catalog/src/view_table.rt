@@ -17,11 +17,11 @@ ghost use Rattle.sq_catalog.specs.Stored.{AreColumnsOver, IsBoundOver, IsNextVie
 ghost use Rattle.sq_catalog.specs.View.{IsAbove, IsOverQuery, IsViewWith, conditions_with};
 
 use crate::catalog::{Catalog, FullName};
+use sq_binder::BoundView;
 use sq_bound::{
     BoundCond, BoundSpecification, Column, Leaf, ResultColumn, Shared, TableBody, TableDesc,
     Target, UpdatableQuery, View, pair_of,
 };
-use sq_cursor_binder::BoundView;
 use sq_items::Items;
 use sq_lex::Name;
 use std::alloc::{AllocError, Global};

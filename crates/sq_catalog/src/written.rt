@@ -4,11 +4,11 @@ ghost use Rattle.std.specs.Prelude.{◌≡◌, ◌<◌, ◌+◌, ◌∷◌, ◌+
 ghost use Rattle.sq_meaning.specs.Environment.{same_name};
 ghost use Rattle.sq_meaning.specs.Spelled as meaning;
 ghost use Rattle.indexmap.specs.IndexSet.{index_set_len};
-ghost use Rattle.sq_rules.specs.Schema.{has_name_twice};
-ghost use Rattle.sq_rules.specs.declared.refusal.SchemaFault.TheVariants.{NameTwice};
-ghost use Rattle.sq_declaring.specs.Column.{typed_column};
-ghost use Rattle.sq_declaring.specs.Outcome as outcome;
-ghost use Rattle.sq_declaring.specs.Position as definition;
+ghost use Rattle.sq_meaning.specs.Schema.{has_name_twice};
+ghost use Rattle.sq_meaning.specs.declared.refusal.SchemaFault.TheVariants.{NameTwice};
+ghost use Rattle.sq_binding.specs.Column.{typed_column};
+ghost use Rattle.sq_binding.specs.ElementOutcome as outcome;
+ghost use Rattle.sq_binding.specs.Position as definition;
 ghost use Rattle.sq_bound.specs.Names.{are_positions};
 ghost use Rattle.sq_catalog.specs.Checks.{check_of_column, checks_in, checks_written};
 ghost use Rattle.sq_catalog.specs.Columns.{column_in, columns_written};
@@ -24,10 +24,10 @@ ghost use Rattle.sq_catalog.specs.Written.{column_count, conditions_lent, defini
 use crate::fault::{ElementFault, refused_if};
 use crate::typed::TypedColumn;
 use indexmap::IndexSet;
+use sq_binder::domain_of;
 use sq_items::Items;
 use sq_lex::Name;
-use sq_literal::domain_of;
-use sq_rules::SchemaFault;
+use sq_meaning::SchemaFault;
 use sq_tree::{
     ColumnConstraint, ColumnDefinition, CommaList, Cond, ForeignKey, References, TableDefinition,
     TableElement,

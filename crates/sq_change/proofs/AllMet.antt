@@ -5,7 +5,7 @@ use Rattle.std.specs.Result.{IsErrAnd}
 use Rattle.std.proofs.lemmas.List.{take_all}
 use Rattle.std.proofs.lemmas.List.Folds.{list_all_at, list_all_more}
 use Rattle.sq_meaning.specs.declared.status.Status.{Status}
-use Rattle.sq_model.specs.Constraints.{demanded}
+use Rattle.sq_meaning.specs.Constraints.{demanded}
 use Rattle.sq_expression.specs.Fault.{Meets}
 use Rattle.sq_expression.specs.declared.fault.Fault.{Fault}
 use Rattle.sq_expression.specs.declared.fault.Fault.TheVariants as fault

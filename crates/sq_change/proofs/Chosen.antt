@@ -7,7 +7,7 @@ use Rattle.sq_value.specs.declared.domain.Kind.{Kind}
 use Rattle.sq_value.specs.declared.value.Value.{Value}
 use Rattle.sq_store.specs.Content.{Content}
 use Rattle.sq_meaning.specs.Status.{Outcome, and_then}
-use Rattle.sq_model.specs.Change.{if_some}
+use Rattle.sq_meaning.specs.Change.{if_some}
 use Rattle.sq_bound.specs.WellFormed.{TableKinds}
 use Rattle.sq_bound.specs.declared.condition.BoundSpecification.{BoundSpecification}
 use Rattle.sq_bound.specs.declared.names.BaseTable.{BaseTable}

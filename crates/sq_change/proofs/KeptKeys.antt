@@ -15,7 +15,7 @@ use Rattle.sq_store.specs.declared.table.Table.{Table}
 use Rattle.sq_store.proofs.Rises.{rows_rise_at}
 use Rattle.sq_meaning.specs.Environment.{Row}
 use Rattle.sq_meaning.specs.Status.{Outcome, and_then, each}
-use Rattle.sq_model.specs.Change.{with_values}
+use Rattle.sq_meaning.specs.Change.{with_values}
 use Rattle.sq_bound.specs.Fits.{under}
 use Rattle.sq_bound.specs.declared.statement.BoundAssignment.{BoundAssignment}
 use Rattle.sq_bound.specs.declared.statement.BoundUpdate.{BoundUpdate}

@@ -22,7 +22,7 @@ use Rattle.sq_store.specs.declared.table.Table.{Table}
 use Rattle.sq_store.proofs.Search.{put}
 use Rattle.sq_meaning.specs.Environment.{Row}
 use Rattle.sq_meaning.specs.Status.{Outcome, and_then, each, well_formed, ◌>>=◌}
-use Rattle.sq_model.specs.Change.{with_values}
+use Rattle.sq_meaning.specs.Change.{with_values}
 use Rattle.sq_change.specs.Changed.{AreReplacements, ArePutThere, are_insertions, rows_replaced}
 use Rattle.sq_change.proofs.Among.{found_there, first_or_later, first_there, is_first, kept_there, later_there, mapped_of, mapped_there, none_there}
 

@@ -20,7 +20,7 @@ use Rattle.sq_store.specs.declared.table.Numbered.{Numbered}
 use Rattle.sq_store.specs.declared.table.Table.{Table}
 use Rattle.sq_store.proofs.Search.{put}
 use Rattle.sq_meaning.specs.Environment.{Row}
-use Rattle.sq_model.specs.Constraints.{has_null}
+use Rattle.sq_meaning.specs.Constraints.{has_null}
 use Rattle.sq_bound.specs.Fits.{IsBase, all_refer, holds, keys_of_bases, refers}
 use Rattle.sq_bound.specs.declared.names.BaseTable.{BaseTable}
 use Rattle.sq_bound.specs.declared.names.Reference.{Reference}

@@ -13,7 +13,7 @@ use Rattle.sq_bound.specs.declared.names.BaseTable.{BaseTable}
 use Rattle.sq_change.specs.Constraints.{constraints_hold, references_met}
 use Rattle.sq_change.specs.Statement.{IsConsistent, KeepsTables}
 use Rattle.sq_meaning.specs.declared.status.Status.{Status}
-use Rattle.sq_model.specs.Constraints.{demanded}
+use Rattle.sq_meaning.specs.Constraints.{demanded}
 use Rattle.sq_expression.specs.Fault.{Meets}
 use Rattle.sq_expression.specs.declared.fault.Fault.{Fault}
 use Rattle.sq_change.proofs.AllMet.{was_met}

@@ -9,7 +9,7 @@ use Rattle.sq_store.specs.declared.table.Numbered.{Numbered}
 use Rattle.sq_store.specs.declared.table.Table.{Table}
 use Rattle.sq_meaning.specs.Status.{Outcome, and_then}
 use Rattle.sq_meaning.specs.declared.status.Status.TheVariants as status
-use Rattle.sq_model.specs.Constraints.{demanded}
+use Rattle.sq_meaning.specs.Constraints.{demanded}
 use Rattle.sq_bound.specs.Fits.{under}
 use Rattle.sq_bound.specs.declared.names.BaseTable.{BaseTable}
 use Rattle.sq_bound.specs.declared.names.Leaf.{Leaf}

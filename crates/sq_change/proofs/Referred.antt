@@ -11,7 +11,7 @@ use Rattle.sq_store.specs.Change.{rows_put}
 use Rattle.sq_store.specs.Content.{Content}
 use Rattle.sq_store.specs.Keys.{Keys}
 use Rattle.sq_meaning.specs.Environment.{Row}
-use Rattle.sq_model.specs.Constraints.{has_null}
+use Rattle.sq_meaning.specs.Constraints.{has_null}
 use Rattle.sq_bound.specs.declared.names.Reference.{Reference}
 use Rattle.sq_change.specs.Constraints.{is_met_in}
 use Rattle.sq_change.specs.Reference.{is_row_there, referred, referred_by, values_in}

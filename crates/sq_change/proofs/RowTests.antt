@@ -4,7 +4,7 @@ use Rattle.sq_value.specs.declared.truth.Truth.{Truth}
 use Rattle.sq_meaning.specs.Query.{is_true}
 use Rattle.sq_meaning.specs.Status.{Outcome, and_then}
 use Rattle.sq_meaning.specs.Target.{is_or_violates}
-use Rattle.sq_model.specs.Constraints.{satisfied}
+use Rattle.sq_meaning.specs.Constraints.{satisfied}
 use Rattle.sq_expression.specs.Fault.{Meets}
 use Rattle.sq_expression.specs.declared.fault.Fault.{Fault}
 use Rattle.sq_expression.specs.declared.fault.Fault.TheVariants as fault

@@ -6,7 +6,7 @@ use Rattle.std.specs.List.{AllByRecursion, AllZip}
 use Rattle.sq_store.specs.declared.table.Numbered.{Numbered}
 use Rattle.sq_meaning.specs.Environment.{Row}
 use Rattle.sq_meaning.specs.Status.{Outcome, and_then}
-use Rattle.sq_model.specs.Change.{if_some}
+use Rattle.sq_meaning.specs.Change.{if_some}
 use Rattle.sq_expression.specs.Fault.{Meets, MeetsAs, status_of}
 use Rattle.sq_expression.specs.declared.fault.Failure.TheVariants as failure
 use Rattle.sq_expression.specs.declared.fault.Fault.{Fault}

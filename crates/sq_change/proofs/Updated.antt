@@ -9,7 +9,7 @@ use Rattle.sq_store.specs.declared.change.Change.{Change}
 use Rattle.sq_store.specs.declared.change.Change.TheVariants.{Insert, Replace, Remove}
 use Rattle.sq_meaning.specs.Environment.{Row}
 use Rattle.sq_meaning.specs.Status.{each}
-use Rattle.sq_model.specs.Change.{with_values}
+use Rattle.sq_meaning.specs.Change.{with_values}
 use Rattle.sq_bound.specs.declared.statement.BoundAssignment.{BoundAssignment}
 use Rattle.sq_expression.specs.Fault.{Meets}
 use Rattle.sq_expression.specs.declared.fault.Fault.{Fault}

@@ -11,7 +11,7 @@ use Rattle.sq_meaning.specs.Query.{is_true}
 use Rattle.sq_meaning.specs.Status.{Outcome, ◌>>=◌}
 use Rattle.sq_meaning.specs.Target.{is_or_violates}
 use Rattle.sq_meaning.specs.declared.status.Status.TheVariants as status
-use Rattle.sq_model.specs.Constraints.{all_satisfied, demanded, has_null, satisfied}
+use Rattle.sq_meaning.specs.Constraints.{all_satisfied, demanded, has_null, satisfied}
 use Rattle.sq_bound.specs.Fits.{has_its_values, keys_of_bases, not_nulls_hold}
 use Rattle.sq_bound.specs.declared.condition.BoundCond.{BoundCond}
 use Rattle.sq_bound.specs.declared.names.BaseTable.{BaseTable}

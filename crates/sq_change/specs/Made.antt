@@ -14,8 +14,8 @@ use Rattle.sq_meaning.specs.Expression.{user_value, value}
 use Rattle.sq_meaning.specs.Placed.{by_place}
 use Rattle.sq_meaning.specs.Query.{rows}
 use Rattle.sq_meaning.specs.Status.{Outcome, each, well_formed, ◌>>=◌}
-use Rattle.sq_model.specs.Change.{if_some, with_values}
-use Rattle.sq_model.specs.Constraints.{demanded}
+use Rattle.sq_meaning.specs.Change.{if_some, with_values}
+use Rattle.sq_meaning.specs.Constraints.{demanded}
 use Rattle.sq_meaning.specs.declared.status.Status.TheVariants as status
 use Rattle.sq_bound.specs.Condition.{select_of}
 use Rattle.sq_bound.specs.Expression.{expr_of}

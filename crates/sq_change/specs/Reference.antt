@@ -7,7 +7,7 @@ use Rattle.sq_store.specs.Content.{Content, table_at}
 use Rattle.sq_store.specs.Keys.{Keys, key_at, keys_at, with_key}
 use Rattle.sq_store.specs.declared.table.Table.{Table}
 use Rattle.sq_meaning.specs.Environment.{Row}
-use Rattle.sq_model.specs.Constraints.{has_null}
+use Rattle.sq_meaning.specs.Constraints.{has_null}
 use Rattle.sq_bound.specs.declared.names.Reference.{Reference}
 use Rattle.sq_bound.specs.declared.statement.BoundAssignment.{BoundAssignment}
 use Rattle.sq_change.specs.declared.reference.Referenced.{Referenced}

@@ -7,7 +7,7 @@ ghost use Rattle.sq_value.specs.declared.value.Value.{Value as AnyValue};
 ghost use Rattle.sq_store.specs.Change.{insert_count, rows_put};
 ghost use Rattle.sq_store.specs.Content.{changed_by, table_at, with_table};
 ghost use Rattle.sq_store.specs.Keys.{has_distinct_keys, has_keys, keys_at};
-ghost use Rattle.sq_model.specs.Constraints.{demanded};
+ghost use Rattle.sq_meaning.specs.Constraints.{demanded};
 ghost use Rattle.sq_meaning.specs.declared.status.Status.TheVariants.{IntegrityConstraintViolation};
 ghost use Rattle.sq_expression.specs.Fault.{Meets, MeetsAs};
 ghost use Rattle.sq_meaning.specs.Status.{Outcome};

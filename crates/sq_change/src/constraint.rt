@@ -8,7 +8,7 @@ ghost use Rattle.sq_store.specs.Change.{rows_put};
 ghost use Rattle.sq_meaning.specs.Query.{is_true};
 ghost use Rattle.sq_meaning.specs.Status.{Outcome, and_then};
 ghost use Rattle.sq_meaning.specs.Target.{is_or_violates};
-ghost use Rattle.sq_model.specs.Constraints.{all_satisfied};
+ghost use Rattle.sq_meaning.specs.Constraints.{all_satisfied};
 ghost use Rattle.sq_bound.specs.declared.condition.TablePlace.{TablePlace};
 ghost use Rattle.sq_expression.specs.Fault.{Meets};
 ghost use Rattle.sq_query.specs.MayRead.{MayEnd, MayRead};

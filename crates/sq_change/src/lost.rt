@@ -5,7 +5,7 @@ ghost use Rattle.std.specs.List.{list_all};
 ghost use Rattle.sq_store.specs.Content.{table_at};
 ghost use Rattle.sq_store.specs.Keys.{has_columns, has_keys, key_at, with_key};
 ghost use Rattle.sq_meaning.specs.declared.status.Status.TheVariants.{IntegrityConstraintViolation};
-ghost use Rattle.sq_model.specs.Constraints.{demanded};
+ghost use Rattle.sq_meaning.specs.Constraints.{demanded};
 ghost use Rattle.sq_bound.specs.Fits.{IsBase, have_width, holds, keys_of_bases};
 ghost use Rattle.sq_expression.specs.Fault.{Meets};
 ghost use Rattle.sq_query.specs.MayRead.{MayEnd};

@@ -4,7 +4,7 @@ ghost use Rattle.std.specs.Prelude.{◌≡◌, ◌&&◌, ◌++◌, true, length,
 ghost use Rattle.sq_store.specs.Change.{rows_put};
 ghost use Rattle.sq_store.specs.Content.{table_at};
 ghost use Rattle.sq_meaning.specs.declared.status.Status.TheVariants.{IntegrityConstraintViolation};
-ghost use Rattle.sq_model.specs.Constraints.{demanded};
+ghost use Rattle.sq_meaning.specs.Constraints.{demanded};
 ghost use Rattle.sq_bound.specs.Fits.{IsBase, holds, keys_of_bases};
 ghost use Rattle.sq_expression.specs.Fault.{Meets};
 ghost use Rattle.sq_query.specs.MayRead.{MayEnd};

@@ -7,7 +7,7 @@ ghost use Rattle.sq_value.specs.SetFunctions.{is_null};
 ghost use Rattle.sq_store.specs.Change.{rows_put};
 ghost use Rattle.sq_store.specs.Content.{table_at};
 ghost use Rattle.sq_store.specs.Keys.{has_columns};
-ghost use Rattle.sq_model.specs.Constraints.{has_null};
+ghost use Rattle.sq_meaning.specs.Constraints.{has_null};
 ghost use Rattle.sq_query.specs.MayRead.{MayEnd};
 ghost use Rattle.sq_change.specs.Lost.{row_changed};
 ghost use Rattle.sq_change.specs.Reference.{values_in};

@@ -5,7 +5,7 @@ use Rattle.std.specs.List.{list_any}
 use Rattle.sq_lex.specs.declared.name.Name.{Name}
 use Rattle.sq_tree.specs.declared.expr.Expr.{Expr}
 use Rattle.sq_meaning.specs.Environment.{same_name}
-use Rattle.sq_rules.specs.Words.{is_some_and}
+use Rattle.sq_meaning.specs.Words.{is_some_and}
 use Rattle.sq_check.specs.Rule.{are_new_columns, column_of}
 
 abbrev is_new_in : List Name → Option Name → Bool

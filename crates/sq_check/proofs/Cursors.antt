@@ -17,8 +17,8 @@ use Rattle.sq_bound.specs.declared.query.SortColumn.{SortColumn}
 use Rattle.sq_binding.specs.Cursor.{cursor_bound}
 use Rattle.sq_binding.proofs.SameParameters.{names_equal}
 use Rattle.sq_binder.specs.declared.stop.Fault.{Fault as Broken}
-use Rattle.sq_promises.specs.Names.{declared}
-use Rattle.sq_promises.specs.Written.{IsCursorOf}
+use Rattle.sq_binding.specs.Names.{declared}
+use Rattle.sq_binding.specs.Written.{IsCursorOf}
 use Rattle.sq_catalog.specs.Catalog.{Catalog, column_kinds, known}
 use Rattle.sq_catalog.specs.UserTables.{names_in}
 use Rattle.sq_module.specs.declared.program.BoundProcedure.{BoundProcedure}

@@ -11,7 +11,7 @@ use Rattle.sq_tree.specs.declared.module.ModuleItem.TheVariants as item
 use Rattle.sq_tree.specs.declared.module.ModuleText.{ModuleText}
 use Rattle.sq_tree.specs.declared.module.Procedure.{Procedure}
 use Rattle.sq_tree.specs.declared.statement.Statement.TheVariants as statement
-use Rattle.sq_rules.specs.Words.{is_some_and}
+use Rattle.sq_meaning.specs.Words.{is_some_and}
 use Rattle.sq_bound.specs.Known.{KnownTable}
 use Rattle.sq_bound.specs.WellFormed.{IsCursor, kinds_of_parameters}
 use Rattle.sq_bound.specs.declared.names.ParameterDesc.{ParameterDesc}
@@ -21,8 +21,8 @@ use Rattle.sq_bound.specs.declared.query.CursorBody.TheVariants as body
 use Rattle.sq_bound.specs.declared.statement.BoundStatement.{BoundStatement}
 use Rattle.sq_binding.specs.Cursor.{cursor_bound}
 use Rattle.sq_binder.specs.declared.stop.Fault.{Fault as Broken}
-use Rattle.sq_promises.specs.Names.{declared}
-use Rattle.sq_promises.specs.Written.{IsCursorOf}
+use Rattle.sq_binding.specs.Names.{declared}
+use Rattle.sq_binding.specs.Written.{IsCursorOf}
 use Rattle.sq_catalog.specs.Catalog.{Catalog, column_kinds, known}
 use Rattle.sq_catalog.specs.UserTables.{names_in}
 use Rattle.sq_module.specs.Program.{same_procedure}

@@ -1,5 +1,5 @@
 -- The first rule by which a query or a cursor is not updatable, as its text says (ISO/IEC 9075:1992, 7.9 and 13.1; that no WHERE has a
--- subquery is an own rule). They are the rules of `updatable_source` (Target of sq_meaning) and `updatable_query` (WellFormed of sq_rules).
+-- subquery is an own rule). They are the rules of `updatable_source` (Target of sq_meaning) and `updatable_query` (WellFormedStatement of sq_meaning).
 use Rattle.std.specs.Prelude.{◌≡◌, ◌==◌, Bool, true, false, not, ◌&&◌, if◌then◌else◌, List, [], ◌∷◌, ◌++◌, length, map, Option, Some, None, is_some, unwrap_or}
 use Rattle.std.specs.List.{list_any}
 use Rattle.sq_lex.specs.Word.{same_word}
@@ -19,8 +19,8 @@ use Rattle.sq_meaning.specs.Environment.{same_name}
 use Rattle.sq_meaning.specs.SortKeys.{item_name}
 use Rattle.sq_meaning.specs.Spelled.{Named, expr_of, is_distinct_word, listed, query_of, select_of}
 use Rattle.sq_meaning.specs.Syntax.{Query, specification}
-use Rattle.sq_rules.specs.Words.{is_some_and}
-use Rattle.sq_rules.specs.WellFormed.{only_specification}
+use Rattle.sq_meaning.specs.Words.{is_some_and}
+use Rattle.sq_meaning.specs.WellFormedStatement.{only_specification}
 use Rattle.sq_check.specs.declared.rule.Rule.{Rule}
 use Rattle.sq_check.specs.declared.rule.Rule.TheVariants.{Insensitive, Scroll, OrderBy, Union, Distinct, SeveralTables, SelectItems, Subquery, GroupBy, Having, OverView}
 

@@ -8,7 +8,7 @@ ghost use Rattle.sq_module.specs.FirstRefusal.{IsFaultFor};
 ghost use Rattle.sq_module.specs.Program.{ProgramIsWellFormed, declared_procedures};
 ghost use Rattle.sq_module.specs.Refusal.{IsOfSomeModule};
 ghost use Rattle.sq_module.specs.Written.{IsOfTexts};
-ghost use Rattle.sq_rules.specs.ModuleRefusal.{first_module_refusal};
+ghost use Rattle.sq_meaning.specs.ModuleRefusal.{first_module_refusal};
 ghost use Rattle.sq_check.specs.Modules.{AreChecked, AreMarks, AreOpeners, IsMarkAdded};
 ghost use Rattle.sq_check.specs.Remark.{IsCursorRemark, procedure_remark};
 

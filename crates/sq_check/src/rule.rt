@@ -6,7 +6,7 @@ ghost use Rattle.std.specs.List.{list_any};
 ghost use Rattle.std.specs.Option.{option_map};
 ghost use Rattle.sq_meaning.specs.Environment.{same_name};
 ghost use Rattle.sq_meaning.specs.Spelled.{listed, query_of, query_term_of};
-ghost use Rattle.sq_rules.specs.Words.{is_some_and};
+ghost use Rattle.sq_meaning.specs.Words.{is_some_and};
 ghost use Rattle.sq_check.specs.Rule as spec;
 
 use indexmap::IndexSet;

@@ -39,3 +39,4 @@ pub mod TableTakes
 pub mod TailTakes
 pub mod Takes
 pub mod TextTakes
+pub mod Stops

@@ -10,3 +10,5 @@ pub mod Statement
 pub mod Module
 pub mod Schema
 pub mod Script
+pub mod List
+pub mod Reads

@@ -1,16 +1,29 @@
-//! The grammar as reading: each rule is a function from tokens to a tree and the tokens after it.
+//! The grammar as reading: each rule is a function from tokens to a tree and the tokens after it. And the first steps of the
+//! parser: the tokens still to be read, lists with commas, names and data types.
 //!
-//! The definitions stand in `specs/`. Of them it is proved (`proofs/`) that what is read is spelled by its tokens, that the
-//! tokens of every tree are read as it unless it is too deep, and so that no two trees of one kind have one list of tokens.
-//! Here are only the limit of brackets and the types that both the definitions and the parser speak of.
+//! The definitions are in `specs/`. `proofs/` shows that what is read is spelled by its tokens, that the tokens of every tree
+//! are read as it unless it is too deep, and so that no two trees of one kind have one list of tokens.
 #![tactic(auto)]
 
 mod brackets;
 mod cond_or_expr;
+mod list;
+mod names;
+mod reader;
+mod stop;
 mod type_word;
+mod types;
 mod verb;
 
 pub use brackets::MAX_DEPTH;
 pub use cond_or_expr::CondOrExpr;
+pub use list::{comma_list, items};
+pub use names::{
+    column_from, column_reference, columns, columns_if_any, parameter, parameter_from, sign_if_any,
+    signed_number, table_name,
+};
+pub use reader::Reader;
+pub use stop::Stop;
 pub use type_word::TypeWord;
+pub use types::data_type;
 pub use verb::Verb;

@@ -22,11 +22,11 @@ use Rattle.sq_meaning.specs.declared.status.Status.TheVariants as status
 use Rattle.sq_meaning.proofs.AnswerLaws.{then_answers, weaker}
 use Rattle.sq_meaning.proofs.QueryKinds.{Ends, rows_of_kinds}
 use Rattle.sq_meaning.proofs.ReadingKinds.{cursor_of_kinds, database_agrees, env_by_name}
-use Rattle.sq_rules.specs.Catalog.{tables_of}
-use Rattle.sq_model.specs.Change.{outer_env, reading}
-use Rattle.sq_model.specs.Machine.{Running, cursor_rows, select_into, select_reply, selected_row, setting, single_row, sort_order, sorted_query, surroundings}
-use Rattle.sq_model.specs.Parameter.{Parameters, Retrieval, domain_of_parameter, indicated, inputs_of, is_cut, reply_of, row_retrieved, target_set, value_retrieved}
-use Rattle.sq_rules.specs.WellFormed.{cursor_query, select_of_statement}
+use Rattle.sq_meaning.specs.Catalog.{tables_of}
+use Rattle.sq_meaning.specs.Change.{outer_env, reading}
+use Rattle.sq_meaning.specs.Machine.{Running, cursor_rows, select_into, select_reply, selected_row, setting, single_row, sort_order, sorted_query, surroundings}
+use Rattle.sq_meaning.specs.Parameter.{Parameters, Retrieval, domain_of_parameter, indicated, inputs_of, is_cut, reply_of, row_retrieved, target_set, value_retrieved}
+use Rattle.sq_meaning.specs.WellFormedStatement.{cursor_query, select_of_statement}
 
 ends_then : {A B : Type 0} (r : Outcome A) (f : A → Outcome B) → Ends r → ((x : A) → Ends (f x)) → Ends (and_then r f)
 ends_then r f h t = then_answers (λ x. ⊤) (λ y. ⊤) r f h (λ x p. t x)

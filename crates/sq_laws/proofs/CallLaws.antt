@@ -26,17 +26,17 @@ use Rattle.sq_meaning.specs.Status.{Outcome, each, well_formed}
 use Rattle.sq_meaning.specs.Tables.{descriptor_of, rows_in}
 use Rattle.sq_meaning.specs.Target.{Target, target_of}
 use Rattle.sq_meaning.specs.declared.status.Status.TheVariants as status
-use Rattle.sq_model.proofs.Bind.{bind_ok}
-use Rattle.sq_model.proofs.DomainLaws.{Each, IsTyped, IsTypedRow, each_filtered, inserted_in, mapped, new_rows_in, replaced_in, unmapped, updated_rows_in}
-use Rattle.sq_model.specs.Change.{Setting, Which, base_at, check_options_met, completed, completed_with, delete_outcome, given_rows, has_numbers, insert_outcome, insert_places, is_numbered, new_row, numbers_changed, rows_at, tables_in, update_outcome, updated_row, which_target, with_replaced, with_rows, without}
-use Rattle.sq_model.specs.Constraints.{AllChecksHold, ChecksHold, ConstraintsHold, DomainsHold, EachTable, all_satisfied, constraints_checked, demanded, keys_satisfied, references_satisfied, row_satisfied, rows_of_base}
-use Rattle.sq_model.specs.Cursor.{CursorState, fetched, is_open}
-use Rattle.sq_model.specs.Machine.{Call, CursorEntry, Outcomes, Program, Running, State, all_closed, behind_delete, call_in, call_of, change_by, close_cursor, cursor_now, delete_rows, ends_with, fetch_cursor, fetch_to, move_of, moved, open_by, open_cursor, opened, outcome, performed, performed_if, replied, running, setting, shown_now, stepped, surroundings, update_rows, which_rows}
-use Rattle.sq_rules.specs.Module.{cursor_named, module_named, procedure_named}
-use Rattle.sq_model.specs.Parameter.{replied_with}
-use Rattle.sq_model.specs.Run.{after}
-use Rattle.sq_rules.specs.Schema.{BaseTable, Elements, base_place, base_tables}
-use Rattle.sq_rules.specs.WellFormed.{is_well_formed_procedure, orientation_of, updatable_cursor}
+use Rattle.sq_meaning.proofs.Bind.{bind_ok}
+use Rattle.sq_meaning.proofs.DomainLaws.{Each, IsTyped, IsTypedRow, each_filtered, inserted_in, mapped, new_rows_in, replaced_in, unmapped, updated_rows_in}
+use Rattle.sq_meaning.specs.Change.{Setting, Which, base_at, check_options_met, completed, completed_with, delete_outcome, given_rows, has_numbers, insert_outcome, insert_places, is_numbered, new_row, numbers_changed, rows_at, tables_in, update_outcome, updated_row, which_target, with_replaced, with_rows, without}
+use Rattle.sq_meaning.specs.Constraints.{AllChecksHold, ChecksHold, ConstraintsHold, DomainsHold, EachTable, all_satisfied, constraints_checked, demanded, keys_satisfied, references_satisfied, row_satisfied, rows_of_base}
+use Rattle.sq_meaning.specs.Cursor.{CursorState, fetched, is_open}
+use Rattle.sq_meaning.specs.Machine.{Call, CursorEntry, Outcomes, Program, Running, State, all_closed, behind_delete, call_in, call_of, change_by, close_cursor, cursor_now, delete_rows, ends_with, fetch_cursor, fetch_to, move_of, moved, open_by, open_cursor, opened, outcome, performed, performed_if, replied, running, setting, shown_now, stepped, surroundings, update_rows, which_rows}
+use Rattle.sq_meaning.specs.Module.{cursor_named, module_named, procedure_named}
+use Rattle.sq_meaning.specs.Parameter.{replied_with}
+use Rattle.sq_meaning.specs.Run.{after}
+use Rattle.sq_meaning.specs.Schema.{BaseTable, Elements, base_place, base_tables}
+use Rattle.sq_meaning.specs.WellFormedStatement.{is_well_formed_procedure, orientation_of, updatable_cursor}
 
 -- ---- what a successful change is: a database with one base table changed, whose constraints were checked
 

@@ -18,9 +18,9 @@ use Rattle.sq_meaning.specs.WellFormed.{Level as Lines, froms as from_clauses}
 use Rattle.sq_meaning.specs.Spelled.{Named}
 use Rattle.sq_meaning.proofs.AnswerLaws.{all_mapped, all_weaker}
 use Rattle.sq_laws.proofs.SiteLaws.{IsSound, never, none_passes}
-use Rattle.sq_rules.specs.Binding.{fits, fits_here, is_outer, is_ungrouped, is_ungrouped_at, item_here, items_here, nearest_fits, one_further}
-use Rattle.sq_rules.specs.Site.{Around, EnclosingQuery, Known, Site}
-use Rattle.sq_rules.specs.Words.{is_some_and}
+use Rattle.sq_meaning.specs.Binding.{fits, fits_here, is_outer, is_ungrouped, is_ungrouped_at, item_here, items_here, nearest_fits, one_further}
+use Rattle.sq_meaning.specs.Site.{Around, EnclosingQuery, Known, Site}
+use Rattle.sq_meaning.specs.Words.{is_some_and}
 
 -- ---- queries around
 

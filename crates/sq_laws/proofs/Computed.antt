@@ -31,17 +31,17 @@ use Rattle.sq_tree.specs.declared.statement.Statement.{Statement}
 use Rattle.sq_tree.specs.declared.statement.Statement.TheVariants as statement
 use Rattle.sq_meaning.specs.Environment.{TableName}
 use Rattle.sq_meaning.specs.declared.status.Status.TheVariants as status
-use Rattle.sq_model.specs.Cursor.{CursorState, Move, before_rows, fetched}
-use Rattle.sq_model.specs.Machine.{Program, first_state}
-use Rattle.sq_rules.specs.ModuleRefusal.{first_module_refusal}
-use Rattle.sq_model.specs.Parameter.{Assignment, ParameterValue, Parameters, replied_row, replied_with, whole}
-use Rattle.sq_rules.specs.Privilege.{Privilege}
-use Rattle.sq_rules.specs.Privileges.{holds, may_grant_on}
-use Rattle.sq_model.specs.Report.{report}
-use Rattle.sq_model.specs.Run.{Item, program_of}
-use Rattle.sq_rules.specs.SchemaRefusal.{elements_of, first_schema_refusal}
-use Rattle.sq_rules.specs.declared.refusal.ModuleFault.TheVariants as module_fault
-use Rattle.sq_rules.specs.declared.refusal.SchemaFault.TheVariants as schema_fault
+use Rattle.sq_meaning.specs.Cursor.{CursorState, Move, before_rows, fetched}
+use Rattle.sq_meaning.specs.Machine.{Program, first_state}
+use Rattle.sq_meaning.specs.ModuleRefusal.{first_module_refusal}
+use Rattle.sq_meaning.specs.Parameter.{Assignment, ParameterValue, Parameters, replied_row, replied_with, whole}
+use Rattle.sq_meaning.specs.Privilege.{Privilege}
+use Rattle.sq_meaning.specs.Privileges.{holds, may_grant_on}
+use Rattle.sq_meaning.specs.Report.{report}
+use Rattle.sq_meaning.specs.Run.{Item, program_of}
+use Rattle.sq_meaning.specs.SchemaRefusal.{elements_of, first_schema_refusal}
+use Rattle.sq_meaning.specs.declared.refusal.ModuleFault.TheVariants as module_fault
+use Rattle.sq_meaning.specs.declared.refusal.SchemaFault.TheVariants as schema_fault
 
 -- ---- FETCH on three rows (13.3)
 

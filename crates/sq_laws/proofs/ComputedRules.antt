@@ -19,11 +19,11 @@ use Rattle.sq_meaning.specs.Syntax.{Clause, Cond, Expr, Select, a_cond, added, a
 use Rattle.sq_meaning.specs.Syntax.{absent}
 use Rattle.sq_meaning.specs.Tables.{ColumnDescriptor, Tables}
 use Rattle.sq_meaning.specs.Tables.{base_table}
-use Rattle.sq_rules.specs.Binding.{Judged, has_fault, syntax_faults}
-use Rattle.sq_rules.specs.Keyed.{is_keyed}
-use Rattle.sq_rules.specs.Site.{Site, outside, select_sites}
-use Rattle.sq_rules.specs.declared.fault.BindingFault.{BindingFault}
-use Rattle.sq_rules.specs.declared.fault.BindingFault.TheVariants as fault
+use Rattle.sq_meaning.specs.Binding.{Judged, has_fault, syntax_faults}
+use Rattle.sq_meaning.specs.Keyed.{is_keyed}
+use Rattle.sq_meaning.specs.Site.{Site, outside, select_sites}
+use Rattle.sq_meaning.specs.declared.fault.BindingFault.{BindingFault}
+use Rattle.sq_meaning.specs.declared.fault.BindingFault.TheVariants as fault
 
 abbrev described : List ℕ → Kind → ColumnDescriptor
 described name k = record { name = name; kind = k }

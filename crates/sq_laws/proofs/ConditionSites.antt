@@ -24,9 +24,9 @@ use Rattle.sq_meaning.specs.WellFormed.{WellFormedClause, WellFormedColumn, Well
 use Rattle.sq_laws.proofs.ColumnSites.{AreKnown, IsKnown, around, froms_of, froms_same, has_line_of, item_with, lines_of}
 use Rattle.sq_laws.proofs.ExpressionSites.{MayCall, SpellsNoNull, expr_well_formed, kind_valued}
 use Rattle.sq_laws.proofs.SiteLaws.{AreSound, IsSound, all_of_flat_mapped, all_parts}
-use Rattle.sq_rules.specs.Binding.{kind_mismatch}
-use Rattle.sq_rules.specs.Site.{EnclosingQuery, Known, Site, beside_subquery, count_in, first_kind, kind_here, kinds_here, list_count, plain_query, select_count, shown_query}
-use Rattle.sq_rules.specs.Site.{compared_sites, clause_sites, cond_sites, conds_sites, escape_sites, expr_sites, list_sites, select_sites, text_sites}
+use Rattle.sq_meaning.specs.Binding.{kind_mismatch}
+use Rattle.sq_meaning.specs.Site.{EnclosingQuery, Known, Site, beside_subquery, count_in, first_kind, kind_here, kinds_here, list_count, plain_query, select_count, shown_query}
+use Rattle.sq_meaning.specs.Site.{compared_sites, clause_sites, cond_sites, conds_sites, escape_sites, expr_sites, list_sites, select_sites, text_sites}
 
 -- ---- no literal is the null value
 

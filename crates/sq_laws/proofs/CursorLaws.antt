@@ -5,7 +5,7 @@ use Rattle.std.specs.List.{AllByRecursion}
 use Rattle.std.specs.Prelude.{◌≡◌, ℕ, zero, suc, ◌+◌, ◌≤◌, List, [], ◌∷◌, ◌++◌, map, length, replicate, ℤ, pos, negsuc, ◌+ℤ◌, slice_get, Option, refl, Some, None}
 use Rattle.sq_value.specs.SetFunctions.{numbers}
 use Rattle.sq_value.specs.declared.value.Value.{Value}
-use Rattle.sq_model.specs.Cursor.{CursorState, Fetched, Move, at_number, at_place, bounded, fetched, to_next, wanted}
+use Rattle.sq_meaning.specs.Cursor.{CursorState, Fetched, Move, at_number, at_place, bounded, fetched, to_next, wanted}
 
 bounded_within : (n : ℕ) (z : ℤ) → bounded n z ≤ n + 1
 bounded_within n (pos k) = omega arith

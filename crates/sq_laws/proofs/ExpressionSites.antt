@@ -24,8 +24,8 @@ use Rattle.sq_meaning.specs.Tables.{Declared, kinds_by_name, reading_by_name}
 use Rattle.sq_meaning.specs.WellFormed.{HasValue, IsInQuery, MayStand, OnlyIf, WellFormedExpr, inside_function}
 use Rattle.sq_laws.proofs.ColumnSites.{AreKnown, around, column_read, column_valued, froms_of, froms_same, lines_of, meant, operand, operand_read}
 use Rattle.sq_laws.proofs.SiteLaws.{AreSound, IsSound, all_parts, neither, never}
-use Rattle.sq_rules.specs.Binding.{column_of_site, indicator_name, is_of_text, is_outer, is_unknown_name, reads_outer, scale_exceeded}
-use Rattle.sq_rules.specs.Site.{Around, EnclosingQuery, Known, Site, expr_sites, kind_here, summed_sites}
+use Rattle.sq_meaning.specs.Binding.{column_of_site, indicator_name, is_of_text, is_outer, is_unknown_name, reads_outer, scale_exceeded}
+use Rattle.sq_meaning.specs.Site.{Around, EnclosingQuery, Known, Site, expr_sites, kind_here, summed_sites}
 
 -- no literal is the null value: a text spells none (5.3)
 abbrev pub SpellsNoNull : Expr Named → Type 0

@@ -13,11 +13,11 @@ use Rattle.sq_meaning.specs.Environment.{Row}
 use Rattle.sq_meaning.specs.Spelled.{listed}
 use Rattle.sq_meaning.specs.declared.status.Status.TheVariants as status
 use Rattle.sq_laws.proofs.CursorLaws.{and_more}
-use Rattle.sq_model.specs.Cursor.{CursorState, at_number, fetched, is_open, to_next}
-use Rattle.sq_model.specs.Machine.{Call, CursorEntry, Outcomes, Program, Running, State, call_in, call_of, cursor_now, ends_with, fetch_cursor, fetch_to, is_entry, move_of, moved, outcome, performed, performed_if, replied, running, set_cursor, shown_now, stepped, surroundings}
-use Rattle.sq_rules.specs.Module.{cursor_named, declared_parameters, module_named, procedure_named}
-use Rattle.sq_model.specs.Parameter.{Reply, replied_row, replied_with, started_parameters}
-use Rattle.sq_rules.specs.WellFormed.{is_well_formed_procedure, orientation_of, updatable_cursor}
+use Rattle.sq_meaning.specs.Cursor.{CursorState, at_number, fetched, is_open, to_next}
+use Rattle.sq_meaning.specs.Machine.{Call, CursorEntry, Outcomes, Program, Running, State, call_in, call_of, cursor_now, ends_with, fetch_cursor, fetch_to, is_entry, move_of, moved, outcome, performed, performed_if, replied, running, set_cursor, shown_now, stepped, surroundings}
+use Rattle.sq_meaning.specs.Module.{cursor_named, declared_parameters, module_named, procedure_named}
+use Rattle.sq_meaning.specs.Parameter.{Reply, replied_row, replied_with, started_parameters}
+use Rattle.sq_meaning.specs.WellFormedStatement.{is_well_formed_procedure, orientation_of, updatable_cursor}
 
 -- ---- a cursor that was there is as it was set
 

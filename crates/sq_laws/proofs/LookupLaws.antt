@@ -5,8 +5,8 @@ use Rattle.std.specs.Prelude.{◌≡◌, ℕ, List, [], ◌∷◌, map, slice_ge
 use Rattle.sq_tree.specs.declared.names.ColumnReference.{ColumnReference}
 use Rattle.sq_meaning.specs.Environment.{Place, fitting, nearest, place_of}
 use Rattle.sq_meaning.specs.Status.{Outcome, well_formed, ◌>>=◌}
-use Rattle.sq_rules.specs.Binding.{fits, items_here, nearest_fits, one_further}
-use Rattle.sq_rules.specs.Site.{EnclosingQuery, Known}
+use Rattle.sq_meaning.specs.Binding.{fits, items_here, nearest_fits, one_further}
+use Rattle.sq_meaning.specs.Site.{EnclosingQuery, Known}
 
 further : (ps : List Place) → (well_formed (slice_get ps 0) >>= λ p. Ok (one_further p)) ≡ well_formed (slice_get (map one_further ps) 0)
 further [] = refl

@@ -20,12 +20,12 @@ use Rattle.sq_tree.specs.declared.schema.TableDefinition.{TableDefinition}
 use Rattle.sq_meaning.specs.Environment.{Row, TableName, same_table}
 use Rattle.sq_meaning.specs.Spelled.{table_of}
 use Rattle.sq_laws.proofs.CallLaws.{NamesDiffer, StateHolds, constraints_hold_after}
-use Rattle.sq_rules.specs.Catalog.{base_count, column_domain, tables_of}
-use Rattle.sq_model.specs.Constraints.{AreInDomains, ChecksHold, ConstraintsHold, DomainsHold, all_satisfied, demanded, key_satisfied, keys_satisfied, reference_satisfied, row_satisfied, rows_of_base}
-use Rattle.sq_model.specs.Machine.{Call, Program, State, first_state, stepped}
-use Rattle.sq_model.specs.Run.{Item, after, program_of}
-use Rattle.sq_rules.specs.Schema.{BaseTable, Elements, base_place, base_table_of, base_tables, column_definitions, keys, table_references}
-use Rattle.sq_rules.specs.SchemaRefusal.{Part, elements_of, elements_with, first_schema_refusal, is_made, is_made_again, name_twice, other_schema, part_fault, refusal_at, refused_for, same_user, schema_faults, schema_parts, schema_refusal, users_with}
+use Rattle.sq_meaning.specs.Catalog.{base_count, column_domain, tables_of}
+use Rattle.sq_meaning.specs.Constraints.{AreInDomains, ChecksHold, ConstraintsHold, DomainsHold, all_satisfied, demanded, key_satisfied, keys_satisfied, reference_satisfied, row_satisfied, rows_of_base}
+use Rattle.sq_meaning.specs.Machine.{Call, Program, State, first_state, stepped}
+use Rattle.sq_meaning.specs.Run.{Item, after, program_of}
+use Rattle.sq_meaning.specs.Schema.{BaseTable, Elements, base_place, base_table_of, base_tables, column_definitions, keys, table_references}
+use Rattle.sq_meaning.specs.SchemaRefusal.{Part, elements_of, elements_with, first_schema_refusal, is_made, is_made_again, name_twice, other_schema, part_fault, refusal_at, refused_for, same_user, schema_faults, schema_parts, schema_refusal, users_with}
 use Rattle.sq_meaning.specs.Tables.{rows_in}
 use Rattle.sq_meaning.specs.declared.status.Status.{Status}
 use Rattle.sq_meaning.specs.declared.status.Status.TheVariants as status

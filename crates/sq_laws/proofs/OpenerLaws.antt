@@ -8,8 +8,8 @@ use Rattle.sq_lex.specs.declared.name.Name.{Name}
 use Rattle.sq_tree.specs.declared.module.ModuleText.{ModuleText}
 use Rattle.sq_tree.specs.declared.module.Procedure.{Procedure}
 use Rattle.sq_meaning.specs.Environment.{same_name}
-use Rattle.sq_rules.specs.Module.{declared_parameters, opener_count, opens, procedure_named, procedures}
-use Rattle.sq_rules.specs.WellFormed.{opener_parameters}
+use Rattle.sq_meaning.specs.Module.{declared_parameters, opener_count, opens, procedure_named, procedures}
+use Rattle.sq_meaning.specs.WellFormedStatement.{opener_parameters}
 
 no_more : (b : Bool) (n : ℕ) → b ≡ true → cond b 1 0 + n ≡ 0 → ⊥
 no_more true n p h = omega (arith, h)

@@ -2,10 +2,10 @@
 use Rattle.std.specs.Prelude.{◌≡◌, Bool, true, false, ◌||◌, [], ◌∷◌, ◌++◌, refl}
 use Rattle.sq_lex.specs.declared.name.Name.{Name}
 use Rattle.sq_meaning.specs.Environment.{TableName}
-use Rattle.sq_rules.specs.Catalog.{tables_of}
-use Rattle.sq_rules.specs.Privilege.{Privilege}
-use Rattle.sq_rules.specs.Privileges.{chain, gives}
-use Rattle.sq_rules.specs.Schema.{Element, Elements}
+use Rattle.sq_meaning.specs.Catalog.{tables_of}
+use Rattle.sq_meaning.specs.Privilege.{Privilege}
+use Rattle.sq_meaning.specs.Privileges.{chain, gives}
+use Rattle.sq_meaning.specs.Schema.{Element, Elements}
 
 or_right : (a b : Bool) → b ≡ true → (a || b) ≡ true
 or_right true b e = refl

@@ -17,8 +17,8 @@ use Rattle.sq_meaning.specs.WellFormed.{HasValue, WellFormedQuery, WellFormedSel
 use Rattle.sq_laws.proofs.ColumnSites.{items_are, then_valued}
 use Rattle.sq_laws.proofs.ConditionSites.{HasCount, SelectSpellsNoNull, parts_of, same_count, select_count_there, select_well_formed}
 use Rattle.sq_laws.proofs.SiteLaws.{AreSound, IsSound, all_parts, sound_sites}
-use Rattle.sq_rules.specs.Binding.{Judged, has_syntax_fault, kind_mismatch}
-use Rattle.sq_rules.specs.Site.{Known, Site, alike_pairs, outside, query_count, query_kinds_of, query_sites, select_sites}
+use Rattle.sq_meaning.specs.Binding.{Judged, has_syntax_fault, kind_mismatch}
+use Rattle.sq_meaning.specs.Site.{Known, Site, alike_pairs, outside, query_count, query_kinds_of, query_sites, select_sites}
 
 -- no literal is the null value
 abbrev pub QuerySpellsNoNull : Query Named → Type 0

@@ -2,8 +2,8 @@
 use Rattle.std.specs.List.{AllByRecursion, list_any}
 use Rattle.std.specs.Prelude.{◌≡◌, Bool, true, false, ◌||◌, List, [], ◌∷◌, ◌++◌, map, flat_map, refl}
 use Rattle.sq_meaning.proofs.AnswerLaws.{all_weaker}
-use Rattle.sq_rules.specs.Binding.{Judged, ambiguous_name, bad_sort_key, breaks, count_mismatch, has_fault, has_syntax_fault, kind_mismatch, limit_exceeded, misplaced_function, syntax_faults, ungrouped_column, unknown_column, unknown_parameter, unknown_table}
-use Rattle.sq_rules.specs.Site.{Known, Site}
+use Rattle.sq_meaning.specs.Binding.{Judged, ambiguous_name, bad_sort_key, breaks, count_mismatch, has_fault, has_syntax_fault, kind_mismatch, limit_exceeded, misplaced_function, syntax_faults, ungrouped_column, unknown_column, unknown_parameter, unknown_table}
+use Rattle.sq_meaning.specs.Site.{Known, Site}
 
 -- ---- lists
 

@@ -8,8 +8,8 @@ use Rattle.sq_meaning.specs.Status.{Outcome, and_then}
 use Rattle.sq_meaning.specs.WellFormed.{HasValue}
 use Rattle.sq_laws.proofs.ExpressionSites.{not_err}
 use Rattle.sq_laws.proofs.SiteLaws.{AreSound}
-use Rattle.sq_rules.specs.Site.{Known}
-use Rattle.sq_rules.specs.WellFormed.{sort_sites}
+use Rattle.sq_meaning.specs.Site.{Known}
+use Rattle.sq_meaning.specs.WellFormedStatement.{sort_sites}
 
 both_valued : {A B : Type 0} (o : Outcome A) (f : A → B) (rest : Outcome (List B)) → HasValue o → HasValue rest → HasValue (and_then (and_then o (λ x. Ok (f x))) (λ y. and_then rest (λ ys. Ok (y ∷ ys))))
 both_valued (Ok x) f (Ok ys) h g = tt

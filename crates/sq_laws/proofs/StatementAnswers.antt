@@ -24,19 +24,19 @@ use Rattle.sq_laws.proofs.AnswerLaws.{IsDeclaredState, cursor_rows_answer, selec
 use Rattle.sq_laws.proofs.ColumnSites.{lines_of}
 use Rattle.sq_laws.proofs.CondLiterals.{cond_spells, list_spells, table_spells}
 use Rattle.sq_laws.proofs.ConditionSites.{cond_well_formed, select_well_formed}
-use Rattle.sq_model.proofs.KindLaws.{inputs_are_declared}
+use Rattle.sq_meaning.proofs.KindLaws.{inputs_are_declared}
 use Rattle.sq_laws.proofs.OpenerLaws.{opener_is}
 use Rattle.sq_laws.proofs.QueryLiterals.{query_spells}
 use Rattle.sq_laws.proofs.QuerySites.{query_names_there, query_well_formed}
 use Rattle.sq_laws.proofs.SiteLaws.{AreSound, IsSound, all_parts, sound_sites}
 use Rattle.sq_laws.proofs.SortSites.{sort_order_there}
-use Rattle.sq_rules.specs.Binding.{has_syntax_fault, is_well_formed, lacks_privilege}
-use Rattle.sq_rules.specs.Catalog.{tables_of}
-use Rattle.sq_model.specs.Change.{reading}
-use Rattle.sq_model.specs.Machine.{Program, Running, State, call_of, cursor_rows, performed, performed_if, running, select_into, setting, surroundings}
-use Rattle.sq_rules.specs.Module.{declared_parameters, opener_count, opens, procedure_named}
-use Rattle.sq_rules.specs.Site.{Site, cond_sites, outside, query_sites, select_sites}
-use Rattle.sq_rules.specs.WellFormed.{beside_table, cursor_names, cursor_query, cursor_sites, is_sound, is_well_formed_procedure, judged_by, known_in, known_in_query, opener_parameters, opener_surroundings, select_into_sites, select_of_statement, sort_sites, statement_sites, surroundings_of}
+use Rattle.sq_meaning.specs.Binding.{has_syntax_fault, is_well_formed, lacks_privilege}
+use Rattle.sq_meaning.specs.Catalog.{tables_of}
+use Rattle.sq_meaning.specs.Change.{reading}
+use Rattle.sq_meaning.specs.Machine.{Program, Running, State, call_of, cursor_rows, performed, performed_if, running, select_into, setting, surroundings}
+use Rattle.sq_meaning.specs.Module.{declared_parameters, opener_count, opens, procedure_named}
+use Rattle.sq_meaning.specs.Site.{Site, cond_sites, outside, query_sites, select_sites}
+use Rattle.sq_meaning.specs.WellFormedStatement.{beside_table, cursor_names, cursor_query, cursor_sites, is_sound, is_well_formed_procedure, judged_by, known_in, known_in_query, opener_parameters, opener_surroundings, select_into_sites, select_of_statement, sort_sites, statement_sites, surroundings_of}
 
 -- what is well formed by the rules has no syntax fault
 no_syntax_fault : (fault lacks : Bool) → not (fault || lacks) ≡ true → fault ≡ false

@@ -9,9 +9,9 @@ use Rattle.sq_meaning.specs.Tables.{by_name, kinds_by_name, table_rows}
 use Rattle.sq_meaning.specs.WellFormed.{WellFormedSelect}
 use Rattle.sq_laws.proofs.CondLiterals.{select_spells}
 use Rattle.sq_laws.proofs.QuerySites.{taken_select_well_formed}
-use Rattle.sq_rules.specs.Catalog.{tables_of}
-use Rattle.sq_rules.specs.Schema.{Elements}
-use Rattle.sq_rules.specs.SchemaRefusal.{view_has_fault, view_judged}
+use Rattle.sq_meaning.specs.Catalog.{tables_of}
+use Rattle.sq_meaning.specs.Schema.{Elements}
+use Rattle.sq_meaning.specs.SchemaRefusal.{view_has_fault, view_judged}
 
 -- no parameter is declared to a view, so its query has none
 pub view_well_formed : (before : Elements) (user : Name) (v : ViewDefinition) (content : Content) (caller : Name) → view_has_fault before user v ≡ false

@@ -1,9 +1,15 @@
-//! What value expressions, search conditions and query expressions mean (ISO/IEC 9075:1992, clauses 4, 6, 7, 8, 13.1
-//! and 22.1).
+//! The definitions (ISO/IEC 9075:1992, clauses 4 to 8, 10 to 14 and 22): what value expressions, search conditions and query
+//! expressions mean; which schemas, modules, scripts and statements are well formed, and who holds which privilege; what calls
+//! and runs mean, with changes, constraints, cursors, the machine, and the report of a run.
 //!
-//! The definitions stand in `specs/`; here is only the status, which they and the processor speak of.
+//! They are in `specs/`; here are only the types that both they and the processor speak of: the status, and the names of
+//! faults and refusals.
 #![tactic(auto)]
 
+mod fault;
+mod refusal;
 mod status;
 
+pub use fault::BindingFault;
+pub use refusal::{ModuleFault, SchemaFault, ScriptFault};
 pub use status::Status;

@@ -19,9 +19,9 @@ use Rattle.sq_bound.specs.WellFormed.{IsCursor, kinds_of_parameters}
 use Rattle.sq_bound.specs.declared.query.BoundCursor.{BoundCursor}
 use Rattle.sq_catalog.specs.Catalog.{Catalog, column_kinds, known}
 use Rattle.sq_catalog.specs.UserTables.{names_in}
-use Rattle.sq_promises.specs.Names.{declared}
-use Rattle.sq_promises.specs.Seen.{cursor_seen}
-use Rattle.sq_promises.specs.Written.{IsCursorOf}
+use Rattle.sq_binding.specs.Names.{declared}
+use Rattle.sq_binding.specs.SeenQuery.{cursor_seen}
+use Rattle.sq_binding.specs.Written.{IsCursorOf}
 use Rattle.sq_module.specs.Added.{AddsCursor, HasCursors, IsInOrder, IsProcedureAt, declared_as, with_cursor, with_number}
 use Rattle.sq_module.specs.Admitted.{OpensEachOnce}
 use Rattle.sq_module.specs.Computed.{AreComputedCursors, IsPart}

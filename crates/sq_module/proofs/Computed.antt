@@ -14,8 +14,8 @@ use Rattle.sq_tree.specs.declared.module.ModuleText.{ModuleText}
 use Rattle.sq_tree.specs.declared.module.Procedure.{Procedure}
 use Rattle.sq_tree.specs.declared.statement.Statement.TheVariants as tree
 use Rattle.sq_meaning.specs.Environment.{same_name}
-use Rattle.sq_rules.specs.Module.{cursor_named, declared_parameters}
-use Rattle.sq_rules.specs.WellFormed.{opener_parameters}
+use Rattle.sq_meaning.specs.Module.{cursor_named, declared_parameters}
+use Rattle.sq_meaning.specs.WellFormedStatement.{opener_parameters}
 use Rattle.sq_bound.specs.declared.query.BoundCursor.{BoundCursor}
 use Rattle.sq_bound.specs.declared.statement.BoundStatement.{BoundStatement}
 use Rattle.sq_binding.specs.Change.{NamedCursors}
@@ -28,8 +28,8 @@ use Rattle.sq_binding.proofs.SameParameters.{names_equal}
 use Rattle.sq_binder.specs.Binds.{Binds}
 use Rattle.sq_binder.specs.declared.stop.Fault.{Fault}
 use Rattle.sq_binder.specs.declared.stop.Stop.{Stop}
-use Rattle.sq_promises.specs.Names.{declared}
-use Rattle.sq_promises.specs.Seen.{cursor_seen, statement_seen}
+use Rattle.sq_binding.specs.Names.{declared}
+use Rattle.sq_binding.specs.SeenQuery.{cursor_seen, statement_seen}
 use Rattle.sq_module.specs.Admitted.{opened_of}
 use Rattle.sq_module.specs.Computed.{AreComputedCursors, AreComputedProcedures, IsComputed, IsComputedCursor, IsComputedProcedure, as_bound}
 use Rattle.sq_module.specs.Program.{same_procedure}

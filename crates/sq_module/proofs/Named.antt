@@ -23,8 +23,8 @@ use Rattle.sq_tree.specs.declared.statement.Statement.{Statement}
 use Rattle.sq_tree.specs.declared.statement.Statement.TheVariants as tree
 use Rattle.sq_meaning.specs.Environment.{same_name}
 use Rattle.sq_meaning.specs.Spelled.{domain_of}
-use Rattle.sq_rules.specs.Module.{cursor_named, declarations_of, declared_by, declared_in, declared_parameters, opens, procedures}
-use Rattle.sq_rules.specs.WellFormed.{opener_parameters}
+use Rattle.sq_meaning.specs.Module.{cursor_named, declarations_of, declared_by, declared_in, declared_parameters, opens, procedures}
+use Rattle.sq_meaning.specs.WellFormedStatement.{opener_parameters}
 use Rattle.sq_bound.specs.declared.names.ParameterDesc.{ParameterDesc}
 use Rattle.sq_bound.specs.declared.query.BoundCursor.{BoundCursor}
 use Rattle.sq_binding.specs.Change.{NamedCursor}
@@ -36,8 +36,8 @@ use Rattle.sq_binder.specs.declared.stop.Fault.{Fault}
 use Rattle.sq_binder.specs.declared.stop.Stop.{Stop}
 use Rattle.sq_binder.specs.declared.stop.Stop.TheVariants as stop
 use Rattle.sq_binder.specs.Binds.{Binds}
-use Rattle.sq_promises.specs.Names.{declared}
-use Rattle.sq_promises.specs.Seen.{cursor_seen}
+use Rattle.sq_binding.specs.Names.{declared}
+use Rattle.sq_binding.specs.SeenQuery.{cursor_seen}
 use Rattle.sq_module.specs.Admitted.{OpensEachOnce, admitted_written, opened_of, openings}
 use Rattle.sq_module.specs.Named.{AreNamed, AreNamedAs, cursor_at, cursors_named, number_in, numbered_as, opened_so_far}
 use Rattle.sq_module.specs.Opened.{AreThere}

@@ -11,10 +11,10 @@ use Rattle.sq_lex.specs.declared.name.Name.{Name}
 use Rattle.sq_tree.specs.declared.module.Declaration.{Declaration}
 use Rattle.sq_tree.specs.declared.module.Declaration.TheVariants as declaration
 use Rattle.sq_meaning.specs.Environment.{same_name}
-use Rattle.sq_rules.specs.Module.{ParameterDeclaration, declared_in}
-use Rattle.sq_rules.specs.ModuleRefusal.{has_bad_declared, is_bad_type}
-use Rattle.sq_rules.specs.Schema.{has_name_twice, is_among}
-use Rattle.sq_rules.specs.Words.{is_some_and}
+use Rattle.sq_meaning.specs.Module.{ParameterDeclaration, declared_in}
+use Rattle.sq_meaning.specs.ModuleRefusal.{has_bad_declared, is_bad_type}
+use Rattle.sq_meaning.specs.Schema.{has_name_twice, is_among}
+use Rattle.sq_meaning.specs.Words.{is_some_and}
 use Rattle.sq_bound.specs.declared.names.ParameterDesc.{ParameterDesc}
 use Rattle.sq_module.specs.Written.{named_as, named_in}
 

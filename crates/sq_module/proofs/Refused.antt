@@ -15,12 +15,12 @@ use Rattle.sq_tree.specs.declared.module.Procedure.{Procedure}
 use Rattle.sq_tree.specs.declared.statement.Statement.{Statement}
 use Rattle.sq_tree.specs.declared.statement.Statement.TheVariants as statement
 use Rattle.sq_meaning.specs.Environment.{same_name}
-use Rattle.sq_rules.specs.Module.{opens, procedure_in}
-use Rattle.sq_rules.specs.ModuleRefusal.{ModuleRefusal as Refusal, at_item, cursor_name, first_module_refusal, first_repeated, has_bad_parameter, has_status_fault, module_refusal, modules_before, name_refusal, procedure_name}
-use Rattle.sq_rules.specs.ModuleRefusal as rules
-use Rattle.sq_rules.specs.Words.{first_of}
-use Rattle.sq_rules.specs.declared.refusal.ModuleFault.{ModuleFault}
-use Rattle.sq_rules.specs.declared.refusal.ModuleFault.TheVariants as fault
+use Rattle.sq_meaning.specs.Module.{opens, procedure_in}
+use Rattle.sq_meaning.specs.ModuleRefusal.{ModuleRefusal as Refusal, at_item, cursor_name, first_module_refusal, first_repeated, has_bad_parameter, has_status_fault, module_refusal, modules_before, name_refusal, procedure_name}
+use Rattle.sq_meaning.specs.ModuleRefusal as rules
+use Rattle.sq_meaning.specs.Words.{first_of}
+use Rattle.sq_meaning.specs.declared.refusal.ModuleFault.{ModuleFault}
+use Rattle.sq_meaning.specs.declared.refusal.ModuleFault.TheVariants as fault
 use Rattle.sq_module.specs.FirstRefusal.{IsFaultAt, IsFaultFor, item_refusal, refusal_of}
 use Rattle.sq_module.specs.Refusal.{has_open_count, is_some_name, opened_by, opened_in, opener_count}
 use Rattle.sq_module.specs.declared.refusal.SessionFault.{SessionFault}

@@ -8,9 +8,9 @@ use Rattle.std.specs.List.{enumerate_from, list_any}
 use Rattle.sq_lex.specs.declared.name.Name.{Name}
 use Rattle.sq_tree.specs.declared.module.ModuleItem.{ModuleItem}
 use Rattle.sq_tree.specs.declared.module.ModuleItem.TheVariants as item
-use Rattle.sq_rules.specs.ModuleRefusal.{first_repeated, names_before, procedure_name}
-use Rattle.sq_rules.specs.Schema.{is_among}
-use Rattle.sq_rules.specs.Words.{is_some_and}
+use Rattle.sq_meaning.specs.ModuleRefusal.{first_repeated, names_before, procedure_name}
+use Rattle.sq_meaning.specs.Schema.{is_among}
+use Rattle.sq_meaning.specs.Words.{is_some_and}
 use Rattle.sq_module.specs.Program.{name_in}
 use Rattle.sq_module.proofs.Places.{none_found, none_next, place_found}
 

@@ -8,7 +8,7 @@ use Rattle.sq_lex.specs.declared.name.Name.{Name}
 use Rattle.sq_tree.specs.declared.module.Cursor.{Cursor}
 use Rattle.sq_tree.specs.declared.statement.Statement.{Statement}
 use Rattle.sq_meaning.specs.Environment.{TableName, same_name}
-use Rattle.sq_rules.specs.Privilege.{Privilege}
+use Rattle.sq_meaning.specs.Privilege.{Privilege}
 use Rattle.sq_bound.specs.Fits.{FitsCursor, FitsStatement, IsBase}
 use Rattle.sq_bound.specs.WellFormed.{IsCursor, IsStatement, kinds_of_parameters}
 use Rattle.sq_bound.specs.declared.names.BaseTable.{BaseTable}
@@ -25,18 +25,18 @@ use Rattle.sq_binding.specs.Seen.{column_of}
 use Rattle.sq_binding.specs.Statement.{statement_bound}
 use Rattle.sq_binder.specs.Binds.{Binds}
 use Rattle.sq_binder.specs.declared.stop.Stop.{Stop}
-use Rattle.sq_cursor_binder.specs.Cursor.{IsOver}
-use Rattle.sq_cursor_binder.specs.Names.{AreOverBases, Beneath, Changes}
-use Rattle.sq_promises.specs.Names.{declared}
-use Rattle.sq_promises.specs.Seen.{BodyHasColumns, cursor_seen, statement_seen, table_named}
-use Rattle.sq_promises.specs.There.{BodyIsThere, StatementIsThere}
-use Rattle.sq_promises.specs.Written.{IsCursorOf, IsStatementOf}
-use Rattle.sq_promises.proofs.Cursors as cursors_law
-use Rattle.sq_promises.proofs.Cursors.{cursor_is_so}
-use Rattle.sq_promises.proofs.Rows.{CursorsMean, IsKnownCursor}
-use Rattle.sq_promises.proofs.Statements as statements_law
-use Rattle.sq_promises.proofs.Statements.{statement_is_so}
-use Rattle.sq_declaring.specs.Catalog.{may}
+use Rattle.sq_binder.specs.Cursor.{IsOver}
+use Rattle.sq_binder.specs.Names.{AreOverBases, Beneath, Changes}
+use Rattle.sq_binding.specs.Names.{declared}
+use Rattle.sq_binding.specs.SeenQuery.{BodyHasColumns, cursor_seen, statement_seen, table_named}
+use Rattle.sq_binding.specs.There.{BodyIsThere, StatementIsThere}
+use Rattle.sq_binding.specs.Written.{IsCursorOf, IsStatementOf}
+use Rattle.sq_binding.proofs.Cursors as cursors_law
+use Rattle.sq_binding.proofs.Cursors.{cursor_is_so}
+use Rattle.sq_binding.proofs.Rows.{CursorsMean, IsKnownCursor}
+use Rattle.sq_binding.proofs.Statements as statements_law
+use Rattle.sq_binding.proofs.Statements.{statement_is_so}
+use Rattle.sq_binding.specs.Catalog.{may}
 use Rattle.sq_catalog.specs.Catalog.{Catalog, column_kinds, known}
 use Rattle.sq_catalog.specs.Exact.{declared as seen, described}
 use Rattle.sq_catalog.specs.Stored.{IsStored}

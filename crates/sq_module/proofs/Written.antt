@@ -23,7 +23,7 @@ use Rattle.sq_bound.specs.declared.statement.BoundStatement.{BoundStatement}
 use Rattle.sq_bound.specs.declared.statement.BoundStatement.TheVariants as statement
 use Rattle.sq_bound.specs.declared.statement.ChangeTarget.{ChangeTarget}
 use Rattle.sq_bound.specs.declared.statement.ChangeTarget.TheVariants as target
-use Rattle.sq_promises.specs.Written.{IsCursorOf, IsStatementOf, IsTargetOf}
+use Rattle.sq_binding.specs.Written.{IsCursorOf, IsStatementOf, IsTargetOf}
 use Rattle.sq_tree.specs.declared.module.ModuleItem.TheVariants as item
 use Rattle.sq_meaning.specs.Environment.{same_name}
 use Rattle.sq_meaning.specs.Status.{Outcome, well_formed}

@@ -8,7 +8,7 @@ use Rattle.sq_tree.specs.declared.module.Cursor.{Cursor}
 use Rattle.sq_tree.specs.declared.module.ModuleItem.TheVariants as item
 use Rattle.sq_tree.specs.declared.module.ModuleText.{ModuleText}
 use Rattle.sq_tree.specs.declared.module.Procedure.{Procedure}
-use Rattle.sq_rules.specs.WellFormed.{opener_parameters}
+use Rattle.sq_meaning.specs.WellFormedStatement.{opener_parameters}
 use Rattle.sq_bound.specs.declared.statement.BoundStatement.{BoundStatement}
 use Rattle.sq_binding.specs.Changeable.{UserNames}
 use Rattle.sq_binding.specs.Cursor.{cursor_bound}
@@ -18,7 +18,7 @@ use Rattle.sq_binding.specs.Statement.{NumberedStatement}
 use Rattle.sq_binder.specs.declared.stop.Fault.{Fault}
 use Rattle.sq_binder.specs.declared.stop.Stop.{Stop}
 use Rattle.sq_binder.specs.declared.stop.Stop.TheVariants as stop
-use Rattle.sq_promises.specs.Seen.{cursor_seen, statement_seen}
+use Rattle.sq_binding.specs.SeenQuery.{cursor_seen, statement_seen}
 use Rattle.sq_module.specs.declared.program.BoundProcedure.{BoundProcedure}
 use Rattle.sq_module.specs.declared.program.DeclaredCursor.{DeclaredCursor}
 use Rattle.sq_module.specs.declared.program.ProcedureName.{ProcedureName}

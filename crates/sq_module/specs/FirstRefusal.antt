@@ -2,10 +2,10 @@
 -- rule).
 use Rattle.std.specs.Prelude.{◌≡◌, ⊤, ℕ, List, [], ◌∷◌, map, position, Option, Some}
 use Rattle.sq_tree.specs.declared.module.ModuleItem.{ModuleItem}
-use Rattle.sq_rules.specs.ModuleRefusal.{ModuleRefusal as Refusal, at_item, cursor_name, first_repeated, has_bad_parameter, has_status_fault, procedure_name}
-use Rattle.sq_rules.specs.Words.{first_of}
-use Rattle.sq_rules.specs.declared.refusal.ModuleFault.{ModuleFault}
-use Rattle.sq_rules.specs.declared.refusal.ModuleFault.TheVariants as fault
+use Rattle.sq_meaning.specs.ModuleRefusal.{ModuleRefusal as Refusal, at_item, cursor_name, first_repeated, has_bad_parameter, has_status_fault, procedure_name}
+use Rattle.sq_meaning.specs.Words.{first_of}
+use Rattle.sq_meaning.specs.declared.refusal.ModuleFault.{ModuleFault}
+use Rattle.sq_meaning.specs.declared.refusal.ModuleFault.TheVariants as fault
 use Rattle.sq_module.specs.Refusal.{has_open_count}
 use Rattle.sq_module.specs.declared.refusal.ModuleRefusal.{ModuleRefusal}
 use Rattle.sq_module.specs.declared.refusal.SessionFault.{SessionFault}

@@ -6,12 +6,12 @@ use Rattle.std.specs.Option.{option_and_then, option_map}
 use Rattle.sq_lex.specs.declared.name.Name.{Name}
 use Rattle.sq_tree.specs.declared.module.ModuleText.{ModuleText}
 use Rattle.sq_meaning.specs.Environment.{same_name}
-use Rattle.sq_rules.specs.Module.{cursor_named}
+use Rattle.sq_meaning.specs.Module.{cursor_named}
 use Rattle.sq_binding.specs.Change.{NamedCursor, NamedCursors}
 use Rattle.sq_binding.specs.Changeable.{UserNames}
 use Rattle.sq_binding.specs.Procedure.{cursor_if_sound, module_cursors}
 use Rattle.sq_binding.specs.Seen.{column_of}
-use Rattle.sq_promises.specs.Seen.{table_named}
+use Rattle.sq_binding.specs.SeenQuery.{table_named}
 use Rattle.sq_module.specs.Admitted.{openings}
 use Rattle.sq_module.specs.Refusal.{is_some_name}
 use Rattle.sq_module.specs.declared.admission.AdmittedProcedure.{AdmittedProcedure}

@@ -9,7 +9,7 @@ use Rattle.sq_tree.specs.declared.module.ModuleText.{ModuleText}
 use Rattle.sq_tree.specs.declared.statement.Statement.{Statement}
 use Rattle.sq_tree.specs.declared.statement.Statement.TheVariants as statement
 use Rattle.sq_meaning.specs.Environment.{same_name}
-use Rattle.sq_rules.specs.ModuleRefusal.{has_status_fault}
+use Rattle.sq_meaning.specs.ModuleRefusal.{has_status_fault}
 use Rattle.sq_module.specs.declared.opener.Openers.{Openers}
 use Rattle.sq_module.specs.declared.refusal.SessionFault.{SessionFault}
 use Rattle.sq_module.specs.declared.refusal.SessionFault.TheVariants.{Refused, NoMemory}

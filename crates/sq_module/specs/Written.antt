@@ -20,9 +20,9 @@ use Rattle.sq_meaning.specs.Status.{well_formed}
 use Rattle.sq_meaning.specs.WellFormed.{Has}
 use Rattle.sq_bound.specs.declared.names.ParameterDesc.{ParameterDesc}
 use Rattle.sq_bound.specs.declared.statement.BoundStatement.{BoundStatement}
-use Rattle.sq_promises.specs.Written.{IsCursorOf, IsStatementOf}
-use Rattle.sq_rules.specs.Module as rules
-use Rattle.sq_rules.specs.Module.{declarations_of}
+use Rattle.sq_binding.specs.Written.{IsCursorOf, IsStatementOf}
+use Rattle.sq_meaning.specs.Module as rules
+use Rattle.sq_meaning.specs.Module.{declarations_of}
 use Rattle.sq_module.specs.Admitted.{admitted_written, cursors_written}
 use Rattle.sq_module.specs.declared.program.BoundProcedure.{BoundProcedure}
 use Rattle.sq_module.specs.declared.program.DeclaredCursor.{DeclaredCursor}

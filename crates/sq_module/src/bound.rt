@@ -10,19 +10,17 @@ ghost use Rattle.sq_bound.specs.Fits.{FitsCursor, FitsStatement};
 ghost use Rattle.sq_bound.specs.WellFormed.{IsCursor, IsStatement, kinds_of_parameters};
 ghost use Rattle.sq_catalog.specs.Catalog.{column_kinds, known};
 ghost use Rattle.sq_catalog.specs.UserTables.{names_in};
-ghost use Rattle.sq_promises.specs.Names.{declared};
-ghost use Rattle.sq_promises.specs.Seen.{cursor_seen, statement_seen};
-ghost use Rattle.sq_promises.specs.Written.{IsCursorOf, IsStatementOf};
+ghost use Rattle.sq_binding.specs.Names.{declared};
+ghost use Rattle.sq_binding.specs.SeenQuery.{cursor_seen, statement_seen};
+ghost use Rattle.sq_binding.specs.Written.{IsCursorOf, IsStatementOf};
 ghost use Rattle.sq_module.specs.Named.{cursors_named};
 ghost use Rattle.sq_module.specs.Program.{kinds_of_cursors};
 
 use crate::cursors::ModuleCursors;
-use sq_binder::Stop;
+use sq_binder::{Stop, bind_cursor, bind_statement};
 use sq_bound::{BoundCursor, BoundStatement, ParameterDesc};
 use sq_catalog::{Catalog, UserTables};
-use sq_cursor_binder::bind_cursor;
 use sq_lex::Name;
-use sq_statement_binder::bind_statement;
 use sq_tree::{Cursor, Statement};
 use std::alloc::Global;
 

@@ -2,14 +2,14 @@
 
 ghost use Rattle.std.specs.Prelude.{◌≡◌, ◌<◌, Some, length, nat_lt, true};
 ghost use Rattle.std.specs.List.{list_all};
-ghost use Rattle.sq_statement_binder.specs.Cursors.{named_cursor_of};
+ghost use Rattle.sq_binder.specs.Cursors.{named_cursor_of};
 ghost use Rattle.sq_module.specs.Named.{cursor_at};
 
 use crate::program::DeclaredCursor;
 use indexmap::IndexMap;
+use sq_binder::Cursors;
 use sq_bound::KnownCursor;
 use sq_lex::Name;
-use sq_statement_binder::Cursors;
 
 /// The cursors of one module: for each name its number among all cursors.
 #[derive(Clone, Copy)]

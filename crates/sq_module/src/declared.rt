@@ -5,17 +5,17 @@ ghost use Rattle.std.specs.List.{list_any};
 ghost use Rattle.indexmap.specs.IndexSet.{insert_key};
 ghost use Rattle.sq_meaning.specs.Environment.{same_name};
 ghost use Rattle.sq_meaning.specs.Spelled.{domain_of as domain_meant};
-ghost use Rattle.sq_rules.specs.Module.{declarations_of, declared_in, is_sqlcode, is_sqlstate};
-ghost use Rattle.sq_rules.specs.ModuleRefusal.{has_bad_declared, has_bad_status, is_bad_type};
-ghost use Rattle.sq_rules.specs.Schema.{has_name_twice, is_among};
-ghost use Rattle.sq_rules.specs.Words.{is_some_and};
+ghost use Rattle.sq_meaning.specs.Module.{declarations_of, declared_in, is_sqlcode, is_sqlstate};
+ghost use Rattle.sq_meaning.specs.ModuleRefusal.{has_bad_declared, has_bad_status, is_bad_type};
+ghost use Rattle.sq_meaning.specs.Schema.{has_name_twice, is_among};
+ghost use Rattle.sq_meaning.specs.Words.{is_some_and};
 ghost use Rattle.sq_module.specs.Written.{Declare, named_as, named_in};
 
 use indexmap::IndexSet;
+use sq_binder::domain_of;
 use sq_bound::ParameterDesc;
 use sq_items::Items;
 use sq_lex::Name;
-use sq_literal::domain_of;
 use sq_tree::{BareDeclaration, DataType, Declaration, Declarations};
 use std::alloc::{AllocError, Global};
 

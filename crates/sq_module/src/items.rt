@@ -7,11 +7,11 @@ ghost use Rattle.sq_tree.specs.declared.module.ModuleItem.TheVariants.{Cursor as
 ghost use Rattle.sq_tree.specs.declared.module.ModuleItem.{ModuleItem as AnyItem};
 ghost use Rattle.sq_module.specs.Admitted.{admitted_written, cursors_written, opening_in, openings, procedure_names};
 ghost use Rattle.sq_module.specs.Program.{name_in, names_in};
-ghost use Rattle.sq_rules.specs.Module.{cursor_in, declarations_of, parameter_declarations, procedure_in};
-ghost use Rattle.sq_rules.specs.ModuleRefusal.{at_item, cursor_name, first_repeated, has_bad_declared, has_bad_parameter};
-ghost use Rattle.sq_rules.specs.Schema.{is_among};
-ghost use Rattle.sq_rules.specs.Words.{is_some_and};
-ghost use Rattle.sq_rules.specs.declared.refusal.ModuleFault.TheVariants as fault;
+ghost use Rattle.sq_meaning.specs.Module.{cursor_in, declarations_of, parameter_declarations, procedure_in};
+ghost use Rattle.sq_meaning.specs.ModuleRefusal.{at_item, cursor_name, first_repeated, has_bad_declared, has_bad_parameter};
+ghost use Rattle.sq_meaning.specs.Schema.{is_among};
+ghost use Rattle.sq_meaning.specs.Words.{is_some_and};
+ghost use Rattle.sq_meaning.specs.declared.refusal.ModuleFault.TheVariants as fault;
 ghost use Rattle.sq_module.specs.FirstRefusal.{IsFaultFor, IsFaultAt};
 ghost use Rattle.sq_module.specs.Written.{Declare, IsCursorIn, IsProcedureOf};
 ghost use Rattle.sq_module.specs.Refusal.{IsOfModule};
@@ -21,7 +21,7 @@ use crate::declared::{listed, parameters_of};
 use crate::refusal::{SessionFault, refusal_at};
 use indexmap::IndexMap;
 use sq_lex::Name;
-use sq_rules::ModuleFault;
+use sq_meaning::ModuleFault;
 use sq_tree::{Cursor, ModuleItem, Procedure};
 use std::alloc::Global;
 

@@ -16,7 +16,7 @@ ghost use Rattle.sq_catalog.specs.UserTables.{names_in};
 ghost use Rattle.sq_module.specs.Admitted.{module_keys, name_of};
 ghost use Rattle.sq_module.specs.Opened.{AreOpenable, AreThere, IsOpenable};
 ghost use Rattle.sq_module.specs.Program.{FitsProcedure, ProcedureIsWellFormed, ProcedureOpens, kinds_of_cursors, same_procedure, with_procedures};
-ghost use Rattle.sq_promises.specs.Names.{declared};
+ghost use Rattle.sq_binding.specs.Names.{declared};
 
 use crate::admission::{AdmittedModule, AdmittedProcedure};
 use crate::bound::bound_statement;

@@ -1,11 +1,11 @@
 //! Why module texts are refused (ISO/IEC 9075:1992, 12.1 to 12.3 and 13.1).
 
 ghost use Rattle.std.specs.Prelude.{◌≡◌, IfErr, None, OnOk, Some};
-ghost use Rattle.sq_rules.specs.ModuleRefusal.{at_item};
+ghost use Rattle.sq_meaning.specs.ModuleRefusal.{at_item};
 ghost use Rattle.sq_module.specs.FirstRefusal.{IsFaultFor};
 ghost use Rattle.sq_module.specs.Refusal.{IsOfModule};
 
-use sq_rules::ModuleFault;
+use sq_meaning::ModuleFault;
 use std::alloc::{AllocError, AllocFailed};
 use thiserror::Error;
 

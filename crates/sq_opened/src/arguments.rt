@@ -1,6 +1,6 @@
 //! The values that arguments stand for.
+use sq_binder::{signed_value, text_value};
 use sq_items::Items;
-use sq_literal::{signed_value, text_value};
 use sq_tree::{Argument, Arguments};
 use sq_value::Value;
 use std::alloc::{AllocError, Global};

@@ -6,9 +6,9 @@ use Rattle.sq_grammar.specs.Brackets.{is_too_deep}
 use Rattle.sq_grammar.proofs.Takes.{Takes}
 use Rattle.sq_grammar.proofs.Refused.{refused_deep}
 use Rattle.sq_parse.specs.declared.error.ParseError.TheVariants.{Unexpected, TooDeep, EndOfText}
-use Rattle.sq_reader.specs.declared.stop.Stop.{Stop}
-use Rattle.sq_reader.specs.declared.stop.Stop.TheVariants as stop
-use Rattle.sq_reader.specs.Reads.{Stops}
+use Rattle.sq_grammar.specs.declared.stop.Stop.{Stop}
+use Rattle.sq_grammar.specs.declared.stop.Stop.TheVariants as stop
+use Rattle.sq_grammar.specs.Reads.{Stops}
 use Rattle.sq_parse.specs.Refusal.{HasNoTree, refusal}
 use Rattle.sq_grammar.specs.declared.brackets.TheConstants.{MAX_DEPTH}
 

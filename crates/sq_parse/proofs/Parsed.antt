@@ -3,9 +3,9 @@ use Rattle.std.proofs.Common.{◌≡◌, ◌-◌, Result, Ok, Err, length, sym, 
 use Rattle.sq_grammar.specs.Reading.{Tokens, Parser, whole}
 use Rattle.sq_parse.specs.declared.error.ParseError.{ParseError}
 use Rattle.sq_parse.specs.declared.error.ParseError.TheVariants.{NoMemory, Unexpected, TooDeep, EndOfText}
-use Rattle.sq_reader.specs.declared.stop.Stop.{Stop}
-use Rattle.sq_reader.specs.declared.stop.Stop.TheVariants as stop
-use Rattle.sq_reader.specs.Reads.{Stops}
+use Rattle.sq_grammar.specs.declared.stop.Stop.{Stop}
+use Rattle.sq_grammar.specs.declared.stop.Stop.TheVariants as stop
+use Rattle.sq_grammar.specs.Reads.{Stops}
 use Rattle.sq_parse.specs.Refusal.{refusal_at, answer, parsed, Answers, refusal}
 
 pub answers_tree : {T : Type 0} (rule : Parser T) (ts new : Tokens) (tree : T) → whole rule ts ≡ Ok (tree, new) → Answers (parsed rule ts) (Ok tree)

@@ -5,8 +5,8 @@ use Rattle.sq_grammar.specs.Reading.{Tokens, Outcome, Parser, whole}
 use Rattle.sq_grammar.specs.Brackets.{is_too_deep}
 use Rattle.sq_parse.specs.declared.error.ParseError.{ParseError}
 use Rattle.sq_parse.specs.declared.error.ParseError.TheVariants.{NoMemory, Unexpected, TooDeep, EndOfText}
-use Rattle.sq_reader.specs.declared.stop.Stop.{Stop}
-use Rattle.sq_reader.specs.declared.stop.Stop.TheVariants as stop
+use Rattle.sq_grammar.specs.declared.stop.Stop.{Stop}
+use Rattle.sq_grammar.specs.declared.stop.Stop.TheVariants as stop
 
 -- The refusal at the token of this index. A bracket too many takes precedence over any other fault of its token.
 abbrev pub refusal_at : Tokens → ℕ → ParseError

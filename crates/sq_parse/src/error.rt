@@ -5,9 +5,8 @@ ghost use Rattle.sq_lex.specs.Token.{lexemes};
 ghost use Rattle.sq_grammar.specs.Brackets as spec;
 ghost use Rattle.sq_parse.specs.Refusal as refusals;
 
-use sq_grammar::MAX_DEPTH;
+use sq_grammar::{MAX_DEPTH, Reader, Stop};
 use sq_lex::{Lexeme, Symbol, Token};
-use sq_reader::{Reader, Stop};
 use thiserror::Error;
 
 /// Why a text has no tree. A token is named by its index in the text's list of tokens, from 0.

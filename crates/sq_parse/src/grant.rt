@@ -2,11 +2,11 @@
 
 ghost use Rattle.std.specs.Prelude.{◌<◌, ◌≤◌, length, OnOk};
 ghost use Rattle.sq_grammar.specs.Reading.{listed};
-ghost use Rattle.sq_reader.specs.Reads.{Reads};
+ghost use Rattle.sq_grammar.specs.Reads.{Reads};
 ghost use Rattle.sq_grammar.specs.Schema as spec;
 
+use sq_grammar::{Reader, Stop, columns_if_any, comma_list, table_name};
 use sq_lex::Word;
-use sq_reader::{Reader, Stop, columns_if_any, comma_list, table_name};
 use sq_tree::{Action, CommaList, GrantStatement, Grantee, Privileges};
 use std::alloc::Global;
 

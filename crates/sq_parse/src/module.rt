@@ -4,13 +4,13 @@ ghost use Rattle.std.specs.Prelude.{◌≡◌, ◌<◌, ◌≤◌, length, IfOk,
 ghost use Rattle.sq_grammar.specs.declared.brackets.TheConstants.{MAX_DEPTH};
 ghost use Rattle.sq_grammar.specs.Module as spec;
 ghost use Rattle.sq_grammar.specs.Reading.{all, listed, whole};
-ghost use Rattle.sq_reader.specs.Reads.{Reads};
+ghost use Rattle.sq_grammar.specs.Reads.{Reads};
 
 use crate::statement::statement;
+use sq_grammar::{Reader, Stop, comma_list, data_type, items};
 use sq_items::Items;
 use sq_lex::{Symbol, Word};
 use sq_phrase::query;
-use sq_reader::{Reader, Stop, comma_list, data_type, items};
 use sq_tree::{
     BareDeclaration, CommaList, Cursor, Declaration, Declarations, ModuleItem, ModuleText,
     Procedure, Query, SortDirection, SortKey, SortSpecification,

@@ -3,15 +3,15 @@
 ghost use Rattle.std.specs.Prelude.{◌≡◌, ◌<◌, ◌≤◌, ◌-◌, length, IfOk, OnOk, OnSome};
 ghost use Rattle.sq_grammar.specs.declared.brackets.TheConstants.{MAX_DEPTH};
 ghost use Rattle.sq_grammar.specs.Reading.{all, whole};
-ghost use Rattle.sq_reader.specs.Reads.{Reads};
+ghost use Rattle.sq_grammar.specs.Reads.{Reads};
 ghost use Rattle.sq_grammar.specs.Schema as spec;
 
 use crate::grant::grant;
 use crate::table::table_definition;
 use crate::view::view_definition;
+use sq_grammar::{Reader, Stop, items};
 use sq_items::Items;
 use sq_lex::{Symbol, Word};
-use sq_reader::{Reader, Stop, items};
 use sq_tree::{SchemaDefinition, SchemaElement, SchemaText};
 use std::alloc::Global;
 

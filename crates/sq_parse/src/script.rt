@@ -2,12 +2,12 @@
 
 ghost use Rattle.std.specs.Prelude.{◌≡◌, ◌<◌, ◌≤◌, length, IfOk, OnOk, OnSome};
 ghost use Rattle.sq_grammar.specs.Reading.{all, listed, one_if_any, whole};
-ghost use Rattle.sq_reader.specs.Reads.{Reads};
+ghost use Rattle.sq_grammar.specs.Reads.{Reads};
 ghost use Rattle.sq_grammar.specs.Script as spec;
 
+use sq_grammar::{Reader, Stop, comma_list, items, signed_number};
 use sq_items::Items;
 use sq_lex::{Lexeme, Name, Symbol, Word};
-use sq_reader::{Reader, Stop, comma_list, items, signed_number};
 use sq_tree::{Argument, Arguments, CommaList, ScriptItem, ScriptText};
 use std::alloc::Global;
 

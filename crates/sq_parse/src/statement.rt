@@ -6,15 +6,16 @@ ghost use Rattle.sq_grammar.specs.declared.brackets.TheConstants.{MAX_DEPTH};
 ghost use Rattle.sq_grammar.specs.Expr as expressions;
 ghost use Rattle.sq_grammar.specs.Names.{parameter};
 ghost use Rattle.sq_grammar.specs.Reading.{listed, one_if_any};
-ghost use Rattle.sq_reader.specs.Reads.{Reads};
+ghost use Rattle.sq_grammar.specs.Reads.{Reads};
 ghost use Rattle.sq_grammar.specs.Statement as spec;
 
-use sq_grammar::Verb;
+use sq_grammar::{
+    Reader, Stop, Verb, columns_if_any, comma_list, parameter, signed_number, table_name,
+};
 use sq_lex::{Lexeme, Symbol, Word};
 use sq_phrase::{
     cond, expr, inner_expr, quantifier_if_any, query_specification, select_list, table_expression,
 };
-use sq_reader::{Reader, Stop, columns_if_any, comma_list, parameter, signed_number, table_name};
 use sq_tree::{
     Assignment, CommaList, Delete, Fetch, FetchFrom, Insert, InsertSource, NewValue, Orientation,
     Parameter, Position, Select, Statement, Update, Where,

@@ -3,15 +3,15 @@
 
 ghost use Rattle.std.specs.Prelude.{◌<◌, ◌≤◌, length, IfOk, OnOk, OnSome};
 ghost use Rattle.sq_grammar.specs.Reading.{all, listed};
-ghost use Rattle.sq_reader.specs.Reads.{Reads};
+ghost use Rattle.sq_grammar.specs.Reads.{Reads};
 ghost use Rattle.sq_grammar.specs.Schema as spec;
 
+use sq_grammar::{
+    Reader, Stop, columns, columns_if_any, comma_list, data_type, items, signed_number, table_name,
+};
 use sq_items::Items;
 use sq_lex::{Name, Symbol, Word};
 use sq_phrase::inner_cond;
-use sq_reader::{
-    Reader, Stop, columns, columns_if_any, comma_list, data_type, items, signed_number, table_name,
-};
 use sq_tree::{
     ColumnConstraint, ColumnDefinition, CommaList, Cond, DefaultValue, ForeignKey, References,
     TableDefinition, TableElement,

@@ -15,9 +15,8 @@ use crate::error::{ParseError, refusal};
 use crate::module::whole_module;
 use crate::schema::whole_schema;
 use crate::script::whole_script;
-use sq_grammar::MAX_DEPTH;
+use sq_grammar::{MAX_DEPTH, Reader};
 use sq_lex::Token;
-use sq_reader::Reader;
 use sq_tree::{ModuleText, SchemaText, ScriptText};
 use std::alloc::Global;
 

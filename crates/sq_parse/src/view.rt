@@ -2,12 +2,12 @@
 
 ghost use Rattle.std.specs.Prelude.{◌<◌, ◌≤◌, length, OnOk};
 ghost use Rattle.sq_grammar.specs.declared.brackets.TheConstants.{MAX_DEPTH};
-ghost use Rattle.sq_reader.specs.Reads.{Reads};
+ghost use Rattle.sq_grammar.specs.Reads.{Reads};
 ghost use Rattle.sq_grammar.specs.Schema as spec;
 
+use sq_grammar::{Reader, Stop, columns_if_any, table_name};
 use sq_lex::Word;
 use sq_phrase::query_specification;
-use sq_reader::{Reader, Stop, columns_if_any, table_name};
 use sq_tree::ViewDefinition;
 use std::alloc::Global;
 

@@ -12,12 +12,12 @@ use Rattle.sq_tree.specs.Module.{module_item_tokens, module_tokens, module_depth
 use Rattle.sq_tree.specs.declared.module.ModuleItem.{ModuleItem}
 use Rattle.sq_tree.specs.declared.module.ModuleItem.TheVariants as item
 use Rattle.sq_tree.specs.declared.module.ModuleText.{ModuleText}
-use Rattle.sq_rules.specs.Schema.{is_among}
-use Rattle.sq_rules.specs.ModuleRefusal.{ModuleRefusal as Found, at_item, cursor_name, first_module_refusal, first_repeated, has_bad_parameter, has_open_count, has_status_fault, module_refusal, modules_before, name_refusal, procedure_name}
-use Rattle.sq_rules.specs.Words.{first_of}
-use Rattle.sq_rules.specs.declared.refusal.ModuleFault.{ModuleFault}
-use Rattle.sq_rules.specs.declared.refusal.ModuleFault.TheVariants as fault
-use Rattle.sq_model.specs.Report.{Bytes}
+use Rattle.sq_meaning.specs.Schema.{is_among}
+use Rattle.sq_meaning.specs.ModuleRefusal.{ModuleRefusal as Found, at_item, cursor_name, first_module_refusal, first_repeated, has_bad_parameter, has_open_count, has_status_fault, module_refusal, modules_before, name_refusal, procedure_name}
+use Rattle.sq_meaning.specs.Words.{first_of}
+use Rattle.sq_meaning.specs.declared.refusal.ModuleFault.{ModuleFault}
+use Rattle.sq_meaning.specs.declared.refusal.ModuleFault.TheVariants as fault
+use Rattle.sq_meaning.specs.Report.{Bytes}
 use Rattle.sq_module.specs.FirstRefusal.{refusal_of}
 use Rattle.sq_module.specs.declared.refusal.ModuleRefusal.{ModuleRefusal}
 use Rattle.sq_perform.specs.Fault.{IsModuleFault, IsPlaced, IsPlacedAmong, IsRefusalIfAny, TextFault}

@@ -11,8 +11,8 @@ use Rattle.sq_tree.specs.Schema.{schema_tokens, schema_depth}
 use Rattle.sq_tree.specs.Module.{module_tokens, module_depth}
 use Rattle.sq_tree.specs.declared.module.ModuleText.{ModuleText}
 use Rattle.sq_tree.specs.declared.schema.SchemaText.{SchemaText}
-use Rattle.sq_rules.specs.ModuleRefusal.{first_module_refusal}
-use Rattle.sq_model.specs.Report.{Bytes}
+use Rattle.sq_meaning.specs.ModuleRefusal.{first_module_refusal}
+use Rattle.sq_meaning.specs.Report.{Bytes}
 use Rattle.sq_catalog.specs.Catalog.{Catalog, declared_tables, known}
 use Rattle.sq_catalog.specs.Declares.{Declares}
 use Rattle.sq_check.specs.Modules.{AreChecked}

@@ -13,12 +13,12 @@ use Rattle.sq_tree.specs.declared.schema.SchemaDefinition.{SchemaDefinition}
 use Rattle.sq_tree.specs.declared.schema.SchemaElement.{SchemaElement}
 use Rattle.sq_tree.specs.declared.schema.SchemaElement.TheVariants as element
 use Rattle.sq_tree.specs.declared.schema.SchemaText.{SchemaText}
-use Rattle.sq_rules.specs.SchemaRefusal.{Part, SchemaRefusal as Found, parts_of_schema, parts_of_text, refusal_at, schema_parts}
-use Rattle.sq_rules.specs.declared.refusal.SchemaFault.{SchemaFault}
-use Rattle.sq_model.specs.Report.{Bytes}
-use Rattle.sq_declaring.specs.Catalog.{Catalog, empty}
-use Rattle.sq_declaring.specs.Declaring.{catalog_of, then_parts, with_part, with_parts}
-use Rattle.sq_declaring.specs.Outcome.{Outcome}
+use Rattle.sq_meaning.specs.SchemaRefusal.{Part, SchemaRefusal as Found, parts_of_schema, parts_of_text, refusal_at, schema_parts}
+use Rattle.sq_meaning.specs.declared.refusal.SchemaFault.{SchemaFault}
+use Rattle.sq_meaning.specs.Report.{Bytes}
+use Rattle.sq_binding.specs.Catalog.{Catalog, empty}
+use Rattle.sq_binding.specs.Declaring.{catalog_of, then_parts, with_part, with_parts}
+use Rattle.sq_binding.specs.ElementOutcome.{Outcome}
 use Rattle.sq_catalog.specs.Fault.{refusal_seen}
 use Rattle.sq_catalog.specs.declared.fault.SchemaRefusal.{SchemaRefusal}
 use Rattle.sq_perform.specs.Fault.{IsPlaced, IsPlacedAmong, IsRefusalIfAny, IsSchemaFault, TextFault}

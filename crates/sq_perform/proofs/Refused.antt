@@ -12,7 +12,7 @@ use Rattle.sq_parse.specs.declared.error.ParseError.TheVariants as parse
 use Rattle.sq_tree.specs.Schema.{schema_tokens, schema_depth}
 use Rattle.sq_tree.specs.Module.{module_tokens, module_depth}
 use Rattle.sq_tree.specs.Script.{script_tokens, script_depth}
-use Rattle.sq_model.specs.Report.{Bytes}
+use Rattle.sq_meaning.specs.Report.{Bytes}
 use Rattle.sq_session.specs.Session.{Session}
 use Rattle.sq_perform.specs.Fault.{IsMisspelled, IsModuleFault, IsOfMeaning, IsOfSpelling, IsOpeningFault, IsParseFault, IsPlacedAmong, IsPlacedIfAny, IsRefusalIfAny, IsRefusedText, IsSchemaFault, IsScriptFault, IsScriptRefusal, IsUnread, SomeRefused, run_fault, TextFault}
 use Rattle.sq_perform.specs.Refused.{AreDeclared, IsOfSchemas, IsRefusedScript}

@@ -7,7 +7,7 @@ use Rattle.sq_lex.specs.declared.lexeme.Lexeme.{Lexeme}
 use Rattle.sq_lex.specs.declared.token.Token.{Token}
 use Rattle.sq_lex.specs.Reading.{reading}
 use Rattle.sq_lex.specs.Token.{lexemes}
-use Rattle.sq_model.specs.Report.{Bytes}
+use Rattle.sq_meaning.specs.Report.{Bytes}
 use Rattle.sq_perform.specs.Fault.{IsPlaced}
 use Rattle.sq_perform.specs.Refusal.{IsTokenOf, StandsAt}
 use Rattle.sq_perform.specs.Texts.{AllSpell, Spells, SpellsTree, texts}

@@ -14,9 +14,9 @@ use Rattle.sq_tree.specs.Starts.{script_item_start}
 use Rattle.sq_tree.specs.declared.script.ScriptItem.{ScriptItem}
 use Rattle.sq_tree.specs.declared.script.ScriptItem.TheVariants as script
 use Rattle.sq_tree.specs.declared.script.ScriptText.{ScriptText}
-use Rattle.sq_model.specs.Report.{Bytes}
-use Rattle.sq_model.specs.Run.{item_of_script}
-use Rattle.sq_rules.specs.Script.{argument_values}
+use Rattle.sq_meaning.specs.Report.{Bytes}
+use Rattle.sq_meaning.specs.Run.{item_of_script}
+use Rattle.sq_meaning.specs.Script.{argument_values}
 use Rattle.sq_catalog.specs.Catalog.{table_number}
 use Rattle.sq_session.specs.Kind.{Procedure, fits_at}
 use Rattle.sq_session.specs.Session.{Session, procedure_number}

@@ -1,7 +1,7 @@
 -- What a session wrote of a script is what a run of the texts wrote.
 use Rattle.std.proofs.Common.{◌≡◌, ℕ, zero, suc, List, Option, Result, Ok, Err, refl, false}
 use Rattle.std.specs.Prelude.{OnOk, IfErr}
-use Rattle.sq_model.specs.Report.{Bytes}
+use Rattle.sq_meaning.specs.Report.{Bytes}
 use Rattle.sq_session.specs.Session.{Session}
 use Rattle.sq_perform.specs.Asked.{AreAsked}
 use Rattle.sq_perform.specs.Fault.{IsOpeningFault, IsScriptFault}

@@ -1,7 +1,7 @@
 -- What a script asks a session for.
 use Rattle.sq_meaning.specs.Environment.{TableName}
-use Rattle.sq_model.specs.Machine.{Call as MachineCall}
-use Rattle.sq_model.specs.Run.{Item}
+use Rattle.sq_meaning.specs.Machine.{Call as MachineCall}
+use Rattle.sq_meaning.specs.Run.{Item}
 use Rattle.sq_perform.specs.declared.action.Action.{Action}
 use Rattle.sq_perform.specs.declared.action.Action.TheVariants.{Call, Show}
 use Rattle.sq_perform.specs.declared.action.CallAction.{CallAction}

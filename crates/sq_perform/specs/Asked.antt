@@ -4,8 +4,8 @@ use Rattle.std.specs.List.{All}
 use Rattle.sq_tree.specs.Script.{script_tokens, script_depth}
 use Rattle.sq_tree.specs.declared.script.ScriptItem.{ScriptItem}
 use Rattle.sq_tree.specs.declared.script.ScriptText.{ScriptText}
-use Rattle.sq_model.specs.Report.{Bytes}
-use Rattle.sq_model.specs.Run.{item_of_script}
+use Rattle.sq_meaning.specs.Report.{Bytes}
+use Rattle.sq_meaning.specs.Run.{item_of_script}
 use Rattle.sq_session.specs.Session.{Session}
 use Rattle.sq_perform.specs.Action.{item_of}
 use Rattle.sq_perform.specs.Items.{IsTaken}

@@ -3,7 +3,7 @@ use Rattle.std.specs.Prelude.{◌≡◌, ℕ, ◌<◌, ◌^◌, List, length, sl
 use Rattle.sq_lex.specs.Reading.{reading}
 use Rattle.sq_lex.specs.declared.lexeme.Lexeme.{Lexeme}
 use Rattle.sq_lex.specs.declared.token.Token.{Token}
-use Rattle.sq_model.specs.Report.{Bytes}
+use Rattle.sq_meaning.specs.Report.{Bytes}
 use Rattle.sq_tree.specs.Schema.{schema_tokens, schema_depth}
 use Rattle.sq_tree.specs.Module.{module_tokens, module_depth}
 use Rattle.sq_tree.specs.Starts.{script_item_start}

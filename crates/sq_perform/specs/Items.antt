@@ -3,7 +3,7 @@ use Rattle.std.specs.Prelude.{◌≡◌, ℕ, List, if◌then◌else◌, Option,
 use Rattle.sq_value.specs.declared.value.Value.{Value}
 use Rattle.sq_tree.specs.declared.script.ScriptItem.{ScriptItem}
 use Rattle.sq_tree.specs.declared.script.ScriptItem.TheVariants as script
-use Rattle.sq_rules.specs.Script.{argument_values}
+use Rattle.sq_meaning.specs.Script.{argument_values}
 use Rattle.sq_catalog.specs.Catalog.{table_number}
 use Rattle.sq_session.specs.Kind.{Procedure, fits_at}
 use Rattle.sq_session.specs.Session.{Session, procedure_number}

@@ -1,6 +1,6 @@
 -- What a session does with a script.
 use Rattle.std.specs.Prelude.{◌≡◌, ◌<◌, ℕ, zero, suc, List, length, take, Option}
-use Rattle.sq_model.specs.Report.{Bytes}
+use Rattle.sq_meaning.specs.Report.{Bytes}
 use Rattle.sq_session.specs.Session.{Session}
 use Rattle.sq_perform.specs.Asked.{AreAsked}
 use Rattle.sq_perform.specs.Refused.{IsRefusedScript}

@@ -10,13 +10,13 @@ use Rattle.sq_tree.specs.Module.{module_tokens, module_depth}
 use Rattle.sq_tree.specs.Starts.{module_item_start, schema_element_start, schema_start}
 use Rattle.sq_tree.specs.declared.module.ModuleText.{ModuleText}
 use Rattle.sq_tree.specs.declared.schema.SchemaText.{SchemaText}
-use Rattle.sq_rules.specs.ModuleRefusal.{ModuleRefusal as FoundModule, first_module_refusal}
-use Rattle.sq_rules.specs.SchemaRefusal.{SchemaRefusal as FoundSchema}
-use Rattle.sq_rules.specs.declared.refusal.ModuleFault.{ModuleFault}
-use Rattle.sq_rules.specs.declared.refusal.SchemaFault.{SchemaFault}
-use Rattle.sq_rules.specs.declared.refusal.ScriptFault.{ScriptFault}
-use Rattle.sq_rules.specs.declared.refusal.ScriptFault.TheVariants as fault
-use Rattle.sq_model.specs.Report.{Bytes}
+use Rattle.sq_meaning.specs.ModuleRefusal.{ModuleRefusal as FoundModule, first_module_refusal}
+use Rattle.sq_meaning.specs.SchemaRefusal.{SchemaRefusal as FoundSchema}
+use Rattle.sq_meaning.specs.declared.refusal.ModuleFault.{ModuleFault}
+use Rattle.sq_meaning.specs.declared.refusal.SchemaFault.{SchemaFault}
+use Rattle.sq_meaning.specs.declared.refusal.ScriptFault.{ScriptFault}
+use Rattle.sq_meaning.specs.declared.refusal.ScriptFault.TheVariants as fault
+use Rattle.sq_meaning.specs.Report.{Bytes}
 use Rattle.sq_perform.specs.Texts.{AllSpell, SomeTrees, Spells}
 use Rattle.sq_perform.specs.declared.refusal.Refusal.{Refusal}
 use Rattle.sq_perform.specs.declared.refusal.RefusalName.{RefusalName}

@@ -9,10 +9,10 @@ use Rattle.sq_tree.specs.Starts.{script_item_start}
 use Rattle.sq_tree.specs.declared.schema.SchemaText.{SchemaText}
 use Rattle.sq_tree.specs.declared.script.ScriptItem.{ScriptItem}
 use Rattle.sq_tree.specs.declared.script.ScriptText.{ScriptText}
-use Rattle.sq_rules.specs.SchemaRefusal.{SchemaRefusal as Found}
-use Rattle.sq_model.specs.Report.{Bytes}
-use Rattle.sq_declaring.specs.Catalog.{Catalog}
-use Rattle.sq_declaring.specs.Declaring.{catalog_of}
+use Rattle.sq_meaning.specs.SchemaRefusal.{SchemaRefusal as Found}
+use Rattle.sq_meaning.specs.Report.{Bytes}
+use Rattle.sq_binding.specs.Catalog.{Catalog}
+use Rattle.sq_binding.specs.Declaring.{catalog_of}
 use Rattle.sq_session.specs.Session.{Session}
 use Rattle.sq_perform.specs.Items.{IsTaken, item_fault}
 use Rattle.sq_perform.specs.Opened.{Opened}

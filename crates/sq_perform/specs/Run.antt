@@ -9,14 +9,14 @@ use Rattle.sq_tree.specs.declared.module.ModuleText.{ModuleText}
 use Rattle.sq_tree.specs.declared.schema.SchemaText.{SchemaText}
 use Rattle.sq_tree.specs.declared.script.ScriptText.{ScriptText}
 use Rattle.sq_store.specs.Content.{no_rows}
-use Rattle.sq_rules.specs.ModuleRefusal.{first_module_refusal}
-use Rattle.sq_model.specs.Report.{Bytes}
-use Rattle.sq_model.specs.Run.{item_of_script}
+use Rattle.sq_meaning.specs.ModuleRefusal.{first_module_refusal}
+use Rattle.sq_meaning.specs.Report.{Bytes}
+use Rattle.sq_meaning.specs.Run.{item_of_script}
 use Rattle.sq_bound.specs.Known.{KnownTables}
 use Rattle.sq_binding.specs.Changeable.{UserNames}
-use Rattle.sq_declaring.specs.Catalog as declaring
-use Rattle.sq_declaring.specs.Catalog.{Catalog}
-use Rattle.sq_declaring.specs.Declaring.{catalog_of}
+use Rattle.sq_binding.specs.Catalog as declaring
+use Rattle.sq_binding.specs.Catalog.{Catalog}
+use Rattle.sq_binding.specs.Declaring.{catalog_of}
 use Rattle.sq_catalog.specs.Catalog.{declared_tables}
 use Rattle.sq_catalog.specs.Declares.{Declares}
 use Rattle.sq_catalog.specs.UserTables.{without_conditions}

@@ -2,8 +2,8 @@
 use Rattle.std.specs.Prelude.{◌≡◌, ◌<◌, ℕ, true, List, [], ◌∷◌, ◌++◌, length, map, take, Option, Some}
 use Rattle.std.specs.Io.KnownBytes.{Appends}
 use Rattle.sq_store.specs.Content.{table_at}
-use Rattle.sq_model.specs.Parameter.{Assignment, Reply as MachineReply}
-use Rattle.sq_model.specs.Report.{Bytes, call_line, table_lines}
+use Rattle.sq_meaning.specs.Parameter.{Assignment, Reply as MachineReply}
+use Rattle.sq_meaning.specs.Report.{Bytes, call_line, table_lines}
 use Rattle.sq_catalog.specs.Catalog.{table_number}
 use Rattle.sq_session.specs.Kind.{fits_at, kind_at}
 use Rattle.sq_session.specs.Session.{Session, procedure_number}

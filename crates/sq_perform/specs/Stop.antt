@@ -1,6 +1,6 @@
 -- How a run stops before its end.
 use Rattle.std.specs.Prelude.{◌≡◌, ◌<◌, ◌+◌, ℕ, zero, suc, Bool, true, false, List, length, take, Option}
-use Rattle.sq_model.specs.Report.{Bytes}
+use Rattle.sq_meaning.specs.Report.{Bytes}
 use Rattle.sq_session.specs.Session.{Session}
 use Rattle.sq_perform.specs.Run.{Run}
 use Rattle.sq_perform.specs.Steps.{Reported, ReportedPart}

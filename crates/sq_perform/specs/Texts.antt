@@ -6,7 +6,7 @@ use Rattle.sq_lex.specs.declared.token.Token.{Token}
 use Rattle.sq_lex.specs.Token.{lexemes}
 use Rattle.sq_lex.specs.Reading.{reading}
 use Rattle.sq_grammar.specs.declared.brackets.TheConstants.{MAX_DEPTH}
-use Rattle.sq_model.specs.Report.{Bytes}
+use Rattle.sq_meaning.specs.Report.{Bytes}
 
 -- the bytes of each text
 abbrev pub texts : List (Vec ℕ Global) → List Bytes

@@ -5,7 +5,7 @@ ghost use Rattle.sq_lex.specs.Position.{position};
 ghost use Rattle.sq_catalog.specs.Catalog.{known};
 ghost use Rattle.sq_check.specs.Schemas.{text_marks};
 ghost use Rattle.sq_lex.specs.Reading.{reading};
-ghost use Rattle.sq_model.specs.Report.{Bytes};
+ghost use Rattle.sq_meaning.specs.Report.{Bytes};
 ghost use Rattle.sq_tree.specs.Schema.{schema_tokens, schema_depth};
 ghost use Rattle.sq_tree.specs.Module.{module_tokens, module_depth};
 ghost use Rattle.sq_perform.specs.Checked as spec;

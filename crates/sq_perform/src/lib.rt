@@ -20,5 +20,5 @@ pub use refusal::{Refusal, RefusalName, RunFault};
 pub use sq_catalog::RefusalName as SchemaRefusalName;
 pub use sq_check::{Remark, Rule};
 pub use sq_lex::LexFaultKind;
+pub use sq_meaning::ModuleFault;
 pub use sq_out::{Out, OutFault, OutOf};
-pub use sq_rules::ModuleFault;

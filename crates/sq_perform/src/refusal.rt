@@ -1,6 +1,6 @@
 //! Why a run stops before its end.
 use sq_lex::LexFaultKind;
-use sq_rules::ModuleFault;
+use sq_meaning::ModuleFault;
 use thiserror::Error;
 
 /// Why a run stops before its end.

@@ -4,7 +4,7 @@ ghost use Rattle.std.specs.List.{flat_map};
 ghost use Rattle.sq_value.specs.Spelling.{written};
 ghost use Rattle.sq_store.specs.Content.{table_at};
 ghost use Rattle.sq_catalog.specs.Catalog.{table_number};
-ghost use Rattle.sq_model.specs.Report as report;
+ghost use Rattle.sq_meaning.specs.Report as report;
 ghost use Rattle.sq_perform.specs.Action.{call_of, table_of};
 ghost use Rattle.sq_perform.specs.Steps.{told, told_output};
 

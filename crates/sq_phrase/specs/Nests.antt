@@ -2,9 +2,9 @@
 use Rattle.std.specs.Prelude.{ℕ, Result, ◌<◌, length, OnOk}
 use Rattle.std.specs.declared.alloc.Global.{Global}
 use denote.Ref.{MutBor}
-use Rattle.sq_reader.specs.declared.stop.Stop.{Stop}
+use Rattle.sq_grammar.specs.declared.stop.Stop.{Stop}
 use Rattle.sq_grammar.specs.Reading.{Tokens, Parser}
-use Rattle.sq_reader.specs.Reads.{Reads}
+use Rattle.sq_grammar.specs.Reads.{Reads}
 
 pub record Nests {A : Type 0} (inside : ℕ → Parser A) (left : ℕ) (pre : Global → MutBor Tokens → ℕ → Type 0)
     (post : Global → MutBor Tokens → ℕ → Result A Stop → MutBor Tokens → Type 0) : Type 0 where

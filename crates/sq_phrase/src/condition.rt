@@ -6,13 +6,12 @@ ghost use Rattle.sq_lex.specs.declared.word.Word.TheVariants as word;
 ghost use Rattle.sq_grammar.specs.Cond as spec;
 ghost use Rattle.sq_phrase.specs.Nests.{Nests};
 ghost use Rattle.sq_grammar.specs.Reading.{all, behind};
-ghost use Rattle.sq_reader.specs.Reads.{Reads};
+ghost use Rattle.sq_grammar.specs.Reads.{Reads};
 
 use crate::expression::{expr, expr_from};
-use sq_grammar::CondOrExpr;
+use sq_grammar::{CondOrExpr, Reader, Stop};
 use sq_items::{Boxed, Items};
 use sq_lex::{Symbol, Word};
-use sq_reader::{Reader, Stop};
 use sq_tree::{Body, Cond, Conj, Expr, Primary, Test};
 use std::alloc::Global;
 

@@ -4,11 +4,11 @@ ghost use Rattle.std.specs.Prelude.{◌≡◌, ◌<◌, ◌≤◌, length, IfOk,
 ghost use Rattle.sq_grammar.specs.Expr as spec;
 ghost use Rattle.sq_phrase.specs.Nests.{Nests};
 ghost use Rattle.sq_grammar.specs.Reading.{all, one_if_any};
-ghost use Rattle.sq_reader.specs.Reads.{Reads};
+ghost use Rattle.sq_grammar.specs.Reads.{Reads};
 
+use sq_grammar::{Reader, Stop, column_from, parameter_from, sign_if_any};
 use sq_items::{Boxed, Items};
 use sq_lex::{Lexeme, Name, Symbol, Word};
-use sq_reader::{Reader, Stop, column_from, parameter_from, sign_if_any};
 use sq_tree::{Added, Expr, Factor, Primary, Scaled, SetFunction, SetQuantifier, Term, TimesSign};
 use std::alloc::Global;
 

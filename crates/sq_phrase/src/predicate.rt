@@ -7,14 +7,13 @@ ghost use Rattle.sq_grammar.specs.Cond as spec;
 ghost use Rattle.sq_grammar.specs.Expr as expressions;
 ghost use Rattle.sq_phrase.specs.Nests.{Nests};
 ghost use Rattle.sq_grammar.specs.Reading.{behind, one_if_any};
-ghost use Rattle.sq_reader.specs.Reads.{Reads};
+ghost use Rattle.sq_grammar.specs.Reads.{Reads};
 
 use crate::condition::Grammar;
 use crate::expression::expr;
-use sq_grammar::CondOrExpr;
+use sq_grammar::{CondOrExpr, Reader, Stop};
 use sq_items::Boxed;
 use sq_lex::{Lexeme, Symbol, Word};
-use sq_reader::{Reader, Stop};
 use sq_tree::{Comparison, Cond, Expr, Quantifier, Tail};
 use std::alloc::Global;
 

@@ -7,12 +7,12 @@ ghost use Rattle.sq_phrase.specs.Nests.{Nests};
 ghost use Rattle.sq_grammar.specs.declared.brackets.TheConstants.{MAX_DEPTH};
 ghost use Rattle.sq_grammar.specs.Query as spec;
 ghost use Rattle.sq_grammar.specs.Reading.{all, behind};
-ghost use Rattle.sq_reader.specs.Reads.{Reads};
+ghost use Rattle.sq_grammar.specs.Reads.{Reads};
 
 use crate::select::query_specification;
+use sq_grammar::{Reader, Stop};
 use sq_items::{Boxed, Items};
 use sq_lex::{Symbol, Word};
-use sq_reader::{Reader, Stop};
 use sq_tree::{Query, QueryTerm, UnionTerm};
 use std::alloc::Global;
 

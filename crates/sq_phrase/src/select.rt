@@ -8,14 +8,13 @@ ghost use Rattle.sq_grammar.specs.Expr as expressions;
 ghost use Rattle.sq_phrase.specs.Nests.{Nests};
 ghost use Rattle.sq_grammar.specs.Names.{column_reference};
 ghost use Rattle.sq_grammar.specs.Reading.{listed};
-ghost use Rattle.sq_reader.specs.Reads.{Reads};
+ghost use Rattle.sq_grammar.specs.Reads.{Reads};
 ghost use Rattle.sq_grammar.specs.Select as spec;
 
 use crate::condition::{Grammar, inner};
 use crate::expression::{inner_expr, quantifier_if_any};
-use sq_grammar::CondOrExpr;
+use sq_grammar::{CondOrExpr, Reader, Stop, column_reference, comma_list, table_name};
 use sq_lex::{Symbol, Word};
-use sq_reader::{Reader, Stop, column_reference, comma_list, table_name};
 use sq_tree::{
     ColumnReference, CommaList, Cond, Correlation, Expr, QuerySpecification, SelectList,
     TableExpression, TableReference,

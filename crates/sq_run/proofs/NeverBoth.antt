@@ -12,11 +12,11 @@ use Rattle.sq_grammar.proofs.OneModule.{one_module_text}
 use Rattle.sq_grammar.proofs.OneSchema.{one_schema_text}
 use Rattle.sq_grammar.proofs.OneScript.{one_script_text}
 use Rattle.sq_grammar.specs.declared.brackets.TheConstants.{MAX_DEPTH}
-use Rattle.sq_rules.specs.ModuleRefusal.{first_module_refusal}
-use Rattle.sq_rules.specs.Schema.{Elements}
-use Rattle.sq_rules.specs.SchemaRefusal.{elements_of, first_schema_refusal}
-use Rattle.sq_rules.specs.Script.{first_script_refusal}
-use Rattle.sq_model.specs.Report.{Bytes}
+use Rattle.sq_meaning.specs.ModuleRefusal.{first_module_refusal}
+use Rattle.sq_meaning.specs.Schema.{Elements}
+use Rattle.sq_meaning.specs.SchemaRefusal.{elements_of, first_schema_refusal}
+use Rattle.sq_meaning.specs.Script.{first_script_refusal}
+use Rattle.sq_meaning.specs.Report.{Bytes}
 use Rattle.sq_perform.specs.Refusal.{IsOfModules, IsRefused, Matter, Tokens, Grammar, Depth, Meaning, OneRefused, matter}
 use Rattle.sq_perform.specs.Texts.{AllSpell, SpellsTree}
 use Rattle.sq_perform.specs.declared.refusal.Refusal.{Refusal}

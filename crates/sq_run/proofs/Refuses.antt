@@ -2,13 +2,13 @@
 use Rattle.std.proofs.Common.{◌≡◌, ℕ, List, Some, None, Ok, Err, Result, sym, ap, ◌∙◌}
 use Rattle.std.specs.Prelude.{IfErr}
 use Rattle.sq_tree.specs.declared.schema.SchemaText.{SchemaText}
-use Rattle.sq_rules.specs.SchemaRefusal.{SchemaRefusal, elements_of, first_schema_refusal}
-use Rattle.sq_model.specs.Report.{Bytes}
-use Rattle.sq_declaring.specs.Catalog.{Catalog}
-use Rattle.sq_declaring.specs.Declaring.{catalog_of}
-use Rattle.sq_declaring.proofs.Refused.{refusal_in}
-use Rattle.sq_agreement.proofs.SchemasRefused.{schemas_refused}
-use Rattle.sq_headline.proofs.ExactlyBound.{accepted}
+use Rattle.sq_meaning.specs.SchemaRefusal.{SchemaRefusal, elements_of, first_schema_refusal}
+use Rattle.sq_meaning.specs.Report.{Bytes}
+use Rattle.sq_binding.specs.Catalog.{Catalog}
+use Rattle.sq_binding.specs.Declaring.{catalog_of}
+use Rattle.sq_binding.proofs.Refused.{refusal_in}
+use Rattle.sq_laws.proofs.SchemasRefused.{schemas_refused}
+use Rattle.sq_laws.proofs.ExactlyBound.{accepted}
 use Rattle.sq_perform.specs.Refusal.{Matter, Tokens, Grammar, Depth, Meaning, matter}
 use Rattle.sq_perform.specs.Refused as session
 use Rattle.sq_perform.specs.declared.refusal.Refusal.{Refusal}

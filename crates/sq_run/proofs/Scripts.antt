@@ -20,15 +20,15 @@ use Rattle.sq_tree.specs.declared.script.ScriptItem.TheVariants as script
 use Rattle.sq_tree.specs.declared.script.ScriptText.{ScriptText}
 use Rattle.sq_tree.specs.declared.schema.TableDefinition.{TableDefinition}
 use Rattle.sq_meaning.specs.Environment.{same_name, same_table}
-use Rattle.sq_rules.specs.Module.{declared_parameters, module_named, procedure_in, procedure_named}
-use Rattle.sq_rules.specs.Schema.{BaseTable, Elements, base_place, base_tables}
-use Rattle.sq_rules.specs.SchemaRefusal.{elements_of}
-use Rattle.sq_rules.specs.Script.{argument_values, arguments_fault, first_script_refusal, fit, item_refusal, procedure_called, script_fault_of}
-use Rattle.sq_rules.specs.Script as rules
-use Rattle.sq_rules.specs.Words.{first_of}
-use Rattle.sq_rules.specs.declared.refusal.ScriptFault.{ScriptFault}
-use Rattle.sq_rules.specs.declared.refusal.ScriptFault.TheVariants as fault
-use Rattle.sq_declaring.proofs.Names.{position_at}
+use Rattle.sq_meaning.specs.Module.{declared_parameters, module_named, procedure_in, procedure_named}
+use Rattle.sq_meaning.specs.Schema.{BaseTable, Elements, base_place, base_tables}
+use Rattle.sq_meaning.specs.SchemaRefusal.{elements_of}
+use Rattle.sq_meaning.specs.Script.{argument_values, arguments_fault, first_script_refusal, fit, item_refusal, procedure_called, script_fault_of}
+use Rattle.sq_meaning.specs.Script as rules
+use Rattle.sq_meaning.specs.Words.{first_of}
+use Rattle.sq_meaning.specs.declared.refusal.ScriptFault.{ScriptFault}
+use Rattle.sq_meaning.specs.declared.refusal.ScriptFault.TheVariants as fault
+use Rattle.sq_binding.proofs.Names.{position_at}
 use Rattle.sq_catalog.specs.Catalog.{declared_definitions, declared_tables, is_table, table_number}
 use Rattle.sq_catalog.specs.declared.catalog.FullName.{FullName}
 use Rattle.sq_module.specs.Program.{declared_procedures, module_procedures}
@@ -39,18 +39,18 @@ use Rattle.sq_module.specs.declared.program.ProcedureName.{ProcedureName}
 use Rattle.sq_module.proofs.Named.{bound_declared}
 use Rattle.sq_session.specs.Kind.{Procedure as SessionProcedure, fits_at}
 use Rattle.sq_session.specs.Session.{Session, is_procedure, name_of, procedure_number, procedure_of, procedures_of}
-use Rattle.sq_agreement.proofs.DeclaredTables.{base_tables_named, named_tables}
-use Rattle.sq_headline.proofs.Agrees.{unmapped_at}
-use Rattle.sq_headline.proofs.ExactlyBound.{accepted}
-use Rattle.sq_headline.proofs.Found.{each_of_all, module_found, none_placed, procedure_found}
-use Rattle.sq_headline.proofs.Reports.{base_found}
+use Rattle.sq_laws.proofs.DeclaredTables.{base_tables_named, named_tables}
+use Rattle.sq_laws.proofs.Agrees.{unmapped_at}
+use Rattle.sq_laws.proofs.ExactlyBound.{accepted}
+use Rattle.sq_laws.proofs.Found.{each_of_all, module_found, none_placed, procedure_found}
+use Rattle.sq_laws.proofs.Reports.{base_found}
 use Rattle.sq_perform.specs.Items.{IsTaken, call_fault, item_fault, table_fault}
 use Rattle.sq_perform.specs.Refusal.{script_fault}
 use Rattle.sq_perform.specs.Run.{IsOpened}
 use Rattle.sq_perform.specs.declared.refusal.RefusalName.{RefusalName}
 use Rattle.sq_perform.specs.declared.refusal.RefusalName.TheVariants as refusal
 use Rattle.sq_laws.proofs.SiteLaws.{all_parts}
-use Rattle.sq_agreement.proofs.Numbers.{none_there}
+use Rattle.sq_laws.proofs.Numbers.{none_there}
 
 -- The code and the definitions find no fault, or the code a name and the definitions
 -- the fault that it is for.

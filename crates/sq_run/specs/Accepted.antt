@@ -7,12 +7,12 @@ use Rattle.sq_tree.specs.Script.{script_tokens, script_depth}
 use Rattle.sq_tree.specs.declared.module.ModuleText.{ModuleText}
 use Rattle.sq_tree.specs.declared.schema.SchemaText.{SchemaText}
 use Rattle.sq_tree.specs.declared.script.ScriptText.{ScriptText}
-use Rattle.sq_rules.specs.ModuleRefusal.{first_module_refusal}
-use Rattle.sq_rules.specs.SchemaRefusal.{elements_of, first_schema_refusal}
-use Rattle.sq_rules.specs.Script.{first_script_refusal}
-use Rattle.sq_model.specs.Machine.{Program, State, first_state}
-use Rattle.sq_model.specs.Report.{Bytes, report}
-use Rattle.sq_model.specs.Run.{Item, after, item_of_script, program_of}
+use Rattle.sq_meaning.specs.ModuleRefusal.{first_module_refusal}
+use Rattle.sq_meaning.specs.SchemaRefusal.{elements_of, first_schema_refusal}
+use Rattle.sq_meaning.specs.Script.{first_script_refusal}
+use Rattle.sq_meaning.specs.Machine.{Program, State, first_state}
+use Rattle.sq_meaning.specs.Report.{Bytes, report}
+use Rattle.sq_meaning.specs.Run.{Item, after, item_of_script, program_of}
 use Rattle.sq_perform.specs.Texts.{AllSpell, SpellsTree}
 
 pub record AcceptedSchemas (texts : List Bytes) : Type 0 where

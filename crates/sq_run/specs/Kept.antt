@@ -1,10 +1,10 @@
 -- What holds behind each item of a script (ISO/IEC 9075:1992, 4.10 and 4.28).
 use Rattle.std.specs.Prelude.{◌≡◌, ℕ, List, take}
 use Rattle.sq_meaning.specs.declared.status.Status.TheVariants.{SuccessfulCompletion}
-use Rattle.sq_rules.specs.SchemaRefusal.{elements_of}
-use Rattle.sq_model.specs.Constraints.{ConstraintsHold}
-use Rattle.sq_model.specs.Machine.{Call, State, replied, stepped}
-use Rattle.sq_model.specs.Report.{Bytes}
+use Rattle.sq_meaning.specs.SchemaRefusal.{elements_of}
+use Rattle.sq_meaning.specs.Constraints.{ConstraintsHold}
+use Rattle.sq_meaning.specs.Machine.{Call, State, replied, stepped}
+use Rattle.sq_meaning.specs.Report.{Bytes}
 use Rattle.sq_run.specs.Accepted.{Accepted, behind, items, machine}
 
 -- After any number of the items each declared constraint holds, of the tables as they are and as they were

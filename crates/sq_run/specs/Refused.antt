@@ -8,10 +8,10 @@ use Rattle.sq_tree.specs.Starts.{script_item_start}
 use Rattle.sq_tree.specs.declared.module.ModuleText.{ModuleText}
 use Rattle.sq_tree.specs.declared.schema.SchemaText.{SchemaText}
 use Rattle.sq_tree.specs.declared.script.ScriptText.{ScriptText}
-use Rattle.sq_rules.specs.Schema.{Elements}
-use Rattle.sq_rules.specs.SchemaRefusal.{SchemaRefusal, elements_of, first_schema_refusal}
-use Rattle.sq_rules.specs.Script.{ScriptRefusal, first_script_refusal}
-use Rattle.sq_model.specs.Report.{Bytes}
+use Rattle.sq_meaning.specs.Schema.{Elements}
+use Rattle.sq_meaning.specs.SchemaRefusal.{SchemaRefusal, elements_of, first_schema_refusal}
+use Rattle.sq_meaning.specs.Script.{ScriptRefusal, first_script_refusal}
+use Rattle.sq_meaning.specs.Report.{Bytes}
 use Rattle.sq_perform.specs.Refusal.{IsOfModules, IsOfSchema, IsRefused, IsTokenOf, Matter, Meaning, OneRefused, StandsAt, matter, script_fault}
 use Rattle.sq_perform.specs.Texts.{AllSpell, SpellsTree}
 use Rattle.sq_perform.specs.declared.refusal.Refusal.{Refusal}

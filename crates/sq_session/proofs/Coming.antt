@@ -15,8 +15,8 @@ use Rattle.sq_store.specs.declared.table.Numbered.{Numbered}
 use Rattle.sq_store.specs.declared.table.Table.{Table}
 use Rattle.sq_meaning.specs.Status.{and_then, well_formed}
 use Rattle.sq_meaning.specs.WellFormed.{Has, HasValue, IsRowOf}
-use Rattle.sq_model.proofs.KindLaws.{of_its_kind}
-use Rattle.sq_model.specs.Cursor.{row_at as row_of}
+use Rattle.sq_meaning.proofs.KindLaws.{of_its_kind}
+use Rattle.sq_meaning.specs.Cursor.{row_at as row_of}
 use Rattle.sq_bound.specs.Fits.{AreInDomains, AreRowsIn, FitsBody, IsRowIn}
 use Rattle.sq_bound.specs.WellFormed.{IsCursor, IsCursorBody, IsDistance, IsOrientation, TableKinds, TakeKinds, kinds_of_parameters, kinds_of_results}
 use Rattle.sq_bound.specs.declared.condition.BoundCond.{BoundCond}

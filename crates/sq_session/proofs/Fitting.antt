@@ -13,7 +13,7 @@ use Rattle.sq_value.specs.declared.fault.StoreFault.{StoreFault}
 use Rattle.sq_value.specs.declared.value.Value.{Value}
 use Rattle.sq_value.specs.declared.value.Value.TheVariants.{Null, Num, Chars}
 use Rattle.sq_bound.specs.declared.names.ParameterDesc.{ParameterDesc}
-use Rattle.sq_rules.specs.Script.{fit, fits_in}
+use Rattle.sq_meaning.specs.Script.{fit, fits_in}
 use Rattle.sq_session.specs.Parameter.{declared}
 
 kept : (b : Bool) (t : List ℕ) → b ≡ is_ok (text_or_too_long (if b then Some t else None))

@@ -5,8 +5,8 @@ use Rattle.sq_value.specs.declared.value.Value.{Value}
 use Rattle.sq_store.specs.Content.{Content, table_at}
 use Rattle.sq_meaning.specs.Status.{Outcome}
 use Rattle.sq_meaning.specs.WellFormed.{AreRowsOf}
-use Rattle.sq_model.proofs.Bind.{bind_ok}
-use Rattle.sq_model.specs.Cursor.{row_at as row_of}
+use Rattle.sq_meaning.proofs.Bind.{bind_ok}
+use Rattle.sq_meaning.specs.Cursor.{row_at as row_of}
 use Rattle.sq_bound.specs.WellFormed.{TableKinds, kinds_of_results}
 use Rattle.sq_bound.specs.declared.names.ParameterDesc.{ParameterDesc}
 use Rattle.sq_bound.specs.declared.query.BoundCursor.{BoundCursor}

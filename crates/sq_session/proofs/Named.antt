@@ -6,7 +6,7 @@ use Rattle.std.specs.Map.{keys_of, values_of}
 use Rattle.sq_lex.specs.declared.name.Name.{Name}
 use Rattle.sq_value.specs.declared.value.Value.{Value}
 use Rattle.sq_tree.specs.declared.module.ModuleText.{ModuleText}
-use Rattle.sq_rules.specs.Script.{fit}
+use Rattle.sq_meaning.specs.Script.{fit}
 use Rattle.sq_binder.specs.declared.stop.Fault.{Fault}
 use Rattle.sq_catalog.specs.Catalog.{Catalog, column_kinds, known}
 use Rattle.sq_bound.specs.Fits.{keys_of_bases}

@@ -9,7 +9,7 @@ use Rattle.sq_store.specs.declared.table.Table.{Table}
 use Rattle.sq_bound.specs.declared.condition.BoundCond.{BoundCond}
 use Rattle.sq_meaning.specs.Status.{Outcome, and_then}
 use Rattle.sq_meaning.specs.declared.status.Status.TheVariants as status
-use Rattle.sq_model.proofs.Bind.{bind_ok}
+use Rattle.sq_meaning.proofs.Bind.{bind_ok}
 use Rattle.sq_expression.specs.Fault.{Meets, status_of}
 use Rattle.sq_expression.specs.declared.fault.Fault.{Fault}
 use Rattle.sq_expression.specs.declared.fault.Fault.TheVariants as fault

@@ -9,7 +9,7 @@ use Rattle.sq_meaning.specs.Environment.{Row, outermost}
 use Rattle.sq_meaning.specs.Placed.{by_place}
 use Rattle.sq_meaning.specs.Query.{rows}
 use Rattle.sq_meaning.specs.Status.{Outcome, and_then}
-use Rattle.sq_model.specs.Machine.{single_row}
+use Rattle.sq_meaning.specs.Machine.{single_row}
 use Rattle.sq_bound.specs.Condition.{select_of}
 use Rattle.sq_bound.specs.declared.condition.TablePlace.{TablePlace}
 use Rattle.sq_expression.specs.Fault.{HasRows, Meets, status_of}

@@ -21,8 +21,8 @@ use Rattle.sq_meaning.proofs.AssignmentLaws.{store_statuses}
 use Rattle.sq_meaning.specs.Status.{or_status}
 use Rattle.sq_meaning.specs.WellFormed.{IsRowOf}
 use Rattle.sq_meaning.specs.declared.status.Status.TheVariants.{NumericValueOutOfRange, TextTooLong}
-use Rattle.sq_model.proofs.KindLaws.{started_of_its_kind}
-use Rattle.sq_model.specs.Parameter.{started}
+use Rattle.sq_meaning.proofs.KindLaws.{started_of_its_kind}
+use Rattle.sq_meaning.specs.Parameter.{started}
 
 outcome : (d : Domain) (v : Value) (r : Result Value StoreFault) → stored d v ≡ r → IsStoreOutcome r (assigned d v)
 outcome d v r h = let P : Result Value StoreFault → Type 0 = λ x. IsStoreOutcome x (assigned d v) in subst P h (store_statuses d v)

@@ -23,7 +23,7 @@ use Rattle.sq_meaning.specs.Environment.{Row}
 use Rattle.sq_meaning.specs.Status.{Outcome, and_then, not_well_formed, well_formed}
 use Rattle.sq_meaning.specs.declared.status.Status.TheVariants as status
 use Rattle.sq_meaning.specs.WellFormed.{Has, HasValue}
-use Rattle.sq_model.specs.Cursor.{Move, bounded, wanted, row_at as row_of}
+use Rattle.sq_meaning.specs.Cursor.{Move, bounded, wanted, row_at as row_of}
 use Rattle.sq_query.specs.Table.{numbered_row}
 use Rattle.sq_expression.specs.Fault.{status_of}
 use Rattle.sq_expression.specs.declared.fault.Failure.TheVariants as failure

@@ -6,7 +6,7 @@ use Rattle.std.specs.Result.{result_err, result_ok}
 use Rattle.sq_lex.specs.declared.name.Name.{Name}
 use Rattle.sq_value.specs.declared.value.Value.{Value}
 use Rattle.sq_meaning.specs.Tables.{Declared}
-use Rattle.sq_rules.specs.Script.{fit}
+use Rattle.sq_meaning.specs.Script.{fit}
 use Rattle.sq_bound.specs.declared.condition.BoundCond.{BoundCond}
 use Rattle.sq_bound.specs.declared.condition.BoundSpecification.{BoundSpecification}
 use Rattle.sq_binder.specs.declared.stop.Fault.{Fault}

@@ -7,7 +7,7 @@ use Rattle.sq_value.specs.declared.value.Value.{Value}
 use Rattle.sq_value.specs.declared.value.Value.TheVariants.{Null}
 use Rattle.sq_bound.specs.declared.names.ParameterDesc.{ParameterDesc}
 use Rattle.sq_meaning.specs.Tables.{Declared}
-use Rattle.sq_model.specs.Parameter.{started}
+use Rattle.sq_meaning.specs.Parameter.{started}
 
 -- The declaration of a parameter: its name and its domain.
 abbrev pub declared : ParameterDesc → Declared

@@ -25,7 +25,7 @@ use Rattle.sq_expression.specs.Frame.{inputs_of}
 use Rattle.sq_query.specs.Table.{AreMeant}
 use Rattle.sq_expression.specs.declared.fault.Fault.{Fault}
 use Rattle.sq_expression.specs.declared.fault.Fault.TheVariants as fault
-use Rattle.sq_model.specs.Machine.{single_row}
+use Rattle.sq_meaning.specs.Machine.{single_row}
 use Rattle.sq_session.specs.Cursors.{go_on}
 use Rattle.sq_session.specs.Fetch.{come_to_number, come_to_row, come_to_walk, over_numbers, over_rows, over_walk}
 use Rattle.sq_session.specs.Kind.{Caller, Fetching, Kind, Opening, Selecting, Updating, read_parameters}

@@ -15,7 +15,7 @@ use Rattle.sq_meaning.specs.Status.{Outcome, and_then, not_well_formed, or_statu
 use Rattle.sq_meaning.specs.declared.status.Status.{Status}
 use Rattle.sq_meaning.specs.declared.status.Status.TheVariants as status
 use Rattle.sq_meaning.specs.WellFormed.{IsRowOf}
-use Rattle.sq_model.specs.Parameter.{length_before_cut, whole}
+use Rattle.sq_meaning.specs.Parameter.{length_before_cut, whole}
 use Rattle.sq_expression.specs.Fault.{status_of}
 use Rattle.sq_expression.specs.declared.fault.Fault.{Fault}
 use Rattle.sq_expression.specs.declared.fault.Fault.TheVariants as fault

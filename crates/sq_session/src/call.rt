@@ -2,7 +2,7 @@
 
 ghost use Rattle.std.specs.Prelude.{◌≡◌, false, map, IfOk, IfSome, IsSome, None, OnErr, Some, true};
 ghost use Rattle.sq_catalog.specs.Catalog.{column_kinds};
-ghost use Rattle.sq_rules.specs.Script.{fit};
+ghost use Rattle.sq_meaning.specs.Script.{fit};
 ghost use Rattle.sq_session.specs.Asked.{IsAsked};
 ghost use Rattle.sq_session.specs.Called.{IsWholeFor, MayPerform, kind_for};
 ghost use Rattle.sq_session.specs.Cursors.{IsLeftBy, IsWhole};

@@ -1,7 +1,7 @@
 //! Cursors, and the place that a FETCH reaches (ISO/IEC 9075:1992, 4.21 and 13.3).
 
 ghost use Rattle.std.specs.Prelude.{◌≡◌, ◌≤◌, ◌<◌, ◌^◌, IfSome, length, MatchOption, None, Ok, Some, option_copied};
-ghost use Rattle.sq_model.specs.Cursor.{bounded, row_at as row_of};
+ghost use Rattle.sq_meaning.specs.Cursor.{bounded, row_at as row_of};
 ghost use Rattle.sq_store.specs.Content.{table_at};
 ghost use Rattle.sq_session.specs.State.{next_number, number_on};
 ghost use Rattle.sq_session.specs.Fetch.{HasNumber, MeansPlace, number_of, place_reached, place_wanted, row_on};

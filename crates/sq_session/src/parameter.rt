@@ -4,8 +4,8 @@ ghost use Rattle.std.specs.Prelude.{◌≡◌, ◌==◌, false, true, map, IfOk}
 ghost use Rattle.std.specs.List.{list_all};
 ghost use Rattle.sq_value.specs.Memory.{takes_memory};
 ghost use Rattle.sq_value.specs.Text.{only_blanks_past};
-ghost use Rattle.sq_model.specs.Parameter.{started};
-ghost use Rattle.sq_rules.specs.Script.{fit, fits_in};
+ghost use Rattle.sq_meaning.specs.Parameter.{started};
+ghost use Rattle.sq_meaning.specs.Script.{fit, fits_in};
 ghost use Rattle.sq_bound.specs.WellFormed.{kinds_of_parameters};
 ghost use Rattle.sq_session.specs.Parameter.{AreGiven, declared, started_values};
 

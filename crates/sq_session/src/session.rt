@@ -1,7 +1,7 @@
 //! A session: the modules, the tables, and the cursors.
 
 ghost use Rattle.std.specs.Prelude.{◌≡◌, false, true, length, replicate, IfErr, IfOk, IsOk, MatchResult, None, OnErr};
-ghost use Rattle.sq_rules.specs.ModuleRefusal.{first_module_refusal};
+ghost use Rattle.sq_meaning.specs.ModuleRefusal.{first_module_refusal};
 ghost use Rattle.sq_module.specs.FirstRefusal.{IsFaultFor};
 ghost use Rattle.sq_module.specs.Refusal.{IsOfSomeModule};
 ghost use Rattle.sq_catalog.specs.Catalog.{known, table_number};

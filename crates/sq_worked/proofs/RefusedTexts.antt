@@ -1,7 +1,7 @@
 -- Texts without a tree. Printed by tools/print_runs.py from sq_cases/data/runs-worked.txt.
 use Rattle.std.specs.Prelude.{◌≡◌, [], ◌∷◌, ◌++◌, codes, refl}
 use Rattle.sq_lex.specs.declared.fault.LexFaultKind.TheVariants as lexical
-use Rattle.sq_model.specs.Report.{Bytes}
+use Rattle.sq_meaning.specs.Report.{Bytes}
 use Rattle.sq_worked.specs.Answer.{Answer, Cause, answered}
 use Rattle.sq_worked.proofs.Computed.{computed}
 

@@ -1,6 +1,6 @@
 -- More than one row (21000). Printed by tools/print_runs.py from sq_cases/data/runs-accepted.txt.
 use Rattle.std.specs.Prelude.{◌≡◌, [], ◌∷◌, ◌++◌, codes, refl}
-use Rattle.sq_model.specs.Report.{Bytes}
+use Rattle.sq_meaning.specs.Report.{Bytes}
 use Rattle.sq_worked.specs.Answer.{Answer, answered}
 use Rattle.sq_worked.proofs.Computed.{computed}
 

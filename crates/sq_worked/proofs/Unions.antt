@@ -1,6 +1,6 @@
 -- UNION and ORDER BY. Printed by tools/print_runs.py from sq_cases/data/runs-worked.txt.
 use Rattle.std.specs.Prelude.{◌≡◌, [], ◌∷◌, ◌++◌, codes, refl}
-use Rattle.sq_model.specs.Report.{Bytes}
+use Rattle.sq_meaning.specs.Report.{Bytes}
 use Rattle.sq_worked.specs.Answer.{Answer, answered}
 use Rattle.sq_worked.specs.Texts.{schema, first_module, second_module}
 use Rattle.sq_worked.proofs.Computed.{computed}

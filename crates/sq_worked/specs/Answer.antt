@@ -1,5 +1,5 @@
 -- What texts come to, from their bytes alone: the report of a run, or the first refusal with its position
--- and cause. In which order they are read and judged says `judgement` of sq_model.
+-- and cause. In which order they are read and judged says `judgement` of sq_meaning.
 use Rattle.std.specs.Prelude.{ℕ, zero, suc, ◌+◌, ◌-◌, List, [], ◌∷◌, map, length, drop, slice_get, nat_lt, if◌then◌else◌, Option, option_map, Some, None, unwrap_or, Result, Ok, Err}
 use Rattle.sq_lex.specs.Position.{position}
 use Rattle.sq_lex.specs.Reading.{reading}
@@ -17,14 +17,14 @@ use Rattle.sq_grammar.specs.Module.{item as module_item, module_text}
 use Rattle.sq_grammar.specs.Reading.{Outcome, Parser, Tokens, whole}
 use Rattle.sq_grammar.specs.Schema.{element as schema_element, next_definition, schema_text}
 use Rattle.sq_grammar.specs.Script.{item as script_item, script_text}
-use Rattle.sq_rules.specs.ModuleRefusal.{ModuleRefusal}
-use Rattle.sq_model.specs.Judgement.{Judgement, judgement}
-use Rattle.sq_model.specs.Report.{Bytes}
-use Rattle.sq_rules.specs.SchemaRefusal.{SchemaRefusal}
-use Rattle.sq_rules.specs.Script.{ScriptRefusal}
-use Rattle.sq_rules.specs.declared.refusal.ModuleFault.{ModuleFault}
-use Rattle.sq_rules.specs.declared.refusal.SchemaFault.{SchemaFault}
-use Rattle.sq_rules.specs.declared.refusal.ScriptFault.{ScriptFault}
+use Rattle.sq_meaning.specs.ModuleRefusal.{ModuleRefusal}
+use Rattle.sq_meaning.specs.Judgement.{Judgement, judgement}
+use Rattle.sq_meaning.specs.Report.{Bytes}
+use Rattle.sq_meaning.specs.SchemaRefusal.{SchemaRefusal}
+use Rattle.sq_meaning.specs.Script.{ScriptRefusal}
+use Rattle.sq_meaning.specs.declared.refusal.ModuleFault.{ModuleFault}
+use Rattle.sq_meaning.specs.declared.refusal.SchemaFault.{SchemaFault}
+use Rattle.sq_meaning.specs.declared.refusal.ScriptFault.{ScriptFault}
 
 -- ---- what is answered
 

@@ -1,6 +1,6 @@
 -- The texts of the kit: a schema and its modules. Printed by tools/print_runs.py.
 use Rattle.std.specs.Prelude.{◌++◌, codes}
-use Rattle.sq_model.specs.Report.{Bytes}
+use Rattle.sq_meaning.specs.Report.{Bytes}
 
 abbrev pub schema : Bytes
 schema =

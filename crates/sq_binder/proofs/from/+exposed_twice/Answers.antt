@@ -1,6 +1,6 @@
 use Rattle.std.proofs.Common.{Bool, map, sym, ap, ◌∙◌, arith}
 use Rattle.std.specs.Prelude.{◌||◌}
-use Rattle.sq_rules.specs.Binding.{has_item_twice}
+use Rattle.sq_meaning.specs.Binding.{has_item_twice}
 use Rattle.sq_binder.specs.From.{exposed}
 use Rattle.sq_binder.proofs.FromItems.{later, twice_split}
 use Rattle.sq_binder.proofs.from.+exposed_twice.Goals as goal

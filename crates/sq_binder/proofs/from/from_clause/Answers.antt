@@ -1,7 +1,7 @@
 use Rattle.std.proofs.Common.{Ok, map, refl, sym, ap, ◌∙◌, arith}
 use Rattle.std.specs.Prelude.{is_some}
 use Rattle.sq_meaning.specs.Spelled.{listed, reference_of}
-use Rattle.sq_rules.specs.Binding.{has_item_twice}
+use Rattle.sq_meaning.specs.Binding.{has_item_twice}
 use Rattle.sq_binder.specs.From.{exposed, from_split, named_item_of}
 use Rattle.sq_binder.specs.Found.{counts_of, found_of}
 use Rattle.sq_binder.proofs.FromClauses.{are_exposed, clause_seen, few_items, from_found, from_twice}

@@ -2,9 +2,9 @@ use Rattle.std.proofs.Common.{List, map, subst}
 use Rattle.std.specs.Borrow.{Bor}
 use Rattle.sq_tree.specs.declared.cond.Cond.{Cond}
 use Rattle.sq_binding.specs.Seen.{cond_seen}
-use Rattle.sq_declaring.specs.Column.{declared_column}
-use Rattle.sq_declaring.specs.Outcome.{each}
-use Rattle.sq_promises.specs.Names.{descriptor_of}
+use Rattle.sq_binding.specs.Column.{declared_column}
+use Rattle.sq_binding.specs.ElementOutcome.{each}
+use Rattle.sq_binding.specs.Names.{descriptor_of}
 use Rattle.sq_catalog.specs.Checks.{check_over}
 use Rattle.sq_catalog.specs.Exact.{name_in}
 use Rattle.sq_catalog.specs.Fault.{Makes}

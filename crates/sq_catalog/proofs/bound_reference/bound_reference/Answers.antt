@@ -1,6 +1,6 @@
 use Rattle.std.proofs.Common.{◌≡◌, ℕ, false, List, subst, sym, ◌∙◌}
 use Rattle.sq_bound.specs.WellFormed.{kinds_of_columns}
-use Rattle.sq_declaring.specs.Reference.{paired_reference}
+use Rattle.sq_binding.specs.Reference.{paired_reference}
 use Rattle.sq_catalog.specs.Fault.{Makes}
 use Rattle.sq_catalog.specs.Reference.{key_seen, target_seen}
 use Rattle.sq_catalog.proofs.ReferencesBound.{badly_paired, pair_well, well_paired}

@@ -1,6 +1,6 @@
 use Rattle.std.proofs.Common.{sym, ◌∙◌}
 use Rattle.sq_bound.specs.WellFormed.{kinds_of_columns}
-use Rattle.sq_declaring.specs.Reference.{are_of_one_sort}
+use Rattle.sq_binding.specs.Reference.{are_of_one_sort}
 use Rattle.sq_catalog.proofs.ReferencesBound.{pairs_end, pairs_step}
 use Rattle.sq_catalog.proofs.bound_reference.kinds_agree.Goals as goal
 

@@ -1,7 +1,7 @@
 use Rattle.std.proofs.Common.{◌≡◌, drop}
 use Rattle.std.specs.List.{list_all, zip}
 use Rattle.sq_bound.specs.WellFormed.{kinds_of_columns}
-use Rattle.sq_declaring.specs.Reference.{are_paired}
+use Rattle.sq_binding.specs.Reference.{are_paired}
 use Rattle.sq_catalog.proofs.bound_reference.kinds_agree.Given as goal
 
 abbrev pub invariant-loop-pair : goal.invariant-loop-pair

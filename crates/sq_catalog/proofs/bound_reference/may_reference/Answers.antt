@@ -1,7 +1,7 @@
 use Rattle.std.proofs.Common.{◌≡◌, [], Option, subst, sym, ◌∙◌}
 use Rattle.std.specs.Borrow.{Bor}
 use Rattle.sq_bound.specs.declared.names.TableDesc.{TableDesc}
-use Rattle.sq_declaring.specs.Reference as definition
+use Rattle.sq_binding.specs.Reference as definition
 use Rattle.sq_catalog.specs.Exact.{declared}
 use Rattle.sq_catalog.specs.Reference.{entries_seen, names_in}
 use Rattle.sq_catalog.proofs.ReferencesBound.{may_reference_all}

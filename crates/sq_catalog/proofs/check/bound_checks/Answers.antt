@@ -2,7 +2,7 @@ use Rattle.std.proofs.Common.{map}
 use Rattle.std.specs.Borrow.{Bor}
 use Rattle.sq_tree.specs.declared.cond.Cond.{Cond}
 use Rattle.sq_binding.specs.Seen.{cond_seen}
-use Rattle.sq_promises.specs.Names.{descriptor_of}
+use Rattle.sq_binding.specs.Names.{descriptor_of}
 use Rattle.sq_catalog.specs.Checks.{check_over}
 use Rattle.sq_catalog.specs.Exact.{name_in}
 use Rattle.sq_catalog.proofs.Turns.{made_stops, seen_next}

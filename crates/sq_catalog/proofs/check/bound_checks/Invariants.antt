@@ -1,6 +1,6 @@
 use Rattle.std.proofs.Common.{map}
 use Rattle.sq_binding.specs.Seen.{cond_seen}
-use Rattle.sq_promises.specs.Names.{descriptor_of}
+use Rattle.sq_binding.specs.Names.{descriptor_of}
 use Rattle.sq_catalog.specs.Checks.{check_over}
 use Rattle.sq_catalog.specs.Exact.{name_in}
 use Rattle.sq_catalog.proofs.Turns.{IsSeenTo}

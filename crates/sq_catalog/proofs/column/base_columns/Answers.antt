@@ -1,7 +1,7 @@
 use Rattle.std.proofs.Common.{◌≡◌, ◌+◌, [], ◌∷◌, ◌++◌, length, length-append, map, ap, take, ◌∙◌}
 use Rattle.sq_value.specs.Domain.{kind_of}
 use Rattle.sq_bound.specs.declared.names.BaseColumn.{BaseColumn}
-use Rattle.sq_declaring.specs.Column.{declared_column}
+use Rattle.sq_binding.specs.Column.{declared_column}
 use Rattle.sq_catalog.specs.Exact.{column_declared}
 use Rattle.sq_catalog.specs.Table.{held_declared, typed_seen}
 use Rattle.sq_catalog.specs.Written.{is_written_not_null}

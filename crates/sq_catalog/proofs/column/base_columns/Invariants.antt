@@ -1,6 +1,6 @@
 use Rattle.std.proofs.Common.{◌≡◌, length, map, take}
 use Rattle.sq_value.specs.Domain.{kind_of}
-use Rattle.sq_declaring.specs.Column.{declared_column}
+use Rattle.sq_binding.specs.Column.{declared_column}
 use Rattle.sq_catalog.specs.Columns.{AreBaseColumnsOf}
 use Rattle.sq_catalog.specs.Table.{held_declared, typed_definitions, typed_kinds, typed_seen, written_not_null}
 use Rattle.sq_catalog.proofs.Turns.{IsMadeTo}

@@ -2,8 +2,8 @@ use Rattle.std.proofs.Common.{◌≡◌, ap, length, map, refl, sym, ◌∙◌}
 use Rattle.std.proofs.lemmas.List.{length-map, take_all}
 use Rattle.sq_value.specs.Domain.{kind_of}
 use Rattle.sq_meaning.specs.Target.{places_of}
-use Rattle.sq_declaring.specs.Table.{typed_descriptor}
-use Rattle.sq_promises.specs.Names.{descriptor_of}
+use Rattle.sq_binding.specs.Table.{typed_descriptor}
+use Rattle.sq_binding.specs.Names.{descriptor_of}
 use Rattle.sq_catalog.specs.Table.{typed_kinds, typed_seen}
 use Rattle.sq_catalog.proofs.Columns.{column_made, place_next}
 use Rattle.sq_catalog.proofs.Listed.{copied_next}

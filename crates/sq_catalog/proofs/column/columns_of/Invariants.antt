@@ -1,7 +1,7 @@
 use Rattle.std.proofs.Common.{◌≡◌, map, take}
 use Rattle.sq_meaning.specs.Target.{places_of}
-use Rattle.sq_declaring.specs.Table.{typed_descriptor}
-use Rattle.sq_promises.specs.Names.{descriptor_of}
+use Rattle.sq_binding.specs.Table.{typed_descriptor}
+use Rattle.sq_binding.specs.Names.{descriptor_of}
 use Rattle.sq_catalog.specs.Columns.{AreColumnsOf}
 use Rattle.sq_catalog.specs.Stored.{AreColumnsOver}
 use Rattle.sq_catalog.specs.Table.{typed_definitions, typed_kinds, typed_seen}

@@ -1,5 +1,5 @@
 use Rattle.std.proofs.Common.{map}
-use Rattle.sq_declaring.specs.Grant.{grants_to}
+use Rattle.sq_binding.specs.Grant.{grants_to}
 use Rattle.sq_catalog.specs.Exact.{name_in}
 use Rattle.sq_catalog.specs.Held.{grant_seen, privilege_of}
 use Rattle.sq_catalog.proofs.Pushed.{joined_behind}

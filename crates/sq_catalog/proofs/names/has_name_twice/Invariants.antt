@@ -1,5 +1,5 @@
 use Rattle.std.proofs.Common.{◌≡◌, drop}
-use Rattle.sq_rules.specs.Schema.{has_name_twice}
+use Rattle.sq_meaning.specs.Schema.{has_name_twice}
 use Rattle.sq_catalog.proofs.names.has_name_twice.Given as goal
 
 abbrev pub invariant-loop-number : goal.invariant-loop-number

@@ -1,5 +1,5 @@
 use Rattle.std.proofs.Common.{map}
-use Rattle.sq_rules.specs.SchemaRefusal.{action_privileges}
+use Rattle.sq_meaning.specs.SchemaRefusal.{action_privileges}
 use Rattle.sq_catalog.specs.Held.{privilege_of}
 use Rattle.sq_catalog.proofs.Pushed.{joined_behind}
 use Rattle.sq_catalog.proofs.privilege.push_actions.Goals as goal

@@ -1,6 +1,6 @@
 use Rattle.std.proofs.Common.{◌≡◌, ◌∷◌, ◌++◌, [], List, if◌then◌else◌, ap, map, subst, sym, ◌∙◌}
 use Rattle.std.specs.List.{All}
-use Rattle.sq_declaring.specs.Reference.{found_reference}
+use Rattle.sq_binding.specs.Reference.{found_reference}
 use Rattle.sq_catalog.specs.Exact.{declared, name_in}
 use Rattle.sq_catalog.specs.Reference.{IsFound, IsFoundAs, constraint_lent, found_seen, reference_seen}
 use Rattle.sq_catalog.specs.Written.{column_count, names_at}

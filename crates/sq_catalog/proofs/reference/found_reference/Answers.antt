@@ -1,6 +1,6 @@
 use Rattle.std.proofs.Common.{ℕ, List, subst}
 use Rattle.sq_lex.specs.declared.name.Name.{Name}
-use Rattle.sq_declaring.specs.Position.{positions_of}
+use Rattle.sq_binding.specs.Position.{positions_of}
 use Rattle.sq_catalog.specs.Exact.{declared, name_in}
 use Rattle.sq_catalog.specs.Fault.{Makes}
 use Rattle.sq_catalog.specs.Written.{names_at}

@@ -3,9 +3,9 @@ use Rattle.sq_lex.specs.declared.name.Name.{Name}
 use Rattle.sq_meaning.specs.Environment.{same_name}
 use Rattle.sq_bound.specs.Names.{are_positions}
 use Rattle.sq_bound.specs.declared.names.Column.{Column}
-use Rattle.sq_rules.specs.declared.refusal.SchemaFault.TheVariants as refusal
-use Rattle.sq_declaring.specs.Outcome.{or_fault}
-use Rattle.sq_declaring.specs.Position.{position_of}
+use Rattle.sq_meaning.specs.declared.refusal.SchemaFault.TheVariants as refusal
+use Rattle.sq_binding.specs.ElementOutcome.{or_fault}
+use Rattle.sq_binding.specs.Position.{position_of}
 use Rattle.sq_catalog.specs.Exact.{names_in}
 use Rattle.sq_catalog.specs.declared.fault.ElementFault.TheVariants.{Refused}
 use Rattle.sq_catalog.proofs.Listed.{all_push, below}

@@ -1,6 +1,6 @@
 use Rattle.std.proofs.Common.{◌≡◌, true, length, take}
 use Rattle.sq_bound.specs.Names.{are_positions}
-use Rattle.sq_declaring.specs.Position.{position_of}
+use Rattle.sq_binding.specs.Position.{position_of}
 use Rattle.sq_catalog.specs.Exact.{names_in}
 use Rattle.sq_catalog.specs.Keys.{StandAt}
 use Rattle.sq_catalog.proofs.Turns.{IsDoneTo}

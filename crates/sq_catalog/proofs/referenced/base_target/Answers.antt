@@ -1,7 +1,7 @@
 use Rattle.std.proofs.Common.{◌≡◌, Some, Ok, subst, sym, ◌∙◌}
 use Rattle.sq_bound.specs.WellFormed.{kinds_of_columns}
 use Rattle.sq_bound.specs.declared.names.TableBody.{TableBody}
-use Rattle.sq_declaring.specs.Reference.{referenced_table}
+use Rattle.sq_binding.specs.Reference.{referenced_table}
 use Rattle.sq_catalog.specs.Exact.{entry_with}
 use Rattle.sq_catalog.specs.Reference.{HasKinds, own_seen, target_seen}
 use Rattle.sq_catalog.specs.declared.catalog.FullName.{FullName}

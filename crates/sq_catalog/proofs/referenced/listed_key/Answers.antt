@@ -2,9 +2,9 @@ use Rattle.std.proofs.Common.{◌||◌, Some, Ok, ap, refl, sym, ◌∙◌}
 use Rattle.std.proofs.lemmas.List.Folds.{list_any_more}
 use Rattle.std.proofs.lemmas.Option.{slice_get-get_or}
 use Rattle.std.specs.Option.{option_map}
-use Rattle.sq_rules.specs.declared.refusal.SchemaFault.TheVariants as refusal
-use Rattle.sq_declaring.specs.Outcome.{or_fault}
-use Rattle.sq_declaring.specs.Reference.{key_at}
+use Rattle.sq_meaning.specs.declared.refusal.SchemaFault.TheVariants as refusal
+use Rattle.sq_binding.specs.ElementOutcome.{or_fault}
+use Rattle.sq_binding.specs.Reference.{key_at}
 use Rattle.sq_catalog.specs.References.{is_key_of}
 use Rattle.sq_catalog.proofs.References.{position_first}
 use Rattle.sq_catalog.proofs.ReferencesBound.{key_here, key_past}

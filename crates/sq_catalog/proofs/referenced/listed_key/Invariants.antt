@@ -1,7 +1,7 @@
 use Rattle.std.proofs.Common.{◌≡◌, drop, false, take}
 use Rattle.std.specs.List.{enumerate_from, list_any}
 use Rattle.std.specs.Prelude.{find}
-use Rattle.sq_declaring.specs.Reference.{are_the_same}
+use Rattle.sq_binding.specs.Reference.{are_the_same}
 use Rattle.sq_catalog.specs.References.{is_key_of}
 use Rattle.sq_catalog.proofs.referenced.listed_key.Given as goal
 

@@ -1,6 +1,6 @@
 use Rattle.std.proofs.Common.{ap}
-use Rattle.sq_rules.specs.declared.refusal.SchemaFault.TheVariants.{NameTwice}
-use Rattle.sq_declaring.specs.Outcome.{refused_if}
+use Rattle.sq_meaning.specs.declared.refusal.SchemaFault.TheVariants.{NameTwice}
+use Rattle.sq_binding.specs.ElementOutcome.{refused_if}
 use Rattle.sq_catalog.proofs.Distinct.{begun, seen_again, seen_all, seen_once}
 use Rattle.sq_catalog.proofs.NamesAdded.{once_added, twice_added}
 use Rattle.sq_catalog.proofs.view_names.check_distinct.Goals as goal

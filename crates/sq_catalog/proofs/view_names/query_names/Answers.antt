@@ -1,8 +1,8 @@
 use Rattle.std.proofs.Common.{◌≡◌, List, Ok, sym, subst, ◌∙◌}
 use Rattle.sq_lex.specs.declared.name.Name.{Name}
-use Rattle.sq_rules.specs.Schema.{has_name_twice}
-use Rattle.sq_rules.specs.declared.refusal.SchemaFault.TheVariants.{NameTwice}
-use Rattle.sq_declaring.specs.Outcome.{refused_if}
+use Rattle.sq_meaning.specs.Schema.{has_name_twice}
+use Rattle.sq_meaning.specs.declared.refusal.SchemaFault.TheVariants.{NameTwice}
+use Rattle.sq_binding.specs.ElementOutcome.{refused_if}
 use Rattle.sq_bound.specs.declared.condition.ResultColumn.{ResultColumn}
 use Rattle.sq_catalog.proofs.ViewNames.{all_named, query_named, query_unnamed}
 use Rattle.sq_catalog.proofs.view_names.query_names.Goals as goal

@@ -1,8 +1,8 @@
 use Rattle.std.proofs.Common.{◌≡◌, ◌+◌, ◌∷◌, ◌++◌, [], List, if◌then◌else◌, ap, length, length-append, map, sym, ◌∙◌}
 use Rattle.std.specs.Borrow.{Bor}
 use Rattle.sq_tree.specs.declared.schema.ColumnDefinition.{ColumnDefinition}
-use Rattle.sq_declaring.specs.Column.{typed_column}
-use Rattle.sq_declaring.specs.Outcome.{each}
+use Rattle.sq_binding.specs.Column.{typed_column}
+use Rattle.sq_binding.specs.ElementOutcome.{each}
 use Rattle.sq_catalog.specs.Table.{typed_seen}
 use Rattle.sq_catalog.specs.Written.{definitions_lent}
 use Rattle.sq_catalog.specs.declared.typed.TypedColumn.{TypedColumn}

@@ -1,5 +1,5 @@
 use Rattle.std.proofs.Common.{◌≡◌, length, map, take}
-use Rattle.sq_declaring.specs.Column.{typed_column}
+use Rattle.sq_binding.specs.Column.{typed_column}
 use Rattle.sq_catalog.specs.Table.{typed_seen}
 use Rattle.sq_catalog.specs.Written.{definitions_lent}
 use Rattle.sq_catalog.proofs.Turns.{IsSeenTo}

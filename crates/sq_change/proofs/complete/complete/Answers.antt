@@ -5,7 +5,7 @@ use Rattle.sq_store.specs.Keys.{Keys, keys_at}
 use Rattle.sq_store.proofs.Rises.{rows_rise_at}
 use Rattle.sq_bound.specs.Fits.{keys_of_bases}
 use Rattle.sq_meaning.specs.declared.status.Status.TheVariants.{IntegrityConstraintViolation}
-use Rattle.sq_model.specs.Constraints.{demanded}
+use Rattle.sq_meaning.specs.Constraints.{demanded}
 use Rattle.sq_expression.specs.Fault.{Meets}
 use Rattle.sq_expression.proofs.Views.{failed_as, handed_on_as}
 use Rattle.sq_change.specs.Made.{Seen, seen_by}

@@ -2,7 +2,7 @@ use Rattle.std.proofs.Common.{refl}
 use Rattle.sq_query.proofs.Finds.{leaf_finds}
 use Rattle.sq_change.specs.Constraints.{check_option_met, row_met, rows_met}
 use Rattle.sq_change.specs.Made.{seen_by}
-use Rattle.sq_model.specs.Constraints.{all_satisfied}
+use Rattle.sq_meaning.specs.Constraints.{all_satisfied}
 use Rattle.sq_store.specs.Change.{rows_put}
 use Rattle.sq_change.proofs.Endings.{ends_so}
 use Rattle.sq_change.proofs.Held.{refers_at}

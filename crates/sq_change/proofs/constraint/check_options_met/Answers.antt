@@ -3,7 +3,7 @@ use Rattle.std.specs.List.{AllByRecursion}
 use Rattle.sq_query.specs.Row.{IsOnRow}
 use Rattle.sq_expression.proofs.Expressions.{handed_on}
 use Rattle.sq_store.specs.Change.{rows_put}
-use Rattle.sq_model.specs.Constraints.{all_satisfied}
+use Rattle.sq_meaning.specs.Constraints.{all_satisfied}
 use Rattle.sq_change.specs.Constraints.{check_option_met}
 use Rattle.sq_change.specs.Made.{seen_by}
 use Rattle.sq_change.proofs.AllSatisfied.{put_failed, put_more, rest_all, rest_none}

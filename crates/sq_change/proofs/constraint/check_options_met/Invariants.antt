@@ -1,6 +1,6 @@
 use Rattle.std.proofs.Common.{List}
 use Rattle.sq_value.specs.declared.domain.Kind.{Kind}
-use Rattle.sq_model.specs.Constraints.{all_satisfied}
+use Rattle.sq_meaning.specs.Constraints.{all_satisfied}
 use Rattle.sq_query.specs.MayRead.{MayRead}
 use Rattle.sq_change.specs.Changed.{AreOnRowsPut}
 use Rattle.sq_change.specs.Constraints.{check_option_met}

@@ -1,5 +1,5 @@
 use Rattle.std.proofs.Common.{◌∙◌, ap, Ok, rules}
-use Rattle.sq_model.specs.Constraints.{satisfied}
+use Rattle.sq_meaning.specs.Constraints.{satisfied}
 use Rattle.sq_expression.proofs.Expressions.{handed_on}
 use Rattle.sq_query.specs.Row.{truth_on_row}
 use Rattle.sq_change.specs.Constraints.{check_met}

@@ -1,7 +1,7 @@
 use Rattle.std.proofs.Common.{refl, arith}
 use Rattle.sq_query.specs.Row.{IsOnRow, truth_on_row}
 use Rattle.sq_expression.proofs.Expressions.{handed_on}
-use Rattle.sq_model.specs.Constraints.{all_satisfied}
+use Rattle.sq_meaning.specs.Constraints.{all_satisfied}
 use Rattle.sq_change.specs.Constraints.{condition_met}
 use Rattle.sq_change.specs.Made.{seen_by}
 use Rattle.sq_change.proofs.AllSatisfied.{satisfied_all, satisfied_failed, satisfied_more}

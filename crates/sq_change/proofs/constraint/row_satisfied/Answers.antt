@@ -2,7 +2,7 @@ use Rattle.std.proofs.Common.{◌≡◌, ◌∙◌, ap, not, refl, Bool, false, 
 use Rattle.std.specs.List.{list_any, zip}
 use Rattle.sq_meaning.specs.Status.{and_then}
 use Rattle.sq_meaning.specs.declared.status.Status.TheVariants.{IntegrityConstraintViolation}
-use Rattle.sq_model.specs.Constraints.{all_satisfied, demanded}
+use Rattle.sq_meaning.specs.Constraints.{all_satisfied, demanded}
 use Rattle.sq_expression.proofs.Expressions.{handed_on}
 use Rattle.sq_query.specs.Row.{IsOnRow}
 use Rattle.sq_bound.specs.Fits.{lacks_value}

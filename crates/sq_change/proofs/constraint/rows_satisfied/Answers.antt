@@ -1,7 +1,7 @@
 use Rattle.std.proofs.Common.{◌∙◌, ◌&&◌, Bool, drop, length, refl, arith, ap, ◌+◌, rules}
 use Rattle.std.specs.List.{AllByRecursion, list_all}
 use Rattle.sq_store.specs.Change.{rows_put}
-use Rattle.sq_model.specs.Constraints.{all_satisfied}
+use Rattle.sq_meaning.specs.Constraints.{all_satisfied}
 use Rattle.sq_expression.proofs.Expressions.{handed_on}
 use Rattle.sq_query.specs.Row.{IsOnRow}
 use Rattle.sq_bound.specs.Fits.{has_its_values}

@@ -1,7 +1,7 @@
 use Rattle.std.proofs.Common.{List}
 use Rattle.std.specs.List.{list_all}
 use Rattle.sq_value.specs.declared.domain.Kind.{Kind}
-use Rattle.sq_model.specs.Constraints.{all_satisfied}
+use Rattle.sq_meaning.specs.Constraints.{all_satisfied}
 use Rattle.sq_query.specs.MayRead.{MayRead}
 use Rattle.sq_change.specs.Changed.{AreOnRowsPut}
 use Rattle.sq_bound.specs.Fits.{has_its_values}

@@ -1,4 +1,4 @@
-use Rattle.sq_model.specs.Change.{if_some}
+use Rattle.sq_meaning.specs.Change.{if_some}
 use Rattle.sq_expression.specs.Fault.{rows_in}
 use Rattle.sq_expression.proofs.Views.{failed_as}
 use Rattle.sq_change.proofs.Endings.{ends_so}

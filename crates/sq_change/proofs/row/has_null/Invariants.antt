@@ -1,6 +1,6 @@
 use Rattle.std.proofs.Common.{◌≡◌, drop}
 use Rattle.sq_value.specs.Key.{in_columns}
-use Rattle.sq_model.specs.Constraints.{has_null}
+use Rattle.sq_meaning.specs.Constraints.{has_null}
 use Rattle.sq_change.proofs.row.has_null.Given as goal
 
 abbrev pub invariant-loop-column : goal.invariant-loop-column

@@ -12,7 +12,7 @@ use Rattle.sq_expression.specs.declared.fault.Fault.TheVariants as fault
 use Rattle.sq_expression.proofs.Views.{failed_as}
 use Rattle.sq_query.specs.Target.{AreNumbersOf, numbers_in}
 use Rattle.sq_query.proofs.Finds.{target_finds}
-use Rattle.sq_model.specs.Change.{if_some}
+use Rattle.sq_meaning.specs.Change.{if_some}
 use Rattle.sq_change.specs.Made.{Seen, Shown, numbers_changed, seen_by}
 use Rattle.sq_change.specs.Statement.{IsShown}
 use Rattle.sq_change.proofs.Chosen.{none_found, only_number, reads_shown, some_found}

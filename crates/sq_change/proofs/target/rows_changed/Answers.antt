@@ -15,7 +15,7 @@ use Rattle.sq_query.specs.Table.{numbered_in, stored_numbered}
 use Rattle.sq_query.specs.Target.{AreRowsThere, conditions_of, is_true_of}
 use Rattle.sq_query.proofs.ChosenNumbers.{numbers_fail}
 use Rattle.sq_query.proofs.Finds.{target_finds}
-use Rattle.sq_model.specs.Change.{if_some}
+use Rattle.sq_meaning.specs.Change.{if_some}
 use Rattle.sq_change.specs.Changed.{numbers_with}
 use Rattle.sq_change.specs.Made.{Seen, Shown, numbers_changed, seen_by}
 use Rattle.sq_change.specs.Statement.{IsShown}

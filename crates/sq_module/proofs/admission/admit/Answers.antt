@@ -1,4 +1,4 @@
-use Rattle.sq_rules.specs.ModuleRefusal.{first_module_refusal}
+use Rattle.sq_meaning.specs.ModuleRefusal.{first_module_refusal}
 use Rattle.sq_module.proofs.Refused.{if_taken, if_refused}
 use Rattle.sq_module.proofs.admission.admit.Goals as goal
 

@@ -1,8 +1,8 @@
 use Rattle.std.proofs.Common.{◌≡◌, ◌∙◌, List, None, ap, map, refl, subst, sym}
 use Rattle.std.specs.Prelude.{IfErr}
 use Rattle.sq_tree.specs.declared.module.ModuleItem.{ModuleItem}
-use Rattle.sq_rules.specs.ModuleRefusal.{at_item, cursor_name, first_repeated, procedure_name}
-use Rattle.sq_rules.specs.declared.refusal.ModuleFault.TheVariants as fault
+use Rattle.sq_meaning.specs.ModuleRefusal.{at_item, cursor_name, first_repeated, procedure_name}
+use Rattle.sq_meaning.specs.declared.refusal.ModuleFault.TheVariants as fault
 use Rattle.sq_module.specs.FirstRefusal.{IsFaultFor, item_refusal, procedure_refusal}
 use Rattle.sq_module.proofs.Apart.{admitted_once}
 use Rattle.sq_module.proofs.Refused.{first_is, handed, is_same, later_is, none_at, none_of}

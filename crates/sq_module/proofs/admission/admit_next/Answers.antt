@@ -1,5 +1,5 @@
 use Rattle.std.proofs.Common.{◌∙◌, sym}
-use Rattle.sq_rules.specs.ModuleRefusal.{module_refusal, name_refusal}
+use Rattle.sq_meaning.specs.ModuleRefusal.{module_refusal, name_refusal}
 use Rattle.sq_module.specs.FirstRefusal.{IsFaultFor}
 use Rattle.sq_module.proofs.Refused.{handed, is_same, later_is, module_refusal_is, name_taken, none_of}
 use Rattle.sq_module.proofs.Repeats.{new_is}

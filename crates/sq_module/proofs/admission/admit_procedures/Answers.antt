@@ -1,5 +1,5 @@
 use Rattle.std.proofs.Common.{◌∙◌, sym}
-use Rattle.sq_rules.specs.ModuleRefusal.{has_status_fault}
+use Rattle.sq_meaning.specs.ModuleRefusal.{has_status_fault}
 use Rattle.sq_module.specs.Refusal.{has_open_count}
 use Rattle.sq_module.proofs.Places.{if_ok, none_passes}
 use Rattle.sq_module.proofs.admission.admit_procedures.Goals as goal

@@ -1,5 +1,5 @@
 use Rattle.std.proofs.Common.{◌++◌, ◌∙◌, ap, arith}
-use Rattle.sq_rules.specs.ModuleRefusal.{procedure_name}
+use Rattle.sq_meaning.specs.ModuleRefusal.{procedure_name}
 use Rattle.sq_module.proofs.Names.{names_next}
 use Rattle.sq_module.proofs.Repeats.{before_next, none_repeated, not_so, not_used_next, procedure_is, repeated, so}
 use Rattle.sq_module.proofs.admission.second_procedure.Goals as goal

@@ -1,5 +1,5 @@
 use Rattle.std.proofs.Common.{◌≡◌, [], map, take}
-use Rattle.sq_rules.specs.ModuleRefusal.{names_before, procedure_name}
+use Rattle.sq_meaning.specs.ModuleRefusal.{names_before, procedure_name}
 use Rattle.sq_module.specs.Program.{AreNew, names_in}
 use Rattle.sq_module.proofs.Repeats.{AreNotUsed}
 use Rattle.sq_module.proofs.admission.second_procedure.Given as goal

@@ -1,5 +1,5 @@
 use Rattle.std.proofs.Common.{◌∙◌, arith, sym}
-use Rattle.sq_rules.specs.ModuleRefusal.{has_status_fault}
+use Rattle.sq_meaning.specs.ModuleRefusal.{has_status_fault}
 use Rattle.sq_module.proofs.Places.{none_found, place_found}
 use Rattle.sq_module.proofs.admission.with_bad_status.Goals as goal
 

@@ -1,6 +1,6 @@
 use Rattle.std.proofs.Common.{◌∙◌, ◌++◌, ap, arith, flat_map, length, map, refl, sym}
 use Rattle.std.specs.Prelude.{filter_map}
-use Rattle.sq_rules.specs.Module.{declared_in}
+use Rattle.sq_meaning.specs.Module.{declared_in}
 use Rattle.sq_module.specs.Written.{named_as, named_in}
 use Rattle.sq_module.proofs.Parameters.{are_bad, bad_declared, counted, few, is_bad_either, many}
 use Rattle.sq_module.proofs.Repeats.{not_so, so}

@@ -1,10 +1,10 @@
 use Rattle.std.proofs.Common.{◌≡◌, arith, map, sym, true}
 use Rattle.std.specs.Map.{keys_of}
-use Rattle.sq_rules.specs.ModuleRefusal.{cursor_name, first_repeated}
-use Rattle.sq_rules.specs.Schema.{is_among}
-use Rattle.sq_rules.specs.Words.{is_some_and}
-use Rattle.sq_rules.specs.declared.refusal.ModuleFault.TheVariants as fault
-use Rattle.sq_rules.specs.Module.{cursor_in}
+use Rattle.sq_meaning.specs.ModuleRefusal.{cursor_name, first_repeated}
+use Rattle.sq_meaning.specs.Schema.{is_among}
+use Rattle.sq_meaning.specs.Words.{is_some_and}
+use Rattle.sq_meaning.specs.declared.refusal.ModuleFault.TheVariants as fault
+use Rattle.sq_meaning.specs.Module.{cursor_in}
 use Rattle.sq_module.proofs.Listed.{listed_next, listed_whole}
 use Rattle.sq_module.proofs.Refused.{refused_there}
 use Rattle.sq_module.proofs.Repeats.{before_next, none_repeated, not_used_next, repeated}

@@ -2,8 +2,8 @@ use Rattle.std.proofs.Common.{◌≡◌, map, take}
 use Rattle.std.specs.List.{AllByRecursion}
 use Rattle.std.specs.Map.{keys_of}
 use Rattle.std.specs.Prelude.{filter_map}
-use Rattle.sq_rules.specs.Module.{cursor_in}
-use Rattle.sq_rules.specs.ModuleRefusal.{cursor_name, names_before}
+use Rattle.sq_meaning.specs.Module.{cursor_in}
+use Rattle.sq_meaning.specs.ModuleRefusal.{cursor_name, names_before}
 use Rattle.sq_module.specs.Admitted.{cursors_written}
 use Rattle.sq_module.specs.Written.{IsCursorIn}
 use Rattle.sq_module.proofs.Repeats.{AreNotUsed}

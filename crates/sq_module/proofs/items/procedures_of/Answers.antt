@@ -1,11 +1,11 @@
 use Rattle.std.proofs.Common.{◌≡◌, ◌++◌, ◌∙◌, ap, arith, sym, true}
 use Rattle.std.specs.Prelude.{position}
-use Rattle.sq_rules.specs.ModuleRefusal.{has_bad_parameter}
+use Rattle.sq_meaning.specs.ModuleRefusal.{has_bad_parameter}
 use Rattle.sq_module.specs.Admitted.{opening_in}
-use Rattle.sq_rules.specs.Module.{procedure_in}
+use Rattle.sq_meaning.specs.Module.{procedure_in}
 use Rattle.sq_module.proofs.Listed.{listed_next, listed_whole}
 use Rattle.sq_module.proofs.Names.{flat_more, procedures_next}
-use Rattle.sq_rules.specs.declared.refusal.ModuleFault.TheVariants as fault
+use Rattle.sq_meaning.specs.declared.refusal.ModuleFault.TheVariants as fault
 use Rattle.sq_module.proofs.Places.{none_found, none_next, place_found}
 use Rattle.sq_module.proofs.Refused.{refused_there}
 use Rattle.sq_module.proofs.Written.{among_at}

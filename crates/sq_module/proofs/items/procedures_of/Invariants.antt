@@ -1,7 +1,7 @@
 use Rattle.std.proofs.Common.{◌≡◌, false, flat_map, take}
-use Rattle.sq_rules.specs.ModuleRefusal.{has_bad_parameter}
+use Rattle.sq_meaning.specs.ModuleRefusal.{has_bad_parameter}
 use Rattle.std.specs.Prelude.{filter_map}
-use Rattle.sq_rules.specs.Module.{procedure_in}
+use Rattle.sq_meaning.specs.Module.{procedure_in}
 use Rattle.sq_module.specs.Admitted.{admitted_written, opening_in, openings, procedure_names}
 use Rattle.sq_module.specs.Program.{names_in}
 use Rattle.sq_module.specs.Written.{IsProcedureOf}

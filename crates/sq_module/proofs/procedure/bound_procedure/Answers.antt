@@ -4,10 +4,10 @@ use Rattle.sq_bound.specs.Fits.{FitsStatement}
 use Rattle.sq_bound.specs.WellFormed.{IsStatement, kinds_of_parameters}
 use Rattle.sq_catalog.specs.Catalog.{column_kinds, known}
 use Rattle.sq_catalog.specs.UserTables.{names_in}
-use Rattle.sq_promises.specs.Names.{declared}
+use Rattle.sq_binding.specs.Names.{declared}
 use Rattle.sq_module.specs.Named.{cursors_named}
 use Rattle.sq_module.specs.Program.{OpensWellFormed, kinds_of_cursors}
-use Rattle.sq_rules.specs.Module.{declarations_of}
+use Rattle.sq_meaning.specs.Module.{declarations_of}
 use Rattle.sq_module.specs.Written.{Declare, IsStatementIn}
 use Rattle.sq_module.proofs.Computed.{kept_computed}
 use Rattle.sq_module.proofs.Opening.{kept_is, opens_openable}

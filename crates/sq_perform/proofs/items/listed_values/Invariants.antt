@@ -1,5 +1,5 @@
 use Rattle.std.proofs.Common.{◌≡◌, ◌∷◌, map, take}
-use Rattle.sq_rules.specs.Script.{argument_value}
+use Rattle.sq_meaning.specs.Script.{argument_value}
 use Rattle.sq_perform.proofs.items.listed_values.Given as goal
 
 abbrev pub invariant-loop-argument : goal.invariant-loop-argument

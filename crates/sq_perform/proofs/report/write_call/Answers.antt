@@ -1,6 +1,6 @@
 use Rattle.std.proofs.Common.{◌++◌, ◌∙◌, List, ap, map}
 use Rattle.std.specs.List.{flat_map}
-use Rattle.sq_model.specs.Report.{output_codes, status_codes}
+use Rattle.sq_meaning.specs.Report.{output_codes, status_codes}
 use Rattle.sq_session.specs.declared.reply.Output.{Output}
 use Rattle.sq_perform.specs.Steps.{told_output}
 use Rattle.sq_perform.proofs.Written.{line_written}

@@ -1,6 +1,6 @@
 use Rattle.std.proofs.Common.{◌≡◌, ◌++◌, map, take}
 use Rattle.std.specs.List.{flat_map}
-use Rattle.sq_model.specs.Report.{output_codes}
+use Rattle.sq_meaning.specs.Report.{output_codes}
 use Rattle.sq_perform.specs.Steps.{told_output}
 use Rattle.sq_perform.proofs.report.write_outputs.Given as goal
 

@@ -1,6 +1,6 @@
 use Rattle.std.proofs.Common.{◌≡◌, ◌++◌, length}
 use Rattle.std.specs.List.{flat_map}
-use Rattle.sq_model.specs.Report.{row_line}
+use Rattle.sq_meaning.specs.Report.{row_line}
 use Rattle.sq_perform.proofs.report.write_rows.Given as goal
 
 -- the lines so far, and those of the rows that are still to come, are all

@@ -1,6 +1,6 @@
 use Rattle.std.proofs.Common.{◌≡◌, ◌++◌, take}
 use Rattle.std.specs.List.{flat_map}
-use Rattle.sq_model.specs.Report.{quoted_code}
+use Rattle.sq_meaning.specs.Report.{quoted_code}
 use Rattle.sq_perform.proofs.report.write_text.Given as goal
 
 abbrev pub invariant-loop-code : goal.invariant-loop-code

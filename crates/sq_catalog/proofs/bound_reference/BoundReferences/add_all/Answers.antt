@@ -1,6 +1,6 @@
 use Rattle.std.proofs.Common.{[], subst, sym}
 use Rattle.std.specs.List.{AllZip}
-use Rattle.sq_declaring.specs.Reference.{bound_reference}
+use Rattle.sq_binding.specs.Reference.{bound_reference}
 use Rattle.sq_catalog.specs.Exact.{declared}
 use Rattle.sq_catalog.specs.Reference.{IsBound, own_seen}
 use Rattle.sq_catalog.proofs.ReferencesBound.{bound_all, bound_next, bound_none, bound_stops}

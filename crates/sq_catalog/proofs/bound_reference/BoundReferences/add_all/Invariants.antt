@@ -1,6 +1,6 @@
 use Rattle.std.proofs.Common.{◌≡◌, true, length, take}
 use Rattle.std.specs.List.{AllZip, list_all}
-use Rattle.sq_declaring.specs.Reference.{bound_reference}
+use Rattle.sq_binding.specs.Reference.{bound_reference}
 use Rattle.sq_catalog.specs.Exact.{declared}
 use Rattle.sq_catalog.specs.Reference.{IsBound, is_to, keys_with, own_seen}
 use Rattle.sq_catalog.proofs.ReferencesBound.{AreBoundTo}

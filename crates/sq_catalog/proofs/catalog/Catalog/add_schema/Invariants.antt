@@ -1,6 +1,6 @@
 use Rattle.std.proofs.Common.{◌≡◌, drop, take, flat_map}
-use Rattle.sq_rules.specs.SchemaRefusal.{parts_of_schema}
-use Rattle.sq_declaring.specs.Declaring.{with_parts}
+use Rattle.sq_meaning.specs.SchemaRefusal.{parts_of_schema}
+use Rattle.sq_binding.specs.Declaring.{with_parts}
 use Rattle.sq_catalog.specs.Catalog.{Gains, definition_in, table_in}
 use Rattle.sq_catalog.specs.Exact.{declared}
 use Rattle.sq_catalog.specs.Views.{GainsViews, view_in}

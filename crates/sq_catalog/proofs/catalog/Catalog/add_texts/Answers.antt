@@ -1,6 +1,6 @@
 use Rattle.std.proofs.Common.{[], refl}
-use Rattle.sq_rules.specs.SchemaRefusal.{parts_of_text, schema_parts}
-use Rattle.sq_declaring.specs.Declaring.{with_parts}
+use Rattle.sq_meaning.specs.SchemaRefusal.{parts_of_text, schema_parts}
+use Rattle.sq_binding.specs.Declaring.{with_parts}
 use Rattle.sq_catalog.specs.Catalog.{text_definitions, text_tables}
 use Rattle.sq_catalog.specs.Exact.{declared}
 use Rattle.sq_catalog.specs.Views.{text_views}

@@ -1,7 +1,7 @@
 use Rattle.std.proofs.Common.{◌≡◌, List, length, map, ap, Ok, IfOk, sym, subst, ◌∙◌}
 use Rattle.sq_bound.specs.declared.condition.BoundCond.{BoundCond}
 use Rattle.sq_binding.specs.Seen.{cond_seen}
-use Rattle.sq_declaring.specs.Reference.{bound_reference}
+use Rattle.sq_binding.specs.Reference.{bound_reference}
 use Rattle.sq_catalog.specs.Exact.{declared}
 use Rattle.sq_catalog.specs.Fault.{Makes}
 use Rattle.sq_catalog.specs.Reference.{found_seen, keys_with, references_made}

@@ -1,7 +1,7 @@
 use Rattle.std.proofs.Common.{ap, sym, subst, ◌∙◌}
 use Rattle.sq_meaning.specs.Spelled.{select_of}
 use Rattle.sq_binding.specs.View.{view_bound}
-use Rattle.sq_declaring.specs.View.{or_bad_view}
+use Rattle.sq_binding.specs.CreateView.{or_bad_view}
 use Rattle.sq_catalog.specs.Fault.{Makes}
 use Rattle.sq_catalog.specs.UserTables.{names_in}
 use Rattle.sq_catalog.specs.ViewMade.{view_found}

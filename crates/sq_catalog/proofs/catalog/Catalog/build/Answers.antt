@@ -1,7 +1,7 @@
 use Rattle.std.proofs.Common.{◌≡◌, Ok, subst}
-use Rattle.sq_rules.specs.SchemaRefusal.{schema_parts}
-use Rattle.sq_declaring.specs.Catalog as definition
-use Rattle.sq_declaring.specs.Declaring.{with_parts}
+use Rattle.sq_meaning.specs.SchemaRefusal.{schema_parts}
+use Rattle.sq_binding.specs.Catalog as definition
+use Rattle.sq_binding.specs.Declaring.{with_parts}
 use Rattle.sq_catalog.specs.Exact.{StopsAt, declared}
 use Rattle.sq_catalog.proofs.Declared.{declared_all}
 use Rattle.sq_catalog.proofs.catalog.Catalog.build.Goals as goal

@@ -1,9 +1,9 @@
 use Rattle.std.proofs.Common.{[], ◌∷◌, ap, subst, sym, ◌∙◌}
 use Rattle.std.specs.Result.{OnOk}
 use Rattle.sq_meaning.specs.Environment.{TableName}
-use Rattle.sq_rules.specs.declared.refusal.SchemaFault.TheVariants.{NameTwice}
-use Rattle.sq_declaring.specs.Outcome.{refused_if}
-use Rattle.sq_declaring.specs.Table.{is_taken}
+use Rattle.sq_meaning.specs.declared.refusal.SchemaFault.TheVariants.{NameTwice}
+use Rattle.sq_binding.specs.ElementOutcome.{refused_if}
+use Rattle.sq_binding.specs.Table.{is_taken}
 use Rattle.sq_catalog.specs.Catalog.{Gains}
 use Rattle.sq_catalog.specs.Exact.{base_declared, declared}
 use Rattle.sq_catalog.specs.Fault.{Stops}

@@ -1,8 +1,8 @@
 use Rattle.std.proofs.Common.{◌≡◌, List, ap, map, subst, ◌∙◌}
 use Rattle.std.specs.Result.{OnOk, is_ok}
-use Rattle.sq_declaring.specs.Catalog as definition
-use Rattle.sq_declaring.specs.Catalog.{with_grants}
-use Rattle.sq_declaring.specs.View.{create_view}
+use Rattle.sq_binding.specs.Catalog as definition
+use Rattle.sq_binding.specs.Catalog.{with_grants}
+use Rattle.sq_binding.specs.CreateView.{create_view}
 use Rattle.sq_catalog.specs.Catalog.{Catalog}
 use Rattle.sq_catalog.specs.Exact.{declared}
 use Rattle.sq_catalog.specs.Held.{grant_seen, grants_held}

@@ -1,8 +1,8 @@
 use Rattle.std.proofs.Common.{◌≡◌, Ok, ap, subst}
-use Rattle.sq_rules.specs.declared.refusal.SchemaFault.TheVariants.{NameTwice}
-use Rattle.sq_declaring.specs.Outcome.{refused_if}
-use Rattle.sq_declaring.specs.Table.{is_taken}
-use Rattle.sq_declaring.specs.View.{declared_view}
+use Rattle.sq_meaning.specs.declared.refusal.SchemaFault.TheVariants.{NameTwice}
+use Rattle.sq_binding.specs.ElementOutcome.{refused_if}
+use Rattle.sq_binding.specs.Table.{is_taken}
+use Rattle.sq_binding.specs.CreateView.{declared_view}
 use Rattle.sq_catalog.specs.Exact.{declared, name_in}
 use Rattle.sq_catalog.specs.Fault.{Stops}
 use Rattle.sq_catalog.specs.ViewMade.{view_found}

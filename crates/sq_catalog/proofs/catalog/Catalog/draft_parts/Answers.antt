@@ -1,10 +1,10 @@
 use Rattle.std.proofs.Common.{List, map, subst}
 use Rattle.std.specs.Borrow.{Bor}
 use Rattle.sq_tree.specs.declared.schema.ColumnDefinition.{ColumnDefinition}
-use Rattle.sq_rules.specs.Schema.{has_name_twice}
-use Rattle.sq_rules.specs.declared.refusal.SchemaFault.TheVariants.{NameTwice}
-use Rattle.sq_declaring.specs.Column.{typed_column}
-use Rattle.sq_declaring.specs.Outcome.{and_then, each, refused_if}
+use Rattle.sq_meaning.specs.Schema.{has_name_twice}
+use Rattle.sq_meaning.specs.declared.refusal.SchemaFault.TheVariants.{NameTwice}
+use Rattle.sq_binding.specs.Column.{typed_column}
+use Rattle.sq_binding.specs.ElementOutcome.{and_then, each, refused_if}
 use Rattle.sq_catalog.specs.Draft.{written_names}
 use Rattle.sq_catalog.specs.Exact.{declared, name_in}
 use Rattle.sq_catalog.specs.Fault.{Makes}

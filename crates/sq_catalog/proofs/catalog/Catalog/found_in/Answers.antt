@@ -2,9 +2,9 @@ use Rattle.std.proofs.Common.{ℕ, IfOk, List, ap, length, map, subst, sym, vec_
 use Rattle.std.specs.Borrow.{Bor}
 use Rattle.sq_lex.specs.declared.name.Name.{Name}
 use Rattle.sq_tree.specs.declared.schema.ColumnDefinition.{ColumnDefinition}
-use Rattle.sq_rules.specs.Schema.{has_name_twice}
-use Rattle.sq_rules.specs.declared.refusal.SchemaFault.TheVariants.{NameTwice}
-use Rattle.sq_declaring.specs.Outcome.{refused_if}
+use Rattle.sq_meaning.specs.Schema.{has_name_twice}
+use Rattle.sq_meaning.specs.declared.refusal.SchemaFault.TheVariants.{NameTwice}
+use Rattle.sq_binding.specs.ElementOutcome.{refused_if}
 use Rattle.sq_catalog.specs.Draft.{NamesAreFound, written_names}
 use Rattle.sq_catalog.specs.Exact.{declared, name_in}
 use Rattle.sq_catalog.specs.Fault.{Makes, Stops}

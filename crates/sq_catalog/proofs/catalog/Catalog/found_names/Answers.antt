@@ -1,7 +1,7 @@
 use Rattle.std.proofs.Common.{List, map, subst}
-use Rattle.sq_declaring.specs.Outcome.{each}
-use Rattle.sq_declaring.specs.Position.{positions_of}
-use Rattle.sq_declaring.specs.Reference.{found_reference}
+use Rattle.sq_binding.specs.ElementOutcome.{each}
+use Rattle.sq_binding.specs.Position.{positions_of}
+use Rattle.sq_binding.specs.Reference.{found_reference}
 use Rattle.sq_catalog.specs.Exact.{declared, name_in}
 use Rattle.sq_catalog.specs.Fault.{Makes}
 use Rattle.sq_catalog.specs.Reference.{found_seen, reference_seen}

@@ -1,7 +1,7 @@
 use Rattle.std.proofs.Common.{◌≡◌, List, ap, map, subst, ◌∙◌}
 use Rattle.std.specs.Prelude.{OnOk}
-use Rattle.sq_declaring.specs.Catalog.{with_grants}
-use Rattle.sq_declaring.specs.Grant.{declared_grants, with_granted}
+use Rattle.sq_binding.specs.Catalog.{with_grants}
+use Rattle.sq_binding.specs.Grant.{declared_grants, with_granted}
 use Rattle.sq_catalog.specs.Catalog.{Catalog}
 use Rattle.sq_catalog.specs.Exact.{bases_declared, declared, views_declared}
 use Rattle.sq_catalog.specs.Held.{grant_seen, grants_held}

@@ -1,7 +1,7 @@
 use Rattle.std.proofs.Common.{List, ap, map, subst, true, ◌∙◌}
 use Rattle.sq_lex.specs.declared.name.Name.{Name}
-use Rattle.sq_declaring.specs.Catalog.{may}
-use Rattle.sq_declaring.specs.Grant.{grants_on}
+use Rattle.sq_binding.specs.Catalog.{may}
+use Rattle.sq_binding.specs.Grant.{grants_on}
 use Rattle.sq_catalog.specs.Exact.{declared, name_in, names_in}
 use Rattle.sq_catalog.specs.Fault.{Makes}
 use Rattle.sq_catalog.specs.Held.{grant_seen}

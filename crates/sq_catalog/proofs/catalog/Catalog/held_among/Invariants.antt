@@ -1,5 +1,5 @@
 use Rattle.std.proofs.Common.{◌≡◌, filter, map, take, true}
-use Rattle.sq_declaring.specs.Catalog.{may}
+use Rattle.sq_binding.specs.Catalog.{may}
 use Rattle.sq_catalog.specs.Exact.{declared, name_in}
 use Rattle.sq_catalog.specs.Held.{privilege_of}
 use Rattle.sq_catalog.proofs.catalog.Catalog.held_among.Given as goal

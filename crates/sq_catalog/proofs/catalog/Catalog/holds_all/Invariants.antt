@@ -1,6 +1,6 @@
 use Rattle.std.proofs.Common.{◌≡◌, drop, map, true}
 use Rattle.std.specs.List.{list_all}
-use Rattle.sq_declaring.specs.Catalog.{may}
+use Rattle.sq_binding.specs.Catalog.{may}
 use Rattle.sq_catalog.specs.Exact.{declared, name_in}
 use Rattle.sq_catalog.specs.Held.{privilege_of}
 use Rattle.sq_catalog.proofs.catalog.Catalog.holds_all.Given as goal

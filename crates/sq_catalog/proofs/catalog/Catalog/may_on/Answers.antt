@@ -1,7 +1,7 @@
 use Rattle.std.proofs.Common.{◌&&◌, ap, sym, ◌∙◌}
 use Rattle.std.specs.List.{list_any}
-use Rattle.sq_rules.specs.Privileges.{is_on_column}
-use Rattle.sq_declaring.specs.Catalog.{gives, owns}
+use Rattle.sq_meaning.specs.Privileges.{is_on_column}
+use Rattle.sq_binding.specs.Catalog.{gives, owns}
 use Rattle.sq_catalog.specs.Catalog.{Catalog}
 use Rattle.sq_catalog.specs.Exact.{entry_declared, name_in}
 use Rattle.sq_catalog.specs.Held.{privilege_of}

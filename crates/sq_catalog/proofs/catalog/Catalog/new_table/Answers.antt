@@ -1,6 +1,6 @@
 use Rattle.std.proofs.Common.{vec_len, subst}
 use Rattle.sq_tree.specs.declared.schema.TableDefinition.{TableDefinition}
-use Rattle.sq_declaring.specs.Table.{drafted, drafted_table}
+use Rattle.sq_binding.specs.Table.{drafted, drafted_table}
 use Rattle.sq_catalog.specs.Draft.{draft_seen}
 use Rattle.sq_catalog.specs.Exact.{base_declared, declared}
 use Rattle.sq_catalog.specs.Fault.{Makes}

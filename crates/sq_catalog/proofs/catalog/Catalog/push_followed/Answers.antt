@@ -1,6 +1,6 @@
 use Rattle.std.proofs.Common.{Bool, subst}
 use Rattle.std.specs.Result.{OnOk}
-use Rattle.sq_declaring.specs.View.{owner_grants}
+use Rattle.sq_binding.specs.CreateView.{owner_grants}
 use Rattle.sq_catalog.specs.Exact.{name_in}
 use Rattle.sq_catalog.specs.Held.{privilege_of}
 use Rattle.sq_catalog.specs.ViewGrants.{HoldsMore}

@@ -1,8 +1,8 @@
 use Rattle.std.proofs.Common.{◌≡◌, List, Ok, length, map, ap, sym, subst, ◌∙◌}
 use Rattle.sq_bound.specs.declared.names.Column.{Column}
 use Rattle.sq_bound.specs.WellFormed.{kinds_of_columns}
-use Rattle.sq_declaring.specs.Table.{drafted_table, typed_descriptor}
-use Rattle.sq_promises.specs.Names.{descriptor_of}
+use Rattle.sq_binding.specs.Table.{drafted_table, typed_descriptor}
+use Rattle.sq_binding.specs.Names.{descriptor_of}
 use Rattle.sq_catalog.specs.Draft.{IsBaseFor, draft_seen}
 use Rattle.sq_catalog.specs.Exact.{base_declared, declared}
 use Rattle.sq_catalog.specs.Stored.{AreChecksAt}

@@ -1,8 +1,8 @@
 use Rattle.std.proofs.Common.{Bool, ap, map, subst, sym, ◌∙◌}
 use Rattle.std.specs.List.{list_any}
-use Rattle.sq_rules.specs.declared.refusal.SchemaFault.TheVariants.{BadKey, NullableKey}
-use Rattle.sq_declaring.specs.Key.{has_nullable}
-use Rattle.sq_declaring.specs.Outcome.{refused_if}
+use Rattle.sq_meaning.specs.declared.refusal.SchemaFault.TheVariants.{BadKey, NullableKey}
+use Rattle.sq_binding.specs.Key.{has_nullable}
+use Rattle.sq_binding.specs.ElementOutcome.{refused_if}
 use Rattle.sq_catalog.specs.Fault.{Makes}
 use Rattle.sq_catalog.specs.Table.{typed_seen}
 use Rattle.sq_catalog.proofs.NotNull.{known_keys}

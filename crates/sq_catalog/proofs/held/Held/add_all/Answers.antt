@@ -1,5 +1,5 @@
 use Rattle.std.proofs.Common.{ap, sym, ◌∙◌}
-use Rattle.sq_declaring.specs.Catalog.{with_grant}
+use Rattle.sq_binding.specs.Catalog.{with_grant}
 use Rattle.sq_catalog.specs.Held.{grant_seen, grants_held}
 use Rattle.sq_catalog.proofs.Pushed.{fold_read}
 use Rattle.sq_catalog.proofs.held.Held.add_all.Goals as goal

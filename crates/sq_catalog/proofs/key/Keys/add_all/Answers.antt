@@ -3,7 +3,7 @@ use Rattle.std.specs.List.{list_all}
 use Rattle.std.specs.Prelude.{Ok}
 use Rattle.sq_lex.specs.declared.name.Name.{Name}
 use Rattle.sq_bound.specs.Names.{are_positions}
-use Rattle.sq_declaring.specs.Position.{positions_of}
+use Rattle.sq_binding.specs.Position.{positions_of}
 use Rattle.sq_catalog.specs.Fault.{Stops}
 use Rattle.sq_catalog.specs.Keys.{StandAt}
 use Rattle.sq_catalog.specs.Written.{column_count, names_at}

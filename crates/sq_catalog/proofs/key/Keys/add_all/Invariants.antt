@@ -1,7 +1,7 @@
 use Rattle.std.proofs.Common.{◌≡◌, true, length, nat_lt, take}
 use Rattle.std.specs.List.{list_all}
 use Rattle.sq_bound.specs.Names.{are_positions}
-use Rattle.sq_declaring.specs.Position.{positions_of}
+use Rattle.sq_binding.specs.Position.{positions_of}
 use Rattle.sq_catalog.specs.Keys.{KeysStandAt, primaries, primary_among}
 use Rattle.sq_catalog.specs.Written.{column_count, names_at}
 use Rattle.sq_catalog.proofs.Turns.{IsMadeTo}

@@ -1,5 +1,5 @@
 use Rattle.std.proofs.Common.{ap, false, ◌∙◌}
-use Rattle.sq_declaring.specs.Catalog.{may}
+use Rattle.sq_binding.specs.Catalog.{may}
 use Rattle.sq_catalog.specs.Exact.{declared}
 use Rattle.sq_catalog.proofs.user_tables.UserTablesChangeableTables.holds.Goals as goal
 

@@ -1,6 +1,6 @@
 use Rattle.std.proofs.Common.{ap}
 use Rattle.std.specs.Option.{option_map}
-use Rattle.sq_declaring.specs.Catalog as definition
+use Rattle.sq_binding.specs.Catalog as definition
 use Rattle.sq_catalog.specs.Exact.{declared}
 use Rattle.sq_catalog.proofs.UserNames.{lent}
 use Rattle.sq_catalog.proofs.user_tables.UserTablesTables.table.Goals as goal

@@ -1,5 +1,5 @@
 use Rattle.std.proofs.Common.{◌++◌, ◌∷◌, [], ap, arith, ◌∙◌}
-use Rattle.sq_rules.specs.Schema.{has_name_twice}
+use Rattle.sq_meaning.specs.Schema.{has_name_twice}
 use Rattle.sq_catalog.specs.Written.{names_at}
 use Rattle.sq_catalog.proofs.Turns.{handed_on}
 use Rattle.sq_catalog.proofs.Twice.{added_new, names_next, names_stop, once_more}

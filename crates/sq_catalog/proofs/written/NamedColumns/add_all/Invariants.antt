@@ -1,5 +1,5 @@
 use Rattle.std.proofs.Common.{◌≡◌, ◌+◌, false, map, take}
-use Rattle.sq_rules.specs.Schema.{has_name_twice}
+use Rattle.sq_meaning.specs.Schema.{has_name_twice}
 use Rattle.sq_catalog.specs.Written.{column_count, definitions_lent, names_at}
 use Rattle.sq_catalog.proofs.written.NamedColumns.add_all.Given as goal
 

@@ -1,7 +1,7 @@
 use Rattle.std.proofs.Common.{◌≡◌, Some, ap, nat_lt, position, ◌∙◌}
 use Rattle.sq_meaning.specs.Environment.{same_name}
 use Rattle.sq_bound.specs.Names.{are_positions}
-use Rattle.sq_declaring.specs.Position.{position_of, positions_of}
+use Rattle.sq_binding.specs.Position.{position_of, positions_of}
 use Rattle.sq_catalog.specs.Written.{column_count, names_at}
 use Rattle.sq_catalog.proofs.Listed.{all_push, below}
 use Rattle.sq_catalog.proofs.Turns.{done_next, done_stops, handed_on}

@@ -1,6 +1,6 @@
 use Rattle.std.proofs.Common.{◌≡◌, true, take}
 use Rattle.sq_bound.specs.Names.{are_positions}
-use Rattle.sq_declaring.specs.Position.{position_of}
+use Rattle.sq_binding.specs.Position.{position_of}
 use Rattle.sq_catalog.specs.Keys.{StandAt}
 use Rattle.sq_catalog.specs.Written.{column_count, names_at}
 use Rattle.sq_catalog.proofs.Turns.{IsDoneTo}

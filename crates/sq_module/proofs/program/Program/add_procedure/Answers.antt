@@ -5,7 +5,7 @@ use Rattle.sq_module.proofs.Fitting.{procedure_added}
 use Rattle.sq_module.specs.Program.{FitsProcedure, ProcedureIsWellFormed, ProcedureOpens, kinds_of_cursors}
 use Rattle.sq_binding.specs.Statement.{statement_bound}
 use Rattle.sq_catalog.specs.UserTables.{names_in}
-use Rattle.sq_promises.specs.Names.{declared}
+use Rattle.sq_binding.specs.Names.{declared}
 use Rattle.sq_module.specs.Computed.{IsComputed}
 use Rattle.sq_module.specs.Named.{cursors_named, number_in}
 use Rattle.sq_module.specs.Written.{AreNumbers, IsBoundFrom}

@@ -1,6 +1,6 @@
 use Rattle.std.proofs.Common.{◌≡◌, ◌∙◌, sym, ap, subst, Some, Ok}
 use Rattle.sq_tree.specs.declared.expr.Primary.TheVariants as primary
-use Rattle.sq_reader.specs.Reads.{Reads, Stops}
+use Rattle.sq_grammar.specs.Reads.{Reads, Stops}
 use Rattle.sq_grammar.specs.Expr.{column, inside, primary_at}
 use Rattle.sq_phrase.proofs.First.{at_number, at_text, at_name, at_word, at_symbol, at_end}
 use Rattle.sq_phrase.proofs.expression.Grammar.primary.Goals as goal

@@ -1,7 +1,7 @@
 use Rattle.sq_grammar.specs.Reading.{opened}
 use Rattle.sq_grammar.specs.Expr.{close}
 use Rattle.sq_grammar.specs.Query.{bracketed, inside}
-use Rattle.sq_reader.proofs.Stops.{stops_after, stops_here}
+use Rattle.sq_grammar.proofs.Stops.{stops_after, stops_here}
 use Rattle.sq_phrase.proofs.query_expression.Grammar.bracketed.Goals as goal
 
 pub returns-in-Err-clause-value : goal.returns-in-Err-clause-value

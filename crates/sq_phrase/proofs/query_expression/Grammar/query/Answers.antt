@@ -2,7 +2,7 @@ use Rattle.sq_lex.specs.declared.lexeme.Lexeme.TheVariants as lexeme
 use Rattle.sq_lex.specs.declared.word.Word.TheVariants as word
 use Rattle.sq_grammar.specs.Reading.{all, behind}
 use Rattle.sq_grammar.specs.Query.{level, query_term, union_term, inside}
-use Rattle.sq_reader.proofs.Stops.{stops_after, stops_here}
+use Rattle.sq_grammar.proofs.Stops.{stops_after, stops_here}
 use Rattle.sq_phrase.proofs.query_expression.Grammar.query.Goals as goal
 
 pub returns-in-Err-clause-value : goal.returns-in-Err-clause-value

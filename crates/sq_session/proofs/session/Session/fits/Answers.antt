@@ -1,5 +1,5 @@
 use Rattle.std.proofs.Common.{ap, map, sym, ◌∙◌}
-use Rattle.sq_rules.specs.Script.{fit}
+use Rattle.sq_meaning.specs.Script.{fit}
 use Rattle.sq_module.specs.declared.program.BoundProcedure.{BoundProcedure}
 use Rattle.sq_module.specs.declared.program.ProcedureName.{ProcedureName}
 use Rattle.sq_session.specs.Kind.{fits_at}

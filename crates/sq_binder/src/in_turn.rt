@@ -1,0 +1,19 @@
+//! Lists whose elements are bound in turn.
+
+ghost use Rattle.sq_binder.specs.InTurn.{Grows};
+
+use crate::{Stop, pushed};
+use sq_items::Items;
+
+/// The elements of a list so far, and the next one.
+pub fn grown<T: Drop>(list: Items<T>, next: Result<T, Stop>) -> Result<Items<T>, Stop>
+    ensures { Grows list next result }
+{
+    match next {
+        Ok(next) => Ok(pushed(list, next)?),
+        Err(stop) => {
+            drop(list);
+            Err(stop)
+        }
+    }
+}

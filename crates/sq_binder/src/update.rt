@@ -1,0 +1,96 @@
+//! UPDATE (ISO/IEC 9075:1992, 13.9 and 13.10).
+
+ghost use Rattle.std.specs.Prelude.{◌≡◌, List, IfOk};
+ghost use Rattle.sq_bound.specs.declared.names.BaseTable.{BaseTable as AnyBase};
+ghost use Rattle.sq_bound.specs.declared.statement.BoundStatement.TheVariants as bound;
+ghost use Rattle.sq_binding.specs.Change.{update_parts};
+ghost use Rattle.sq_binder.specs.Found.{Finds};
+ghost use Rattle.sq_binder.specs.Surroundings.{surroundings};
+ghost use Rattle.sq_binder.specs.Changeable.{changed_of};
+ghost use Rattle.sq_binder.specs.Names.{AreOverBases, names_at};
+ghost use Rattle.sq_binding.specs.SeenQuery.{update_seen};
+ghost use Rattle.sq_binding.specs.There.{StatementIsThere};
+ghost use Rattle.sq_binder.specs.Update.{IsUpdateOver, update_in, update_over, updated};
+
+use crate::assignment::bind_assignments;
+use crate::cursors::Cursors;
+use crate::needed::reading;
+use crate::rows::bind_rows;
+use crate::{
+    ChangeableTables, ChangedTable, Counts, Found, Privilege, Stop, Surroundings, changed_table,
+    paired,
+};
+use sq_bound::{BoundAssignment, BoundUpdate, ChangeTarget};
+use sq_items::Items;
+use sq_tree::Update;
+
+/// What binding an update statement answers.
+pub type UpdateResult = Result<Found<BoundUpdate>, Stop>;
+
+pub fn bind_update<T: ChangeableTables, C: Cursors>(
+    update: &Update,
+    at: &Surroundings<'_, T>,
+    cursors: &C,
+    before: Counts,
+) -> UpdateResult
+    ensures finds { Finds update_seen (update_in (names_at T.named T.changes at.now)
+        (surroundings T.named at.now) (C.named cursors.now) update.now) before result }
+    ensures there { (bases : List AnyBase) → AreOverBases bases (T.changes at.now.tables.now)
+        → IfOk result (λ found. StatementIsThere bases (bound.Update found.part)) }
+{
+    match changed_table(at.tables, at.environment.user, update.table) {
+        Ok(table) => update_of_table(update, &table, at, cursors, before),
+        Err(stop) => Err(stop),
+    }
+}
+
+fn update_of_table<T: ChangeableTables, C: Cursors>(
+    update: &Update,
+    table: &ChangedTable<'_>,
+    at: &Surroundings<'_, T>,
+    cursors: &C,
+    before: Counts,
+) -> UpdateResult
+    ensures finds { Finds update_seen (update_over (names_at T.named T.changes at.now)
+        (surroundings T.named at.now) (C.named cursors.now) update.now (changed_of table.now)) before result }
+    ensures over { IfOk result (λ found. IsUpdateOver table.now.under.leaf.now found.part) }
+{
+    let Found { part, brought } = parts(update, table, at, cursors, before)?;
+    let may_select = at.tables.holds(table.user, table.name, Privilege::Select);
+    Ok(Found {
+        part,
+        brought: reading(brought, may_select),
+    })
+}
+
+/// The set clauses, and the rows.
+fn parts<T: ChangeableTables, C: Cursors>(
+    update: &Update,
+    table: &ChangedTable<'_>,
+    at: &Surroundings<'_, T>,
+    cursors: &C,
+    before: Counts,
+) -> UpdateResult
+    ensures finds { Finds update_seen (update_parts (names_at T.named T.changes at.now)
+        (surroundings T.named at.now) (C.named cursors.now) (changed_of table.now) update.now) before result }
+    ensures over { IfOk result (λ found. IsUpdateOver table.now.under.leaf.now found.part) }
+{
+    let assignments = bind_assignments(&update.assignments, table, &*at, before)?;
+    let next = assignments.brought.next;
+    let rows = bind_rows(&update.target, table, at, cursors, next);
+    updated(paired(assignments, rows))
+}
+
+fn updated(parts: Result<Found<(Items<BoundAssignment>, ChangeTarget)>, Stop>) -> UpdateResult
+    ensures { result ≡ updated parts }
+{
+    let Found { part, brought } = parts?;
+    let (assignments, target) = part;
+    Ok(Found {
+        part: BoundUpdate {
+            target,
+            assignments,
+        },
+        brought,
+    })
+}

@@ -1,3 +1,0 @@
-pub mod Bind
-pub mod DomainLaws
-pub mod KindLaws

@@ -1,4 +1,0 @@
-pub mod Names
-pub mod Seen
-pub mod There
-pub mod Written
