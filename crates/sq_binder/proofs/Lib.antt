@@ -24,7 +24,7 @@ pub mod Trees
 pub mod Bases
 pub mod Columns
 pub mod Commons
-pub mod Cursors
+pub mod CursorTrees
 pub mod Orders
 pub mod Parts
 pub mod Promised

@@ -12,7 +12,7 @@ use Rattle.sq_binder.specs.Found.{Finds}
 use Rattle.sq_binder.specs.Scope.{item_of}
 use Rattle.sq_binder.specs.Surroundings.{descriptor_of}
 use Rattle.sq_binder.specs.declared.found.Counts.{Counts}
-use Rattle.sq_binder.proofs.Cursors.{in_none}
+use Rattle.sq_binder.proofs.CursorTrees.{in_none}
 use Rattle.sq_binder.proofs.check.bind_check.Goals as goal
 
 pub returns : goal.returns

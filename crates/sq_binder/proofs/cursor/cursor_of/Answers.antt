@@ -10,7 +10,7 @@ use Rattle.sq_binder.specs.Binds.{Binds}
 use Rattle.sq_binder.specs.Surroundings.{surroundings}
 use Rattle.sq_binder.specs.Cursor.{IsOver, IsOverPart}
 use Rattle.sq_binder.specs.Names.{names_at}
-use Rattle.sq_binder.proofs.Cursors.{over_as}
+use Rattle.sq_binder.proofs.CursorTrees.{over_as}
 use Rattle.sq_binding.specs.SeenQuery.{cursor_seen}
 use Rattle.sq_binder.proofs.cursor.cursor_of.Goals as goal
 

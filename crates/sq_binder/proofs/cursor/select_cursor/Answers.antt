@@ -17,7 +17,7 @@ use Rattle.sq_binder.proofs.Steps.{stops_here, then_binds}
 use Rattle.sq_binder.specs.Cursor.{IsOver, IsOverPart}
 use Rattle.sq_binder.specs.Names.{names_at}
 use Rattle.sq_binding.specs.SeenQuery.{cursor_seen, updatable_seen}
-use Rattle.sq_binder.proofs.Cursors.{over_as, permitted_is}
+use Rattle.sq_binder.proofs.CursorTrees.{over_as, permitted_is}
 use Rattle.sq_binder.proofs.cursor.select_cursor.Goals as goal
 
 pub returns-in-Ok-clause-binds : goal.returns-in-Ok-clause-binds

@@ -12,7 +12,7 @@ use Rattle.sq_binder.specs.declared.found.Found.{Found}
 use Rattle.sq_binder.proofs.Finds.{finds_as, pairs_found}
 use Rattle.sq_binder.specs.Cursor.{in_order}
 use Rattle.sq_binding.specs.SeenQuery.{HaveTheirColumns, query_seen, sort_seen}
-use Rattle.sq_binder.proofs.Cursors.{in_order_as}
+use Rattle.sq_binder.proofs.CursorTrees.{in_order_as}
 use Rattle.sq_binding.proofs.SeenQueries.{query_itself}
 use Rattle.sq_binder.proofs.cursor.sorted.Goals as goal
 

@@ -6,7 +6,7 @@ use Rattle.sq_binding.specs.View.{view_over}
 use Rattle.sq_binder.specs.Binds.{Binds}
 use Rattle.sq_binder.specs.Names.{user_names}
 use Rattle.sq_binder.specs.View.{view_seen}
-use Rattle.sq_binder.proofs.Cursors.{in_none}
+use Rattle.sq_binder.proofs.CursorTrees.{in_none}
 use Rattle.sq_binder.proofs.view.bind_view.Goals as goal
 
 pub returns-clause-binds : goal.returns-clause-binds
