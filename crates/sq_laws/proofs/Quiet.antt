@@ -6,7 +6,7 @@ use Rattle.std.proofs.Common.{◌≡◌, ◌⊎◌, inl, inr, ℕ, ◌+◌, ◌-
 use Rattle.std.proofs.lemmas.List.{get_or-set_same}
 use Rattle.std.proofs.lemmas.Option.{slice_get_within}
 use Rattle.std.specs.List.{IsAmong}
-use Rattle.std.specs.Prelude.{IfSome, slice_get, option_map, ◌&&◌}
+use Rattle.std.specs.Prelude.{IfSome, MatchOption, slice_get, option_map, ◌&&◌}
 use Rattle.sq_lex.specs.declared.name.Name.{Name}
 use Rattle.sq_tree.specs.declared.«module».Cursor.{Cursor}
 use Rattle.sq_tree.specs.declared.«module».ModuleItem.TheVariants as item
@@ -37,14 +37,15 @@ use Rattle.sq_session.proofs.Over.{as_many, over_there}
 use Rattle.sq_session.specs.Cursors.{is_over}
 use Rattle.sq_session.specs.Fetch.{next_walked, over_walk, shown_fetched, walked_to}
 use Rattle.sq_session.specs.Kind.{Fetching, fetching, kind_of, opening, over_at}
-use Rattle.sq_session.specs.Metered.{CallReads, last_number}
+use Rattle.sq_session.specs.Metered.{CallReads, FetchReadsFrom, last_number}
 use Rattle.sq_session.specs.Parameter.{started_values}
 use Rattle.sq_session.specs.Schemas.{Schemas}
 use Rattle.sq_session.specs.Session.{Session}
-use Rattle.sq_session.specs.State.{State, cursor_at, is_open, with_cursor}
+use Rattle.sq_session.specs.State.{State, cursor_at, is_open, next_number, with_cursor}
 use Rattle.sq_session.specs.Step.{Comes, MayCall, MayFetchFrom, MayOpenIf, OpensAs}
 use Rattle.sq_session.specs.declared.cursor.CursorState.{CursorState}
 use Rattle.sq_session.specs.declared.cursor.CursorState.TheVariants as cursor
+use Rattle.sq_session.specs.declared.cursor.NumbersCursor.{NumbersCursor}
 use Rattle.sq_session.specs.declared.reply.Done.{Done}
 use Rattle.sq_session.specs.declared.reply.Reply.{Reply}
 use Rattle.sq_session.specs.declared.walk.WalkingCursor.{WalkingCursor}
@@ -289,3 +290,14 @@ module _ (texts : List SchemaText) (modules : List ModuleText) (row_numbers : �
       quiet_fetch_reads w behind on later =
           fetched_few f c named y.0 y.2 y.1 v w (subst (λ i. cursor_at s.state i ≡ cursor.Walking v) same before)
           (subst (λ i. cursor_at after i ≡ cursor.Walking w) same behind) on later
+
+    -- A FETCH of a cursor over row numbers reads the row that it comes to and no other, and none where it comes to its end: of a
+    -- quiet cursor, too, which an UPDATE has made such a list.
+    pub listed_fetch_reads : (f : Fetch) → p.statement ≡ statement.Fetch f → (c : Cursor) → cursor_named m f.cursor ≡ Some c
+        → (n : ℕ) → IsCursorAt program m c n → (v : NumbersCursor) → cursor_at s.state n ≡ cursor.Numbers v
+        → MatchOption (next_number (table_at s.state.tables v.table) v).on (reply.reads ≡ 0) (λ number. reply.reads ≡ 1)
+    listed_fetch_reads f fetches c named n at v before =
+        let y = fetch_bound m b.parameters f b.statement (subst (λ st. IsStatementIn known m declared b.parameters st b.statement) fetches b.is) in
+        let same : n ≡ (y.0).cursor = at_number f.cursor c named (y.0).cursor y.2 n at in
+        subst (λ k. FetchReadsFrom k (fetching declared m.authorization b.parameters y.0) s.state.tables reply.reads)
+        (subst (λ i. cursor_at s.state i ≡ cursor.Numbers v) same before) (reads_of (bound.Fetch y.0) y.1)

@@ -1,6 +1,6 @@
 -- How many rows a call reads, from what its parts read.
 use Rattle.std.proofs.Common.{◌≡◌, ◌+◌, ◌-◌, ◌^◌, ◌≤◌, ◌<◌, refl, ◌∙◌, ℕ, true, false, List, length, get_or, Option, Some, None, Result, Ok, Err, arith, subst, sym, IfSome}
-use Rattle.std.specs.Prelude.{IfOk, slice_get}
+use Rattle.std.specs.Prelude.{IfOk, MatchOption, slice_get}
 use Rattle.std.specs.Option.{option_map_or}
 use Rattle.std.specs.declared.alloc.AllocError.{AllocError}
 use Rattle.std.proofs.Math.Nat.{le-min}
@@ -26,10 +26,11 @@ use Rattle.sq_session.specs.Fetch.{next_walked}
 use Rattle.sq_session.specs.Kind.{Caller, Fetching, Kind, Over, Selecting, Updating, caller_of, delete_kind, kind_of, over_at, over_of, over_target, update_kind, updating}
 use Rattle.sq_session.specs.Metered.{CallReads, FetchReads, FetchReadsFrom, OpenReads, StepReads}
 use Rattle.sq_session.specs.Parameter.{started_values}
-use Rattle.sq_session.specs.State.{State, cursor_at}
+use Rattle.sq_session.specs.State.{State, cursor_at, next_number}
 use Rattle.sq_session.specs.Step.{ending}
 use Rattle.sq_session.specs.declared.cursor.CursorState.{CursorState}
 use Rattle.sq_session.specs.declared.cursor.CursorState.TheVariants as cursor
+use Rattle.sq_session.specs.declared.cursor.NumbersCursor.{NumbersCursor}
 use Rattle.sq_session.specs.declared.reply.Done.{Done}
 use Rattle.sq_session.specs.declared.reply.Reply.{Reply}
 use Rattle.sq_session.specs.declared.walk.WalkingCursor.{WalkingCursor}
@@ -102,6 +103,19 @@ pub end_come_to : (f : Fetching) (tables : Content) (c : WalkingCursor) (t : Tar
     → (IsKeyedUnder t c.values f.user → count ≤ start + 1) → FetchReadsFrom (cursor.Walking c) f tables count
 end_come_to f tables c t start count is next none once =
     (subst (λ (o : Option Numbered). IfSome o (λ r. (1 ≤ count) × (count ≤ r.number - (c.next - 1)))) (sym next) tt, by_key f c t start count is none once)
+
+-- A FETCH by which a cursor over numbers comes to a row reads that row alone,
+pub number_read : (f : Fetching) (tables : Content) (c : NumbersCursor) (number start count : ℕ) → (next_number (table_at tables c.table) c).on ≡ Some number → start ≡ 0
+    → count ≡ counted start → FetchReadsFrom (cursor.Numbers c) f tables count
+number_read f tables c number start count on none is =
+    let least = counted_some start count is in
+    let most = counted_at_most start count is in
+    subst (λ o. MatchOption o (count ≡ 0) (λ n. count ≡ 1)) (sym on) (omega (arith, none, least, most))
+
+-- and one by which it comes to its end reads none.
+pub no_number_read : (f : Fetching) (tables : Content) (c : NumbersCursor) (count : ℕ) → (next_number (table_at tables c.table) c).on ≡ None → count ≡ 0
+    → FetchReadsFrom (cursor.Numbers c) f tables count
+no_number_read f tables c count on none = subst (λ o. MatchOption o (count ≡ 0) (λ n. count ≡ 1)) (sym on) none
 
 -- FETCH reads what its cursor in the state makes it read.
 pub fetched_at : (f : Fetching) (tables committed : Content) (keys : List Keys) (row_numbers : ℕ) (cs : List CursorState) (old : CursorState) (r : Result Done Fault) (count : ℕ) → f.cursor < length cs → old ≡ get_or cs f.cursor old

@@ -1,8 +1,9 @@
 //! Cursors, and the place that a FETCH reaches (ISO/IEC 9075:1992, 4.21 and 13.3).
 
-ghost use Rattle.std.specs.Prelude.{◌≡◌, ◌≤◌, ◌<◌, ◌^◌, IfSome, length, MatchOption, None, Ok, Some, option_copied};
+ghost use Rattle.std.specs.Prelude.{◌≡◌, ◌≤◌, ◌<◌, ◌^◌, IfSome, if◌then◌else◌, is_some, length, MatchOption, None, Ok, Some, option_copied};
 ghost use Rattle.sq_meaning.specs.Cursor.{bounded, row_at as row_of};
 ghost use Rattle.sq_store.specs.Content.{table_at};
+ghost use Rattle.sq_store.specs.Meter.{counted};
 ghost use Rattle.sq_session.specs.State.{next_number, number_on};
 ghost use Rattle.sq_session.specs.Fetch.{HasNumber, MeansPlace, number_of, place_reached, place_wanted, row_on};
 
@@ -152,6 +153,7 @@ pub(crate) fn next_there<'a, S: Store>(
         MatchOption result ((next.on ≡ None) × (next.passed ≡ length cursor.now.numbers))
         (λ r. (next.on ≡ Some r.number)
         × (next.passed ≡ r.passed)) }
+    ensures metered { meter.new ≡ (if is_some result then counted meter.old else meter.old) }
 {
     let left = &cursor.numbers.as_slice()[cursor.passed..];
     for (place, number) in left.iter().enumerate() {

@@ -130,10 +130,14 @@ fn fetch_number<S: Store>(
         (S.key_columns store.now) }
     requires finds { FindsCursor called.now fetch.now (S.content_now store.now)
         (CursorState.Numbers cursor.old) }
+    requires meter { meter.old ≡ 0 }
     ensures comes { HasCome result cursor.new
         (come_to_number (fetching_for called.now fetch.now) (S.content_now store.now) cursor.old) }
     ensures err { OnErr result (cursor.new ≡ cursor.old) }
     ensures right { IfSome (ending result) EndsRight }
+    ensures read { IfSome (ending result)
+        (λ d. FetchReadsFrom (CursorState.Numbers cursor.old) (fetching_for called.now fetch.now)
+        (S.content_now store.now) meter.new) }
 {
     let query = updatable_query(called, fetch.cursor);
     let Some(reached) = next_there(store, cursor, meter) else {

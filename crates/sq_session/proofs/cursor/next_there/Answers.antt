@@ -11,7 +11,7 @@ returns-in-Some-clause-next g c =
     let p = c.args.cursor.now.passed in
     reached t c.args.cursor.now.numbers _ p c.loop-place.place c.requires.passed
     (left_is p c.as_slice.result.now ∙ ap (λ z. drop p z) c.as_slice.ensures)
-    c.loop-place-test.true c.loop-place.invariant (ap is_some c.in-Some.ensures.row)
+    c.loop-place-test.true c.loop-place.invariant.0 (ap is_some c.in-Some.ensures.row)
 
 pub returns-clause-next : goal.returns-clause-next
 returns-clause-next g c =
@@ -19,7 +19,7 @@ returns-clause-next g c =
     let p = c.args.cursor.now.passed in
     none_there t c.args.cursor.now.numbers _ p c.loop-place.place c.requires.passed
     (left_is p c.as_slice.result.now ∙ ap (λ z. drop p z) c.as_slice.ensures)
-    c.loop-place-test.false c.loop-place.invariant
+    c.loop-place-test.false c.loop-place.invariant.0
 
 pub returns-in-Some-clause-row : goal.returns-in-Some-clause-row
 returns-in-Some-clause-row g c = ap (λ o. option_map (λ (r : Numbered). r.row) o) c.in-Some.ensures.row

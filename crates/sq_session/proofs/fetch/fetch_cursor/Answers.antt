@@ -5,8 +5,5 @@ use Rattle.sq_session.proofs.fetch.fetch_cursor.Goals as goal
 pub fetch_row-requires-clause-taken : goal.fetch_row-requires-clause-taken
 fetch_row-requires-clause-taken g c = let finds = rw c.in-Rows.is at c.requires.finds in finds.taken
 
-pub returns-in-Numbers-clause-read : goal.returns-in-Numbers-clause-read
-returns-in-Numbers-clause-read g c = rw c.in-Numbers.is (however (ending c.fetch_number.result) tt)
-
 pub returns-in-Rows-clause-read : goal.returns-in-Rows-clause-read
-returns-in-Rows-clause-read g c = rw c.in-Rows.is (however (ending c.fetch_row.result) tt)
+returns-in-Rows-clause-read g c = rw c.in-Rows.is (however (ending c.fetch_row.result) c.requires.meter)

@@ -1,9 +1,11 @@
-use Rattle.std.proofs.Common.{subst, sym, ◌∙◌}
+use Rattle.std.proofs.Common.{Err, subst, sym, ◌∙◌}
 use Rattle.sq_catalog.specs.Catalog.{column_kinds}
 use Rattle.sq_store.specs.Content.{table_at}
 use Rattle.sq_session.specs.Kind.{fetching}
 use Rattle.sq_session.proofs.Coming.{shown_taken_on}
+use Rattle.sq_session.specs.Step.{ending}
 use Rattle.sq_session.proofs.Holding.{HasColumns}
+use Rattle.sq_session.proofs.Metering.{however, no_number_read, number_read}
 use Rattle.sq_session.proofs.Over.{numbers_over}
 use Rattle.sq_session.proofs.QuietWalks.{columns_are, passed_there}
 use Rattle.sq_session.proofs.Reached.{comes_to_fault, comes_to_none, comes_to_row}
@@ -51,3 +53,22 @@ returns-in-Err-clause-comes g c =
     let reached = c.in-Some.reached in
     comes_to_fault (fetching called.cursors.now called.procedure.now.user called.procedure.now.parameters c.args.fetch.now) (g.S.Store.content_now c.args.store.now) c.args.cursor.now c.updatable_query-query.result.now.columns
     reached.passed reached.number reached.row.now c.in-Err.fault (columns_are called.cursors.now c.args.fetch.now.cursor c.updatable_query-query.result.now c.updatable_query-query.ensures) c.in-Some.ensures.next.0 c.in-Some.ensures.next.1 c.in-Some.ensures.row c.in-Err.ensures.reply
+
+pub returns-in_default-clause-read : goal.returns-in_default-clause-read
+returns-in_default-clause-read g c =
+    let called = c.args.called.now in
+    no_number_read (fetching called.cursors.now called.procedure.now.user called.procedure.now.parameters c.args.fetch.now) (g.S.Store.content_now c.args.store.now) c.args.cursor.now _
+    c.in_default.ensures.next.0 (c.in_default.ensures.metered ∙ c.requires.meter)
+
+pub returns-in-Ok-clause-read : goal.returns-in-Ok-clause-read
+returns-in-Ok-clause-read g c =
+    let called = c.args.called.now in
+    number_read (fetching called.cursors.now called.procedure.now.user called.procedure.now.parameters c.args.fetch.now) (g.S.Store.content_now c.args.store.now) c.args.cursor.now c.in-Some.reached.number _ _
+    c.in-Some.ensures.next.0 c.requires.meter c.in-Some.ensures.metered
+
+pub returns-in-Err-clause-read : goal.returns-in-Err-clause-read
+returns-in-Err-clause-read g c =
+    let called = c.args.called.now in
+    however (ending (Err c.in-Err.fault))
+    (number_read (fetching called.cursors.now called.procedure.now.user called.procedure.now.parameters c.args.fetch.now) (g.S.Store.content_now c.args.store.now) c.args.cursor.now c.in-Some.reached.number _ _
+    c.in-Some.ensures.next.0 c.requires.meter c.in-Some.ensures.metered)
