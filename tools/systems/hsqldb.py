@@ -44,3 +44,7 @@ class Hsqldb(Jdbc):
             except Refused as refused:
                 raise Unsayable(self.wants_one_user) from refused
             self.user = user
+
+    def lacks(self, refused):
+        """The row of a result is changed only in columns that the cursor selects."""
+        return "WHERE CURRENT OF for another column" if refused.message.startswith("Column not found") else super().lacks(refused)

@@ -86,7 +86,8 @@ TOPICS = {
     ),
     "constraints": Topic(
         "NOT NULL, CHECK, keys and references", STANDARD,
-        "A constraint that isn't met is 23000, and the statement has no effect (4.10.1, 11.6 to 11.9).",
+        "A constraint that isn't met is 23000, and the statement has no effect (4.10.1, 11.6 to 11.9). A value that was stored "
+        "otherwise may meet it otherwise.",
     ),
     "cursor-states": Topic(
         "Open and closed cursors", STANDARD,
@@ -157,14 +158,16 @@ OF_FAULTS = {
     "CountMismatch": "lists", "NotUpdatable": "updatable", "PrivilegeMissing": "privileges", "AmbiguousName": "names",
     "UnknownColumn": "names", "UnknownTable": "names", "MisplacedSetFunction": "set-functions",
 }
-# Runs whose constraints fail or hold by the comparison of texts.
+# Runs whose constraints fail or hold by the comparison of texts, and by digits past the scale.
 WITH_TEXTS = ("equal_keys", "varying_texts", "03-equal", "random_changes_6")
+WITH_DIGITS = ("digits-in-keys", "random_changes_5", "random_changes_12", "accepted_110", "accepted_113")
 OWN_ERRORS = ("S1", "HY", "XX", "50", "XJ")
 # The faults of runs that don't say them, by the names of the runs.
 OF_RUNS = (
     ("text_against_number", "kinds"), ("scale_above", "limits"), ("set_twice", "lists"), ("outside_of_groups", "grouped"),
-    ("too_few", "lists"), ("_17", "limits"), ("_65", "limits"), ("grouping_column", "grouped"), ("why-42000", "kinds"),
-    ("privilege", "privileges"), ("granted", "privileges"), ("twice_in_from", "names"), ("set_function", "set-functions"),
+    ("too_few", "lists"), ("items_17", "limits"), ("list_65", "limits"), ("grouping_column", "grouped"), ("why-42000", "kinds"),
+    ("privilege", "privileges"), ("granted", "privileges"), ("twice_in_from", "names"), ("one-name-twice", "names"),
+    ("grouped-by", "grouped"), ("set_function", "set-functions"),
 )
 
 
@@ -196,6 +199,8 @@ def topic(system, case, difference):
 
 def of_constraints(case, difference, found):
     """Where a constraint holds by one and not by the other."""
+    if case.name.endswith(WITH_DIGITS):
+        return "digits"
     if isinstance(difference.statement, Update) or found not in DONE and isinstance(difference.statement, Delete):
         return "statement-end"
     is_reference = found == "23503" or "FOREIGN" in difference.found.message
