@@ -1,7 +1,8 @@
 #!/usr/bin/env python3
 """Compiles sqmod without proof, with run-time checks, and keeps the program.
 
-build_checked.py FOLDER: leaves the program as FOLDER/sqmod, and FOLDER/start, which runs it with the words that it is given.
+build_checked.py FOLDER: leaves the program as FOLDER/sqmod, and FOLDER/start, which runs it with the words that it is given. Any
+user may run them. A dot on standard error each ten seconds shows that it compiles.
 
 `rt try` compiles a program, runs it and keeps nothing of it. Here it runs `sqmod` on a script that is a named pipe. The program
 waits for what comes through the pipe, and meanwhile its file is copied.
@@ -18,6 +19,7 @@ from pathlib import Path
 
 ROOT = Path(__file__).resolve().parent.parent
 STEP = 0.05
+SECONDS = 10
 
 
 def reader_of(pipe):
@@ -42,7 +44,8 @@ def opened(pipe):
 def keep(words, folder):
     """Copies a program and writes its starter. The words run it: those of its loader, and its file last."""
     *loader, program = words
-    shutil.copy(program, folder / "sqmod")
+    shutil.copyfile(program, folder / "sqmod")
+    (folder / "sqmod").chmod(0o755)
     start = folder / "start"
     start.write_text(f'#!/bin/sh\nexec {shlex.join(loader)} "${{0%/*}}/sqmod" "$@"\n')
     start.chmod(0o755)
@@ -58,8 +61,11 @@ def build(folder):
             ["rt", "try", "--steps", "1", "--", *request], cwd=ROOT / "crates/sqmod",
             stdin=subprocess.DEVNULL, stdout=log, stderr=log,
         )
-        script = None
+        script, dots, begun = None, 0, time.monotonic()
         while tool.poll() is None:
+            if dots < int((time.monotonic() - begun) / SECONDS):
+                dots += 1
+                print(".", end="", file=sys.stderr, flush=True)
             script = script or opened(pipe)
             process = reader_of(pipe) if script else None
             if process:

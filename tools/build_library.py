@@ -27,10 +27,15 @@ def kit():
     return Path(page).parent
 
 
+def crate_uses():
+    """Which libraries each crate of the repository uses."""
+    lines = [it.partition(":") for it in (ROOT / "crates.txt").read_text().splitlines() if not it.startswith("#")]
+    return {name.split()[0]: rest.split() for name, _, rest in lines if name.split()}
+
+
 def crates_below():
     """The crates of the repository that the archive stands on."""
-    lines = [it.partition(":") for it in (ROOT / "crates.txt").read_text().splitlines() if not it.startswith("#")]
-    uses = {name.split()[0]: rest.split() for name, _, rest in lines if name.split()}
+    uses = crate_uses()
     found, left = [], list(uses[NAME])
     while left:
         name = left.pop()
@@ -52,7 +57,7 @@ def build_over(folders):
     top = kit()
     words = [top / "bin/rattle", "build", "--crate-name", NAME, "src/lib.rt", "--crate-type", "staticlib", "--links", f"{NAME}="]
     words += ["--extern", f"std={top}/rlibs/std.rlib", "-L", f"dependency={top}/rlibs"]
-    words += ["--extern", f"sq_host={ROOT}/crates/sq_host/out/rlib/sq_host.rlib"]
+    words += [it for name in crate_uses()[NAME] for it in ("--extern", f"{name}={ROOT}/crates/{name}/out/rlib/{name}.rlib")]
     words += [it for folder in folders for it in ("-L", f"dependency={folder}")]
     words += ["--antt-project", f"{top}/rattle/logic/antt-project.json", "--logic-built", f"{top}/logic_built"]
     return words + ["--toolchain", f"{top}/toolchain", "--backend", "llvm", "-o", ARCHIVE]

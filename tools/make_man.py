@@ -3,7 +3,8 @@
 
 make_man.py [check]: with `check` it writes nothing, and fails where the page isn't what the help says. In the help a line that
 begins at the margin, after the usage, heads a section; below it stand terms, each with two blanks or more before what it means,
-and paragraphs.
+and paragraphs. What the help says of a checkout's own commands is left out: the page is installed with a program that has none of
+them.
 """
 
 import re
@@ -13,6 +14,7 @@ from pathlib import Path
 
 ROOT = Path(__file__).resolve().parent.parent
 PAGE = ROOT / "docs/sqmod.1"
+CHECKOUT = "\n\nIn a checkout of the sources "
 TERM = re.compile(r"( +)(-?-?\S+(?: [A-Z])?)  +(\S.*)")
 
 
@@ -66,7 +68,9 @@ def page(text):
 
 
 def main():
-    text = subprocess.run([ROOT / "sqmod", "help"], check=True, capture_output=True, text=True).stdout
+    text, checkout, _ = subprocess.run([ROOT / "sqmod", "help"], check=True, capture_output=True, text=True).stdout.partition(CHECKOUT)
+    if not checkout:
+        sys.exit("tools/make_man.py: the help doesn't say what a checkout has")
     made = "\n".join(page(text)) + "\n"
     if sys.argv[1:] == ["check"]:
         if not PAGE.exists() or PAGE.read_text() != made:

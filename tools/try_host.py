@@ -85,6 +85,7 @@ def programs(library, room):
     cobol = ["cobc", "-x", "-free", "-Wall"]
     yield Program(HOST / "first.c", [*c, HOST / "first.c", library], texts, HOST / "report.txt")
     yield Program(HOST / "first.cob", [*cobol, HOST / "first.cob", library], texts, HOST / "report.txt")
+    yield Program(HOST / "nulls.c", [*c, HOST / "nulls.c", library], [], HOST / "nulls.txt")
     checks = ROOT / "host/tests/checks.c"
     yield Program(checks, [*c, checks, library], [checks.with_suffix(".sql")], checks.with_suffix(".txt"))
 

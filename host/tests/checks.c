@@ -1,4 +1,5 @@
-/* What a host program may do wrong, and what comes of it; and values of each kind in and out. */
+/* What a host program may do wrong, and what comes of it; values and nulls of each kind in and out; faults, values that don't fit,
+   and rows of tables. */
 
 #include <inttypes.h>
 #include <stdio.h>
@@ -122,6 +123,162 @@ static void values(void) {
     sqmod_close(&other);
 }
 
+/* The values that the last call or row gave, with room and without. */
+static void show_outputs(sqmod_session *session) {
+    size_t count = 0, length;
+    say("outputs", sqmod_outputs(session, &count));
+    for (size_t place = 0; place < count; place++) {
+        char name[SQMOD_NAME_LENGTH + 1] = "", room[16] = "";
+        int64_t unscaled = 77;
+        unsigned scale = 77;
+        int kind = 77;
+        int named = sqmod_output_name(session, place, name, sizeof name, &length);
+        int asked = sqmod_output_kind(session, place, &kind);
+        printf("  %zu: name %d %s, kind %d %d,", place, named, name, asked, kind);
+        int answer = sqmod_output_number(session, place, &unscaled, &scale);
+        printf(" number %d %" PRId64 " %u,", answer, unscaled, scale);
+        length = 77;
+        answer = sqmod_output_digits(session, place, room, sizeof room, &length);
+        printf(" digits %d %zu '%s',", answer, length, room);
+        length = 77;
+        room[0] = 0;
+        answer = sqmod_output_text(session, place, room, sizeof room, &length);
+        printf(" text %d %zu '%s',", answer, length, room);
+        length = 77;
+        answer = sqmod_output_digits(session, place, room, 1, &length);
+        printf(" digits without room %d %zu,", answer, length);
+        length = 77;
+        answer = sqmod_output_text(session, place, room, 0, &length);
+        printf(" text without room %d %zu\n", answer, length);
+    }
+}
+
+static size_t number_of(sqmod_session *session, const char *name) {
+    size_t procedure = 0;
+    if (sqmod_procedure(session, "CHECKS", name, &procedure) != SQMOD_DONE) printf("no procedure %s\n", name);
+    return procedure;
+}
+
+/* Calls a procedure by hand, with numbers, and shows what it set. */
+static void call_and_show(sqmod_session *session, const char *name, const int64_t *numbers, size_t count) {
+    char sqlstate[6];
+    int32_t sqlcode;
+    for (size_t at = 0; at < count; at++) sqmod_add_number(session, numbers[at], 0);
+    printf("%s: %d\n", name, sqmod_call(session, number_of(session, name)));
+    say("status", sqmod_status(session, sqlstate, &sqlcode));
+    printf("%s %" PRId32 "\n", sqlstate, sqlcode);
+    show_outputs(session);
+}
+
+/* Nulls in and out, of each kind. */
+static void nulls(void) {
+    sqmod_session *session = opened(SCHEMA, MODULE);
+    size_t place = 77;
+    int kind = 77;
+    call_and_show(session, "ADD_NULLS", (const int64_t[]){1, -1}, 2);
+    call_and_show(session, "ADD_NULLS", (const int64_t[]){2, 0}, 2);
+    for (int64_t key = 1; key <= 3; key++) {
+        sqmod_add_number(session, key, 0);
+        for (int at = 0; at < 4; at++) sqmod_add_start(session);
+        call_and_show(session, "GET_NULLS", NULL, 0);
+    }
+    sqmod_add_number(session, 1, 0);
+    for (int at = 0; at < 4; at++) sqmod_add_start(session);
+    sqmod_call(session, number_of(session, "GET_NULLS"));
+    say("place of a null", sqmod_output_place(session, "price", &place));
+    say("its kind", sqmod_output_kind(session, place, &kind));
+    printf("%zu %d\n", place, kind);
+    say("place of no output", sqmod_output_place(session, "K", &place));
+    say("place of no name", sqmod_output_place(session, "A B", &place));
+    sqmod_add_number(session, 1, 0);
+    for (int at = 0; at < 3; at++) sqmod_add_start(session);
+    call_and_show(session, "GET", NULL, 0);
+    sqmod_close(&session);
+}
+
+/* What is known of a call before it is made. */
+static void trials(void) {
+    sqmod_session *session = opened(SCHEMA, MODULE);
+    size_t place = 77, length = 77;
+    char room[64] = "";
+    size_t add = number_of(session, "ADD");
+    say("why", sqmod_why(session, number_of(session, "FAULTY"), room, sizeof room, &length));
+    printf("%zu '%s'\n", length, room);
+    say("why without room", sqmod_why(session, number_of(session, "FAULTY"), room, 4, &length));
+    printf("%zu\n", length);
+    say("why of what has no fault", sqmod_why(session, add, room, sizeof room, &length));
+    printf("%zu '%s'\n", length, room);
+    call_and_show(session, "FAULTY", NULL, 0);
+    say("checked too few", sqmod_checked_values(session, add, &place));
+    printf("%zu\n", place);
+    sqmod_add_number(session, 1, 0);
+    sqmod_add_number(session, 12345678, 2);
+    sqmod_add_text(session, "PEPPER", 6);
+    say("checked", sqmod_checked_values(session, add, &place));
+    printf("%zu\n", place);
+    say("checked for no procedure", sqmod_checked_values(session, 77, &place));
+    printf("%zu\n", place);
+    sqmod_add_start(session);
+    say("checked too many", sqmod_checked_values(session, add, &place));
+    printf("%zu\n", place);
+    sqmod_drop_values(session);
+    place = 77;
+    sqmod_add_digits(session, " +1. ", 5);
+    sqmod_add_digits(session, "-.5", 3);
+    sqmod_add_text(session, "PEPPER  ", 8);
+    say("checked what fits", sqmod_checked_values(session, add, &place));
+    printf("%zu\n", place);
+    call_and_show(session, "ADD", NULL, 0);
+    const char *digits[] = {"", " ", "-", "+-1", "1-", "1 2", ".", "1..2", "1234567890123456789", "0.1234567890123456789", "x"};
+    for (size_t at = 0; at < sizeof digits / sizeof *digits; at++) {
+        printf("'%s': %d\n", digits[at], sqmod_add_digits(session, digits[at], strlen(digits[at])));
+    }
+    sqmod_close(&session);
+}
+
+/* The rows of a table, which calls made meanwhile don't change. */
+static void rows(void) {
+    sqmod_session *session = NULL;
+    char sqlstate[6];
+    int32_t sqlcode = 77;
+    sqmod_new(&session);
+    say("table too early", sqmod_table(session, "U", "T"));
+    sqmod_close(&session);
+    session = opened(SCHEMA, MODULE);
+    say("no table read", sqmod_next_row(session));
+    say("unknown table", sqmod_table(session, "U", "V"));
+    say("no name of a table", sqmod_table(session, "U", "T T"));
+    say("no rows", sqmod_table(session, "U", "T"));
+    say("row", sqmod_next_row(session));
+    checks_add(session, sqlstate, &sqlcode, 1, "-12.5", 5, "TEA", 3);
+    call_and_show(session, "ADD_NULLS", (const int64_t[]){2, -1}, 2);
+    say("table", sqmod_table(session, "u", "t"));
+    say("row", sqmod_next_row(session));
+    show_outputs(session);
+    call_and_show(session, "ADD_NULLS", (const int64_t[]){3, -1}, 2);
+    say("row", sqmod_next_row(session));
+    show_outputs(session);
+    say("row", sqmod_next_row(session));
+    show_outputs(session);
+    say("status", sqmod_status(session, sqlstate, &sqlcode));
+    printf("%s %" PRId32 "\n", sqlstate, sqlcode);
+    sqmod_close(&session);
+}
+
+/* What each code means, and the version. */
+static void texts(void) {
+    char room[SQMOD_ERROR_LENGTH + 1];
+    size_t length;
+    for (int code = -1; code <= SQMOD_NO_ROW + 1; code++) {
+        say("text", sqmod_error_text(code, room, sizeof room, &length));
+        printf("%d %zu %s\n", code, length, room);
+    }
+    say("text without room", sqmod_error_text(SQMOD_DONE, room, 4, &length));
+    say("version", sqmod_version(room, sizeof room, &length));
+    printf("%zu %s\n", length, room);
+    say("version without pointers", sqmod_version(NULL, 0, NULL));
+}
+
 int main(int count, char **words) {
     FILE *opened = count == 2 ? fopen(words[1], "rb") : NULL;
     if (opened == NULL) return 1;
@@ -131,5 +288,9 @@ int main(int count, char **words) {
     refusals();
     wrong_calls();
     values();
+    nulls();
+    trials();
+    rows();
+    texts();
     return 0;
 }

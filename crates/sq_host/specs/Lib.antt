@@ -1,2 +1,5 @@
-pub mod Datum
+pub mod Asked
+pub mod Changes
+pub mod Host
 pub mod Kept
+pub mod Outputs

@@ -1,15 +1,29 @@
 //! The calls of a handle. One that leads to nothing answers `NotOpen` to each but `start`, and where a call
-//! doesn't answer `Done` it sets nothing.
-use crate::answer::Answer;
-use crate::datum::Datum;
+//! doesn't answer `Done` it sets nothing, but for the length of a text for which there is no room.
+
+ghost use Rattle.std.specs.Prelude.{◌≡◌, [], None, Ok};
+ghost use Rattle.sq_value.specs.declared.value.Value.TheVariants.{Null};
+ghost use Rattle.sq_exchange.specs.Number.{number_value};
+ghost use Rattle.sq_exchange.specs.declared.answer.Answer.TheVariants.{Done, NoMemory};
+ghost use Rattle.sq_host.specs.Asked.{asked, set_answer};
+ghost use Rattle.sq_host.specs.Changes.{start_answer, values_of, with_value};
+ghost use Rattle.sq_host.specs.Host.{leads_to};
+
 use crate::handle::Handle;
 use crate::host::Host;
+use crate::set::set;
+use sq_exchange::{Answer, number_value, spelled_value, text_value};
+use sq_value::Value;
 use std::alloc::Global;
 
 impl Handle {
     /// Makes the handle lead to a host without texts.
-    pub fn start(&mut self, alloc: Global) -> Answer {
-        if self.is_open() {
+    pub fn start(&mut self, alloc: Global) -> Answer
+        ensures answer { ¬ (result ≡ NoMemory) → result ≡ start_answer (leads_to self.old) }
+        ensures none { ¬ (result ≡ Done) → leads_to self.new ≡ leads_to self.old }
+    {
+        if let Some(host) = self.take(alloc) {
+            self.put(host);
             return Answer::AlreadyOpen;
         }
         match Box::new(alloc, Host::new(alloc)) {
@@ -51,16 +65,6 @@ impl Handle {
         answer
     }
 
-    /// Copies the line of the last refusal, as far as there is room, and sets its length.
-    pub fn refusal(&mut self, alloc: Global, room: &mut [u8], length: &mut usize) -> Answer {
-        let Some(host) = self.take(alloc) else {
-            return Answer::NotOpen;
-        };
-        host.refusal(room, length);
-        self.put(host);
-        Answer::Done
-    }
-
     /// Sets the number of the procedure of this module and name.
     pub fn procedure(
         &mut self,
@@ -72,29 +76,86 @@ impl Handle {
         let Some(host) = self.take(alloc) else {
             return Answer::NotOpen;
         };
-        let answer = host.procedure(alloc, module, name, number);
+        let answer = set(host.procedure(alloc, module, name), number);
         self.put(host);
         answer
     }
 
-    /// Adds a value to those of the next call.
-    pub fn add_value(&mut self, alloc: Global, datum: &Datum, bytes: &[u8]) -> Answer {
+    /// Adds a number to the values of the next call.
+    pub fn add_number(&mut self, alloc: Global, unscaled: i64, scale: u32) -> Answer
+        ensures answer { ¬ (result ≡ NoMemory)
+            → result ≡ set_answer (asked (leads_to self.old) (λ _. number_value unscaled scale)) }
+        ensures values { result ≡ Done
+            → values_of (leads_to self.new) ≡ with_value (values_of (leads_to self.old)) (number_value unscaled scale) }
+        ensures none { ¬ (result ≡ Done) → values_of (leads_to self.new) ≡ values_of (leads_to self.old) }
+    {
+        self.add(alloc, number_value(unscaled, scale))
+    }
+
+    /// Adds the number that a text spells.
+    pub fn add_digits(&mut self, alloc: Global, digits: &[u8]) -> Answer {
+        self.add(alloc, spelled_value(digits))
+    }
+
+    /// Adds a text.
+    pub fn add_text(&mut self, alloc: Global, text: &[u8]) -> Answer {
+        self.add(alloc, text_value(alloc, text))
+    }
+
+    /// Adds what starts a parameter at 0 or blanks.
+    pub fn add_start(&mut self, alloc: Global) -> Answer
+        ensures answer { ¬ (result ≡ NoMemory)
+            → result ≡ set_answer (asked (leads_to self.old) (λ _. Ok Null)) }
+        ensures values { result ≡ Done
+            → values_of (leads_to self.new) ≡ with_value (values_of (leads_to self.old)) (Ok Null) }
+        ensures none { ¬ (result ≡ Done) → values_of (leads_to self.new) ≡ values_of (leads_to self.old) }
+    {
+        self.add(alloc, Ok(Value::Null))
+    }
+
+    fn add(&mut self, alloc: Global, value: Result<Value, Answer>) -> Answer
+        ensures answer { ¬ (result ≡ NoMemory)
+            → result ≡ set_answer (asked (leads_to self.old) (λ _. value)) }
+        ensures values { result ≡ Done
+            → values_of (leads_to self.new) ≡ with_value (values_of (leads_to self.old)) (value) }
+        ensures none { ¬ (result ≡ Done) → values_of (leads_to self.new) ≡ values_of (leads_to self.old) }
+    {
         let Some(mut host) = self.take(alloc) else {
             return Answer::NotOpen;
         };
-        let answer = host.add_value(alloc, datum, bytes);
+        let answer = host.add(value);
         self.put(host);
         answer
     }
 
     /// Drops the values that were added since the last call.
-    pub fn drop_values(&mut self, alloc: Global) -> Answer {
+    pub fn drop_values(&mut self, alloc: Global) -> Answer
+        ensures answer { result ≡ set_answer (asked (leads_to self.old) (λ h. Ok h.values.items)) }
+        ensures values { values_of (leads_to self.new) ≡ [] }
+    {
         let Some(mut host) = self.take(alloc) else {
             return Answer::NotOpen;
         };
         host.drop_values(alloc);
         self.put(host);
         Answer::Done
+    }
+
+    /// Sets the place of the first value that doesn't fit the procedure, and answers `BadArguments`; or `Done` if all fit.
+    pub fn checked_values(&mut self, alloc: Global, procedure: usize, place: &mut usize) -> Answer {
+        let Some(host) = self.take(alloc) else {
+            return Answer::NotOpen;
+        };
+        let unfit = host.unfit(alloc, procedure);
+        self.put(host);
+        match unfit {
+            Ok(None) => Answer::Done,
+            Ok(Some(found)) => {
+                *place = found;
+                Answer::BadArguments
+            }
+            Err(answer) => answer,
+        }
     }
 
     /// Calls the procedure of this number with the values that were added, which are then gone.
@@ -107,57 +168,31 @@ impl Handle {
         answer
     }
 
-    /// Sets SQLSTATE and SQLCODE of the last call, and how many parameters it set.
-    pub fn status(
-        &mut self,
-        alloc: Global,
-        state: &mut [u8; 5],
-        code: &mut i32,
-        outputs: &mut usize,
-    ) -> Answer {
-        let Some(host) = self.take(alloc) else {
+    /// Begins with the rows of the base table of this user and name.
+    pub fn read_table(&mut self, alloc: Global, user: &[u8], name: &[u8]) -> Answer {
+        let Some(mut host) = self.take(alloc) else {
             return Answer::NotOpen;
         };
-        let answer = host.status(state, code, outputs);
+        let answer = host.read_table(alloc, user, name);
         self.put(host);
         answer
     }
 
-    /// Sets what a parameter was set to by the last call, by its place among those, and copies the bytes of
-    /// a text, as far as there is room.
-    pub fn output(
-        &mut self,
-        alloc: Global,
-        place: usize,
-        datum: &mut Datum,
-        room: &mut [u8],
-    ) -> Answer {
-        let Some(host) = self.take(alloc) else {
+    /// Goes on to the next row, whose values are then the outputs; `NoRow` where there is none.
+    pub fn next_row(&mut self, alloc: Global) -> Answer {
+        let Some(mut host) = self.take(alloc) else {
             return Answer::NotOpen;
         };
-        let answer = host.output(place, datum, room);
-        self.put(host);
-        answer
-    }
-
-    /// Copies the name of a parameter that the last call set, as far as there is room, and sets its length.
-    pub fn output_name(
-        &mut self,
-        alloc: Global,
-        place: usize,
-        room: &mut [u8],
-        length: &mut usize,
-    ) -> Answer {
-        let Some(host) = self.take(alloc) else {
-            return Answer::NotOpen;
-        };
-        let answer = host.output_name(place, room, length);
+        let answer = host.next_row();
         self.put(host);
         answer
     }
 
     /// Frees all that the handle leads to. It then leads to nothing.
-    pub fn close(&mut self, alloc: Global) -> Answer {
+    pub fn close(&mut self, alloc: Global) -> Answer
+        ensures answer { result ≡ set_answer (asked (leads_to self.old) (λ h. Ok h.values.items)) }
+        ensures closed { leads_to self.new ≡ None }
+    {
         match self.take(alloc) {
             Some(host) => {
                 drop(host);

@@ -1,5 +1,5 @@
 //! What C holds of a host.
-ghost use Rattle.std.specs.Prelude.{◌≡◌, Some, None, IfSome, IsSome};
+ghost use Rattle.std.specs.Prelude.{◌≡◌, Some, None, MatchOption, IsSome};
 
 use crate::apart::{put_together, taken_apart};
 use crate::host::Host;
@@ -15,14 +15,17 @@ const OPEN: u64 = 8318550311921733710;
 #[repr(C)]
 #[derive(Drop)]
 pub struct Handle {
-    word: u64,
-    kept: Kept,
+    pub word: u64,
+    pub kept: Kept,
     pub ghost is_open: { word ≡ 8318550311921733710 → IsSome kept.value },
 }
 
 impl Handle {
-    fn closed() -> Handle
-        ensures { result.kept.value ≡ None }
+    ghost use Rattle.sq_host.specs.Host.{leads_to};
+
+    /// A handle that leads to nothing.
+    pub fn closed() -> Handle
+        ensures { leads_to result ≡ None }
     {
         Handle {
             word: 0,
@@ -31,7 +34,7 @@ impl Handle {
     }
 
     fn of(host: Box<Host>) -> Handle
-        ensures { result.kept.value ≡ Some host.value }
+        ensures { leads_to result ≡ Some host.value }
     {
         Handle {
             word: OPEN,
@@ -39,13 +42,10 @@ impl Handle {
         }
     }
 
-    pub(crate) fn is_open(&self) -> bool {
-        self.word == OPEN
-    }
-
     /// The host, to which the handle then doesn't lead any more; none where it leads to none.
     pub(crate) fn take(&mut self, alloc: Global) -> Option<Box<Host>>
-        ensures { IfSome result (λ host. self.old.kept.value ≡ Some host.value) }
+        ensures host { MatchOption result (leads_to self.old ≡ None) (λ host. leads_to self.old ≡ Some host.value) }
+        ensures closed { leads_to self.new ≡ None }
     {
         if self.word != OPEN {
             return None;
@@ -56,7 +56,7 @@ impl Handle {
 
     /// Makes the handle lead to a host.
     pub(crate) fn put(&mut self, host: Box<Host>)
-        ensures { self.new.kept.value ≡ Some host.value }
+        ensures { leads_to self.new ≡ Some host.value }
     {
         drop(replace(self, Handle::of(host)));
     }

@@ -1,34 +1,40 @@
 //! What a handle leads to: texts, and the session that they open.
-ghost use Rattle.std.specs.Prelude.{◌≡◌, true, IfOk, OnErr};
+ghost use Rattle.std.specs.Prelude.{◌≡◌, [], true, IfOk, OnErr};
 ghost use Rattle.sq_session.specs.Kind.{fits_at, kind_at};
 ghost use Rattle.sq_session.specs.Step.{MayCall};
+ghost use Rattle.sq_exchange.specs.declared.answer.Answer.TheVariants.{Done, NoMemory};
+ghost use Rattle.sq_host.specs.Asked.{set_answer};
 
-use crate::answer::Answer;
-use crate::datum::{Datum, datum_of, value_of};
-use crate::name::name_of;
-use crate::room::copied;
+use crate::texts::{add_text, line_of};
+use sq_exchange::{Answer, name_of};
 use sq_heap::HeapStore;
-use sq_perform::{Limits, Refusal, RunFault, open_session};
-use sq_session::{Output, Reply, Session};
+use sq_perform::{Limits, RunFault, open_session};
+use sq_session::{Reply, Session};
 use sq_store::MOST_ROW_NUMBERS;
-use sq_value::Value;
-use std::alloc::{AllocError, Global};
+use sq_value::{Row, Value};
+use std::alloc::Global;
 use std::mem::replace;
 
-/// Texts, and from when they are opened a session; with it the values for the next call, and
-/// the answer of the last one.
+/// Texts, and from when they are opened a session; with it the values for the next call, the answer of the last one, and the
+/// rows of a table that is read.
 #[derive(Drop)]
 pub struct Host {
-    schemas: Vec<Vec<u8>>,
-    modules: Vec<Vec<u8>>,
+    pub schemas: Vec<Vec<u8>>,
+    pub modules: Vec<Vec<u8>>,
     /// The line of the last refusal.
-    line: Vec<u8>,
-    session: Option<Session<HeapStore>>,
-    values: Vec<Value>,
-    reply: Option<Reply>,
+    pub line: Vec<u8>,
+    pub session: Option<Session<HeapStore>>,
+    pub values: Vec<Value>,
+    pub reply: Option<Reply>,
+    /// The rows that are still to come, the next one last.
+    pub rows: Vec<Row>,
+    /// The row whose values are the outputs, until the next call or row.
+    pub row: Option<Row>,
 }
 
 impl Host {
+    ghost use Rattle.sq_host.specs.Changes.{with_value};
+
     pub(crate) fn new(alloc: Global) -> Host {
         Host {
             schemas: Vec::new(alloc),
@@ -37,6 +43,8 @@ impl Host {
             session: None,
             values: Vec::new(alloc),
             reply: None,
+            rows: Vec::new(alloc),
+            row: None,
         }
     }
 
@@ -44,14 +52,14 @@ impl Host {
         if self.session.is_some() {
             return Answer::AlreadyOpen;
         }
-        answer_of(add_text(alloc, &mut self.schemas, text))
+        add_text(alloc, &mut self.schemas, text)
     }
 
     pub(crate) fn add_module(&mut self, alloc: Global, text: &[u8]) -> Answer {
         if self.session.is_some() {
             return Answer::AlreadyOpen;
         }
-        answer_of(add_text(alloc, &mut self.modules, text))
+        add_text(alloc, &mut self.modules, text)
     }
 
     /// Opens a session of the texts, in which a table has this many row numbers.
@@ -88,34 +96,28 @@ impl Host {
         }
     }
 
-    /// Copies the line of the last refusal, and sets its length, which is 0 where there is none.
-    pub(crate) fn refusal(&self, room: &mut [u8], length: &mut usize) {
-        *length = copied(self.line.as_slice(), room);
-    }
-
-    /// Sets the number of the procedure of this module and name.
+    /// The number of the procedure of this module and name.
     pub(crate) fn procedure(
         &self,
         alloc: Global,
         module: &[u8],
         name: &[u8],
-        number: &mut usize,
-    ) -> Answer {
+    ) -> Result<usize, Answer> {
         let Some(session) = &self.session else {
-            return Answer::NotOpen;
+            return Err(Answer::NotOpen);
         };
-        match procedure_of(alloc, session, module, name) {
-            Ok(found) => {
-                *number = found;
-                Answer::Done
-            }
-            Err(answer) => answer,
-        }
+        let module = name_of(alloc, module)?;
+        let name = name_of(alloc, name)?;
+        session.procedure(module, name).ok_or(Answer::Unknown)
     }
 
-    /// Adds a value for the next call.
-    pub(crate) fn add_value(&mut self, alloc: Global, datum: &Datum, bytes: &[u8]) -> Answer {
-        match value_of(alloc, datum, bytes) {
+    /// Adds a value for the next call, if there is one.
+    pub(crate) fn add(&mut self, value: Result<Value, Answer>) -> Answer
+        ensures answer { ¬ (result ≡ NoMemory) → result ≡ set_answer value }
+        ensures values { result ≡ Done → self.new.values.items ≡ with_value self.old.values.items value }
+        ensures none { ¬ (result ≡ Done) → self.new.values.items ≡ self.old.values.items }
+    {
+        match value {
             Ok(value) => match self.values.push(value) {
                 Ok(()) => Answer::Done,
                 Err(_) => Answer::NoMemory,
@@ -125,13 +127,16 @@ impl Host {
     }
 
     /// Drops the values that were added since the last call.
-    pub(crate) fn drop_values(&mut self, alloc: Global) {
+    pub(crate) fn drop_values(&mut self, alloc: Global)
+        ensures { self.new.values.items ≡ [] }
+    {
         drop(replace(&mut self.values, Vec::new(alloc)));
     }
 
     /// Calls a procedure with the values that were added since the last call, which are then gone.
     pub(crate) fn call(&mut self, alloc: Global, procedure: usize) -> Answer {
         self.reply = None;
+        self.row = None;
         let values = replace(&mut self.values, Vec::new(alloc));
         let answered = match &mut self.session {
             Some(session) => answered(alloc, session, procedure, values.as_slice()),
@@ -146,66 +151,6 @@ impl Host {
             Err(answer) => answer,
         }
     }
-
-    /// Sets SQLSTATE and SQLCODE of the last call, and how many parameters it set.
-    pub(crate) fn status(
-        &self,
-        state: &mut [u8; 5],
-        code: &mut i32,
-        outputs: &mut usize,
-    ) -> Answer {
-        match &self.reply {
-            Some(reply) => {
-                *state = reply.status.sqlstate();
-                *code = reply.status.sqlcode();
-                *outputs = reply.outputs.len();
-                Answer::Done
-            }
-            None => Answer::Unknown,
-        }
-    }
-
-    /// A parameter that the last call set, by its place among those.
-    fn output_at(&self, place: usize) -> Option<&Output> {
-        match &self.reply {
-            Some(reply) => reply.outputs.as_slice().get(place),
-            None => None,
-        }
-    }
-
-    /// Sets what a parameter was set to, and copies the bytes of a text.
-    pub(crate) fn output(&self, place: usize, datum: &mut Datum, room: &mut [u8]) -> Answer {
-        match self.output_at(place) {
-            Some(output) => {
-                *datum = datum_of(&output.value, room);
-                Answer::Done
-            }
-            None => Answer::Unknown,
-        }
-    }
-
-    /// Copies the name of a parameter that the last call set, and sets its length.
-    pub(crate) fn output_name(&self, place: usize, room: &mut [u8], length: &mut usize) -> Answer {
-        match self.output_at(place) {
-            Some(output) => {
-                *length = copied(output.name.codes(), room);
-                Answer::Done
-            }
-            None => Answer::Unknown,
-        }
-    }
-}
-
-/// The number of the procedure of this module and name.
-fn procedure_of(
-    alloc: Global,
-    session: &Session<HeapStore>,
-    module: &[u8],
-    name: &[u8],
-) -> Result<usize, Answer> {
-    let module = name_of(alloc, module)?;
-    let name = name_of(alloc, name)?;
-    session.procedure(module, name).ok_or(Answer::Unknown)
 }
 
 /// Calls a procedure, if there is one of this number and the values fit it.
@@ -228,36 +173,4 @@ fn answered(
         Ok(reply) => Ok(reply),
         Err(_) => Err(Answer::NoMemory),
     }
-}
-
-fn answer_of(done: Result<(), AllocError>) -> Answer {
-    match done {
-        Ok(()) => Answer::Done,
-        Err(_) => Answer::NoMemory,
-    }
-}
-
-fn add_text(alloc: Global, texts: &mut Vec<Vec<u8>>, text: &[u8]) -> Result<(), AllocError> {
-    let text = Vec::from_slice(alloc, text)?;
-    texts.push(text)?;
-    Ok(())
-}
-
-/// The line of a refusal: the kind of the text and its number among those, from 1, the place, and the name.
-fn line_of(alloc: Global, fault: RunFault) -> Result<Vec<u8>, AllocError> {
-    match fault {
-        RunFault::SchemaRefused(refusal) => line_with(alloc, "schema", refusal),
-        RunFault::ModuleRefused(refusal) => line_with(alloc, "module", refusal),
-        RunFault::ScriptRefused(refusal) => line_with(alloc, "script", refusal),
-        RunFault::Write(_) | RunFault::NoMemory(_) => Err(AllocError),
-    }
-}
-
-fn line_with(alloc: Global, kind: &str, refusal: Refusal) -> Result<Vec<u8>, AllocError> {
-    let text = refusal.text as u128 + 1;
-    let line = refusal.line;
-    let column = refusal.column;
-    let what = refusal.what;
-    let line = format!(in alloc; "{kind} {text}:{line}:{column}: {what}")?;
-    Vec::from_slice(alloc, line.as_bytes())
 }

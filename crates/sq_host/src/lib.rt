@@ -4,16 +4,16 @@
 //! when they are opened a session. Nothing is global, so hosts don't know of each other.
 #![tactic(auto)]
 
-mod answer;
 mod apart;
+mod asked;
 mod calls;
-mod datum;
 mod handle;
 mod host;
 mod kept;
-mod name;
-mod room;
+mod outputs;
+mod set;
+mod table;
+mod texts;
+mod trial;
 
-pub use answer::Answer;
-pub use datum::Datum;
 pub use handle::Handle;

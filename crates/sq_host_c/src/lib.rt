@@ -3,8 +3,29 @@
 //! C hands in the memory of a handle, in which it has put zeros before the first call. No pointer is null.
 #![tactic(auto)]
 
-use sq_host::{Datum, Handle};
+ghost use Rattle.std.specs.Prelude.{◌≡◌, Ok};
+ghost use Rattle.sq_exchange.specs.Answer.{answer_text, code};
+ghost use Rattle.sq_host.specs.Asked.{put_answer, put_length, put_room, set_answer, set_value};
+ghost use Rattle.sq_host.specs.Host.{leads_to};
+ghost use Rattle.sq_host.specs.Outputs as outputs;
+
+use sq_exchange::{VERSION, answer_text, put_text};
+use sq_host::Handle;
 use std::alloc::Global;
+
+#[unsafe(no_mangle)]
+pub extern "C" fn sq_host_error_text(error: i32, room: &mut [u8], count: &mut usize) -> i32
+    ensures answer { result ≡ code (put_answer (Ok (answer_text error)) room.old) }
+    ensures room { room.new ≡ put_room (Ok (answer_text error)) room.old }
+    ensures count { count.new ≡ put_length (Ok (answer_text error)) count.old }
+{
+    put_text(answer_text(error), room, count).code()
+}
+
+#[unsafe(no_mangle)]
+pub extern "C" fn sq_host_version(room: &mut [u8], count: &mut usize) -> i32 {
+    put_text(VERSION.as_bytes(), room, count).code()
+}
 
 #[unsafe(no_mangle)]
 pub extern "C" fn sq_host_start(alloc: Global, handle: &mut Handle) -> i32 {
@@ -31,9 +52,13 @@ pub extern "C" fn sq_host_refusal(
     alloc: Global,
     handle: &mut Handle,
     room: &mut [u8],
-    length: &mut usize,
-) -> i32 {
-    handle.refusal(alloc, room, length).code()
+    count: &mut usize,
+) -> i32
+    ensures answer { result ≡ code (put_answer (outputs.line_behind (leads_to handle.old)) room.old) }
+    ensures room { room.new ≡ put_room (outputs.line_behind (leads_to handle.old)) room.old }
+    ensures count { count.new ≡ put_length (outputs.line_behind (leads_to handle.old)) count.old }
+{
+    handle.refusal(alloc, room, count).code()
 }
 
 #[unsafe(no_mangle)]
@@ -48,18 +73,54 @@ pub extern "C" fn sq_host_procedure(
 }
 
 #[unsafe(no_mangle)]
-pub extern "C" fn sq_host_add_value(
+pub extern "C" fn sq_host_why(
     alloc: Global,
     handle: &mut Handle,
-    datum: &Datum,
-    bytes: &[u8],
+    procedure: usize,
+    room: &mut [u8],
+    count: &mut usize,
 ) -> i32 {
-    handle.add_value(alloc, datum, bytes).code()
+    handle.why(alloc, procedure, room, count).code()
+}
+
+#[unsafe(no_mangle)]
+pub extern "C" fn sq_host_add_number(
+    alloc: Global,
+    handle: &mut Handle,
+    unscaled: i64,
+    scale: u32,
+) -> i32 {
+    handle.add_number(alloc, unscaled, scale).code()
+}
+
+#[unsafe(no_mangle)]
+pub extern "C" fn sq_host_add_digits(alloc: Global, handle: &mut Handle, digits: &[u8]) -> i32 {
+    handle.add_digits(alloc, digits).code()
+}
+
+#[unsafe(no_mangle)]
+pub extern "C" fn sq_host_add_text(alloc: Global, handle: &mut Handle, text: &[u8]) -> i32 {
+    handle.add_text(alloc, text).code()
+}
+
+#[unsafe(no_mangle)]
+pub extern "C" fn sq_host_add_start(alloc: Global, handle: &mut Handle) -> i32 {
+    handle.add_start(alloc).code()
 }
 
 #[unsafe(no_mangle)]
 pub extern "C" fn sq_host_drop_values(alloc: Global, handle: &mut Handle) -> i32 {
     handle.drop_values(alloc).code()
+}
+
+#[unsafe(no_mangle)]
+pub extern "C" fn sq_host_checked_values(
+    alloc: Global,
+    handle: &mut Handle,
+    procedure: usize,
+    place: &mut usize,
+) -> i32 {
+    handle.checked_values(alloc, procedure, place).code()
 }
 
 #[unsafe(no_mangle)]
@@ -71,22 +132,22 @@ pub extern "C" fn sq_host_call(alloc: Global, handle: &mut Handle, procedure: us
 pub extern "C" fn sq_host_status(
     alloc: Global,
     handle: &mut Handle,
-    state: &mut [u8; 5],
-    code: &mut i32,
-    outputs: &mut usize,
-) -> i32 {
-    handle.status(alloc, state, code, outputs).code()
+    state: &mut [u8; 6],
+    sqlcode: &mut i32,
+) -> i32
+    ensures answer { result ≡ code (set_answer (outputs.status_behind (leads_to handle.old))) }
+    ensures state { state.new ≡ set_value (outputs.state_behind (leads_to handle.old)) state.old }
+    ensures sqlcode { sqlcode.new ≡ set_value (outputs.code_behind (leads_to handle.old)) sqlcode.old }
+{
+    handle.status(alloc, state, sqlcode).code()
 }
 
 #[unsafe(no_mangle)]
-pub extern "C" fn sq_host_output(
-    alloc: Global,
-    handle: &mut Handle,
-    place: usize,
-    datum: &mut Datum,
-    room: &mut [u8],
-) -> i32 {
-    handle.output(alloc, place, datum, room).code()
+pub extern "C" fn sq_host_outputs(alloc: Global, handle: &mut Handle, count: &mut usize) -> i32
+    ensures answer { result ≡ code (set_answer (outputs.count_behind (leads_to handle.old))) }
+    ensures count { count.new ≡ set_value (outputs.count_behind (leads_to handle.old)) count.old }
+{
+    handle.outputs(alloc, count).code()
 }
 
 #[unsafe(no_mangle)]
@@ -95,9 +156,92 @@ pub extern "C" fn sq_host_output_name(
     handle: &mut Handle,
     place: usize,
     room: &mut [u8],
-    length: &mut usize,
+    count: &mut usize,
+) -> i32
+    ensures answer { result ≡ code (put_answer (outputs.name_behind (leads_to handle.old) place) room.old) }
+    ensures room { room.new ≡ put_room (outputs.name_behind (leads_to handle.old) place) room.old }
+    ensures count { count.new ≡ put_length (outputs.name_behind (leads_to handle.old) place) count.old }
+{
+    handle.output_name(alloc, place, room, count).code()
+}
+
+#[unsafe(no_mangle)]
+pub extern "C" fn sq_host_output_place(
+    alloc: Global,
+    handle: &mut Handle,
+    name: &[u8],
+    place: &mut usize,
 ) -> i32 {
-    handle.output_name(alloc, place, room, length).code()
+    handle.output_place(alloc, name, place).code()
+}
+
+#[unsafe(no_mangle)]
+pub extern "C" fn sq_host_output_kind(
+    alloc: Global,
+    handle: &mut Handle,
+    place: usize,
+    kind: &mut i32,
+) -> i32
+    ensures answer { result ≡ code (set_answer (outputs.kind_behind (leads_to handle.old) place)) }
+    ensures kind { kind.new ≡ set_value (outputs.kind_behind (leads_to handle.old) place) kind.old }
+{
+    handle.output_kind(alloc, place, kind).code()
+}
+
+#[unsafe(no_mangle)]
+pub extern "C" fn sq_host_output_number(
+    alloc: Global,
+    handle: &mut Handle,
+    place: usize,
+    unscaled: &mut i64,
+    scale: &mut u32,
+) -> i32
+    ensures answer { result ≡ code (set_answer (outputs.number_behind (leads_to handle.old) place)) }
+    ensures unscaled { unscaled.new ≡ set_value (outputs.unscaled_behind (leads_to handle.old) place) unscaled.old }
+    ensures scale { scale.new ≡ set_value (outputs.scale_behind (leads_to handle.old) place) scale.old }
+{
+    handle.output_number(alloc, place, unscaled, scale).code()
+}
+
+#[unsafe(no_mangle)]
+pub extern "C" fn sq_host_output_digits(
+    alloc: Global,
+    handle: &mut Handle,
+    place: usize,
+    room: &mut [u8],
+    count: &mut usize,
+) -> i32 {
+    handle.output_digits(alloc, place, room, count).code()
+}
+
+#[unsafe(no_mangle)]
+pub extern "C" fn sq_host_output_text(
+    alloc: Global,
+    handle: &mut Handle,
+    place: usize,
+    room: &mut [u8],
+    count: &mut usize,
+) -> i32
+    ensures answer { result ≡ code (put_answer (outputs.text_behind (leads_to handle.old) place) room.old) }
+    ensures room { room.new ≡ put_room (outputs.text_behind (leads_to handle.old) place) room.old }
+    ensures count { count.new ≡ put_length (outputs.text_behind (leads_to handle.old) place) count.old }
+{
+    handle.output_text(alloc, place, room, count).code()
+}
+
+#[unsafe(no_mangle)]
+pub extern "C" fn sq_host_table(
+    alloc: Global,
+    handle: &mut Handle,
+    user: &[u8],
+    name: &[u8],
+) -> i32 {
+    handle.read_table(alloc, user, name).code()
+}
+
+#[unsafe(no_mangle)]
+pub extern "C" fn sq_host_next_row(alloc: Global, handle: &mut Handle) -> i32 {
+    handle.next_row(alloc).code()
 }
 
 #[unsafe(no_mangle)]

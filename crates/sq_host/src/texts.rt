@@ -1,0 +1,51 @@
+//! Texts that are kept, and lines that are made of faults.
+
+use sq_exchange::Answer;
+use sq_perform::{Refusal, RunFault};
+use sq_session::Fault;
+use std::alloc::{AllocError, Global};
+
+/// Adds a copy of a text.
+pub(crate) fn add_text(alloc: Global, texts: &mut Vec<Vec<u8>>, text: &[u8]) -> Answer {
+    match added(alloc, texts, text) {
+        Ok(()) => Answer::Done,
+        Err(_) => Answer::NoMemory,
+    }
+}
+
+fn added(alloc: Global, texts: &mut Vec<Vec<u8>>, text: &[u8]) -> Result<(), AllocError> {
+    let text = Vec::from_slice(alloc, text)?;
+    texts.push(text)?;
+    Ok(())
+}
+
+/// The line of a refusal: the kind of the text and its number among those, from 1, the place, and the name.
+pub(crate) fn line_of(alloc: Global, fault: RunFault) -> Result<Vec<u8>, AllocError> {
+    match fault {
+        RunFault::SchemaRefused(refusal) => line_with(alloc, "schema", refusal),
+        RunFault::ModuleRefused(refusal) => line_with(alloc, "module", refusal),
+        RunFault::ScriptRefused(refusal) => line_with(alloc, "script", refusal),
+        RunFault::Write(_) | RunFault::NoMemory(_) => Err(AllocError),
+    }
+}
+
+fn line_with(alloc: Global, kind: &str, refusal: Refusal) -> Result<Vec<u8>, AllocError> {
+    let text = refusal.text as u128 + 1;
+    let line = refusal.line;
+    let column = refusal.column;
+    let what = refusal.what;
+    let line = format!(in alloc; "{kind} {text}:{line}:{column}: {what}")?;
+    Vec::from_slice(alloc, line.as_bytes())
+}
+
+/// A fault in words: its name, and behind a blank the name that it is about, if there is one.
+pub(crate) fn words_of(alloc: Global, fault: Fault) -> Result<Vec<u8>, AllocError> {
+    let rule = fault.rule;
+    let name = format!(in alloc; "{rule:?}")?;
+    let mut words = name.into_bytes();
+    if let Some(about) = fault.about {
+        words.push(b' ')?;
+        words.extend_from_slice(about.codes())?;
+    }
+    Ok(words)
+}
