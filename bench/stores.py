@@ -3,7 +3,7 @@
 
     bench/stores.py [--program PROGRAM] [--rows 1000000] [--changes 100000] [--times 3]
 
-The program is crates/sq_store_bench, which is proved and built first unless another is named. Each of its changes is an
+The program is crates/sq_store_trials, which is proved and built first unless another is named. Each of its changes is an
 `apply` of its own. SQLite does the same work twice: in one statement, and by a prepared statement for each row, which
 includes what Python's sqlite3 takes for a call. Milliseconds, the least of so many times; and the bytes of memory for each
 row. Run it while nothing else runs.
@@ -16,14 +16,14 @@ import tempfile
 import time
 from pathlib import Path
 
-CRATE = Path(__file__).resolve().parent.parent / "crates" / "sq_store_bench"
+CRATE = Path(__file__).resolve().parent.parent / "crates" / "sq_store_trials"
 
 
 def built():
     """The program, proved and built from what earlier checks kept."""
     with tempfile.TemporaryFile() as log:
         subprocess.run(["rt", "run", "--", "0", "0", "0"], cwd=CRATE, stdout=log, stderr=log, check=True)
-    return CRATE / "out" / "sq_store_bench"
+    return CRATE / "out" / "sq_store_trials"
 
 
 def heap(program, rows, changes, keys):

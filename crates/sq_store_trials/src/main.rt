@@ -1,151 +1,87 @@
-//! Trials of the two stores: the same actions on each, with the content, the ways to find rows and the
-//! numbers left printed after each action. Where an `apply` is refused memory, the store must show what it
-//! showed before, and the `apply` is made once more; so the report is the same, and a rollback behind it
-//! shows what is committed. `tools/refuse_allocations.py` refuses each allocation in turn.
+//! Trials of the stores, and the time that the heap store takes.
+//!
+//! `sq_store_trials` does the same actions to both stores, as `trials.rt` lists them.
+//! `sq_store_trials ROWS CHANGES KEYS [time | fill]` does the work that `work.rt` lists, on a table of two
+//! INTEGER columns. For each piece of work it prints a line with a count that shows that the work was done,
+//! and with `time` its microseconds. With `fill` it only inserts the rows, with a commit after each: the
+//! memory which that takes is the table's. `sq_store_trials both` does the actions, and then the work on
+//! a thousand rows.
 #![tactic(auto)]
 
 mod action;
+mod rows;
 mod shown;
+mod trials;
+mod work;
 
-use action::{Action, Step, changes_of};
-use shown::{content_of, found_in, show};
 use sq_heap::HeapStore;
-use sq_store::{ApplyFault, Change, ListStore, Store, can_apply};
-use std::alloc::{AllocError, Global};
+use sq_store::Store;
+use std::env::{self, Env};
 use std::io;
+use std::time::Clock;
+use work::{Bench, Task, run};
 
-const NONE: Step = Step::Nothing;
+/// The work of a stored run.
+const SMALL: Bench = Bench {
+    rows: 1_000,
+    changes: 100,
+    keys: 2,
+    task: Task::All,
+};
 
-/// What is done to each store, one after the other.
-const ACTIONS: [Action; 17] = [
-    Action::Apply([
-        Step::Insert(1, 10),
-        Step::Insert(2, 20),
-        Step::Insert(3, 30),
-    ]),
-    Action::Apply([Step::Insert(4, 10), NONE, NONE]),
-    Action::Attempt([Step::Insert(2, 40), Step::Remove(2), NONE]),
-    Action::Commit,
-    Action::Apply([Step::Replace(1, 2, 11), Step::Replace(2, 1, 21), NONE]),
-    Action::Apply([Step::Replace(9, 9, 9), Step::Remove(9), NONE]),
-    Action::Apply([
-        Step::Remove(2),
-        Step::Insert(5, 50),
-        Step::Replace(5, 6, 60),
-    ]),
-    Action::Apply([Step::Replace(1, 3, 11), NONE, NONE]),
-    Action::Rollback,
-    Action::Apply([Step::Remove(1), Step::Remove(2), Step::Insert(1, 10)]),
-    Action::Commit,
-    Action::Apply([Step::Remove(3), Step::Insert(7, 70), Step::Insert(8, 80)]),
-    Action::Attempt([
-        Step::Replace(5, 8, 81),
-        Step::Replace(6, 7, 71),
-        Step::Insert(9, 90),
-    ]),
-    Action::Apply([Step::Insert(7, 99), NONE, NONE]),
-    Action::Rollback,
-    Action::Apply([
-        Step::Insert(2, 20),
-        Step::Insert(3, 30),
-        Step::Insert(4, 40),
-    ]),
-    Action::Rollback,
-];
+/// What the words of the command line ask for.
+#[derive(Clone, Copy)]
+enum Asked {
+    Trials,
+    Work(Bench),
+    Both,
+}
 
 fn main(rt: HostRuntime) -> io::Result<()> {
-    let alloc = rt.alloc();
-    println!(rt; "ListStore")?;
-    trial::<ListStore>(&rt, alloc)?;
-    println!(rt; "HeapStore")?;
-    trial::<HeapStore>(&rt, alloc)
-}
-
-/// Does all actions to a store without rows, and prints what it shows after each.
-fn trial<S: Store>(rt: &impl Print, alloc: Global) -> io::Result<()> {
-    let keys = two_keys(alloc)?;
-    let lookups = one_lookup(alloc)?;
-    let mut store: S = S::new(alloc, keys.as_slice(), lookups.as_slice(), 12)?;
-    for action in ACTIONS {
-        println!(rt; "{}", act(alloc, &mut store, action)?)?;
-        show(rt, alloc, &store)?;
-    }
-    Ok(())
-}
-
-/// One table with two keys: its first column, and both columns.
-fn two_keys(alloc: Global) -> Result<Vec<Vec<Vec<usize>>>, AllocError> {
-    let mut keys = Vec::new(alloc);
-    keys.push(Vec::from_slice(alloc, &[0])?)?;
-    keys.push(Vec::from_slice(alloc, &[0, 1])?)?;
-    let mut tables = Vec::new(alloc);
-    tables.push(keys)?;
-    Ok(tables)
-}
-
-/// A lookup of the one table by its second column.
-fn one_lookup(alloc: Global) -> Result<Vec<Vec<Vec<usize>>>, AllocError> {
-    let mut lookups = Vec::new(alloc);
-    lookups.push(Vec::from_slice(alloc, &[1])?)?;
-    let mut tables = Vec::new(alloc);
-    tables.push(lookups)?;
-    Ok(tables)
-}
-
-/// Does an action, and says what came of it.
-fn act<S: Store>(alloc: Global, store: &mut S, action: Action) -> Result<&'static str, AllocError> {
-    match action {
-        Action::Apply(steps) => apply(alloc, store, steps, false),
-        Action::Attempt(steps) => apply(alloc, store, steps, true),
-        Action::Commit => {
-            store.commit();
-            Ok("commit")
-        }
-        Action::Rollback => {
-            store.rollback();
-            Ok("rollback")
+    match asked(&rt)? {
+        Asked::Trials => trials::make(&rt),
+        Asked::Work(bench) => do_work(&rt, &bench),
+        Asked::Both => {
+            trials::make(&rt)?;
+            do_work(&rt, &SMALL)
         }
     }
 }
 
-/// Makes changes, once more where memory is refused at first, and then takes them back if that is wanted.
-fn apply<S: Store>(
-    alloc: Global,
-    store: &mut S,
-    steps: [Step; 3],
-    back: bool,
-) -> Result<&'static str, AllocError> {
-    let content = content_of(alloc, store)?;
-    let found = found_in(alloc, store)?;
-    if let Some(came) = apply_once(alloc, store, changes_of(alloc, steps)?, back) {
-        return Ok(came);
-    }
-    if content_of(alloc, store)?.as_slice() != content.as_slice()
-        || found_in(alloc, store)?.as_slice() != found.as_slice()
-    {
-        return Ok("refused and changed");
-    }
-    let came = apply_once(alloc, store, changes_of(alloc, steps)?, back);
-    Ok(came.unwrap_or("refused twice"))
+fn do_work<R: Print + Clock + AllocGlobal>(rt: &R, bench: &Bench) -> io::Result<()> {
+    let keys = rows::keys(rt.alloc(), bench.keys)?;
+    let mut store = HeapStore::new(rt.alloc(), keys.as_slice(), &[], 1_000_000_000)?;
+    run(rt, bench, &mut store)
 }
 
-/// Makes changes; `None` where memory is refused.
-fn apply_once<S: Store>(
-    alloc: Global,
-    store: &mut S,
-    changes: Vec<Change>,
-    back: bool,
-) -> Option<&'static str> {
-    if !can_apply(store, 0, changes.as_slice()) {
-        return Some("not admitted");
+/// A number that is left out or can't be read is 0.
+fn asked<R: Env + AllocGlobal>(rt: &R) -> io::Result<Asked> {
+    let mut words = env::args(rt)?.skip(1);
+    match words.next() {
+        None => Ok(Asked::Trials),
+        Some(word) if word.as_str() == "both" => Ok(Asked::Both),
+        rows => Ok(Asked::Work(Bench {
+            rows: number_of(rows),
+            changes: number_of(words.next()),
+            keys: number_of(words.next()) as usize,
+            task: task_of(words.next()),
+        })),
     }
-    match store.apply(alloc, 0, changes) {
-        Ok(()) if back => {
-            store.take_back();
-            Some("made and taken back")
-        }
-        Ok(()) => Some("made"),
-        Err(ApplyFault::Duplicate) => Some("duplicate"),
-        Err(ApplyFault::NoMemory) => None,
+}
+
+/// The number that a word spells.
+fn number_of(word: Option<String>) -> u32 {
+    match word {
+        Some(word) => word.parse::<u32>().unwrap_or(0),
+        None => 0,
+    }
+}
+
+/// What a word asks for.
+fn task_of(word: Option<String>) -> Task {
+    match word {
+        Some(word) if word.as_str() == "time" => Task::Timed,
+        Some(word) if word.as_str() == "fill" => Task::Fill,
+        _ => Task::All,
     }
 }

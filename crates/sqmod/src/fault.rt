@@ -17,7 +17,7 @@ pub(crate) const NO_MEMORY: u8 = 3;
 pub(crate) const FAULTY: u8 = 4;
 
 /// One of a request's texts, by its index among those of its kind.
-#[derive(Clone, Copy, Debug, PartialEq, Eq)]
+#[derive(Clone, Copy)]
 pub(crate) enum Source {
     Schema(usize),
     Module(usize),
@@ -25,7 +25,7 @@ pub(crate) enum Source {
 }
 
 /// Why a request was not carried out.
-#[derive(Clone, Copy, Debug, PartialEq, Eq)]
+#[derive(Clone, Copy)]
 pub(crate) enum Fault {
     /// A file was not read.
     Unread(Source),

@@ -124,8 +124,3 @@ fn report_of_file<R: Eprint>(rt: &R, file: &str, fault: Fault) -> u8
     };
     fault.status()
 }
-
-#[cfg(test)]
-mod recorder;
-#[cfg(test)]
-mod tests;

@@ -1,0 +1,38 @@
+//! A caller of `run`: it runs a script in memory and answers the report.
+#![tactic(auto)]
+
+ghost use Rattle.std.specs.Prelude.{Some, [], IfErr, IfOk};
+ghost use Rattle.sq_perform.specs.Texts.{texts};
+ghost use Rattle.sq_run.specs.Refused.{RefusedText};
+ghost use Rattle.sq_run.specs.Written.{IsReported};
+
+use sq_heap::HeapStore;
+use sq_run::{Limits, OutOf, RunFault, run};
+use std::alloc::Global;
+
+/// The report of a script, as a `Vec`. Where memory runs out for it, the fault is `Write`, since a
+/// `Vec` then takes no more.
+pub fn report_of(
+    alloc: Global,
+    schemas: &[Vec<u8>],
+    modules: &[Vec<u8>],
+    script: &[u8],
+) -> Result<Vec<u8>, RunFault>
+    // What is answered is the table machine's report, run on the trees that the texts spell.
+    ensures report { IfOk result
+        (λ report. IsReported 1000000 (texts schemas.now) (texts modules.now) script.now
+        (Some []) (Some report.items)) }
+    ensures refused { IfErr result (RefusedText (texts schemas.now) (texts modules.now) script.now) }
+{
+    let mut out = OutOf::new(Vec::new(alloc));
+    let limits = Limits {
+        row_numbers: 1_000_000,
+    };
+    match run::<HeapStore, _>(alloc, schemas, modules, script, limits, &mut out) {
+        Ok(()) => Ok(out.into_writer()),
+        Err(fault) => {
+            drop(out);
+            Err(fault)
+        }
+    }
+}
