@@ -1,7 +1,7 @@
 -- Texts and the trees that they spell, one by one.
 use Rattle.std.proofs.Common.{◌≡◌, ℕ, zero, suc, ◌+◌, ◌<◌, min, List, [], ◌∷◌, ◌++◌, length, get_or, slice_get, take, Some, Ok, refl, ap, ◌∙◌, sym, subst, arith, Vec}
 use Rattle.std.proofs.lemmas.List.{length-map, take_more}
-use Rattle.std.specs.Prelude.{IfSome, IsOk}
+use Rattle.std.specs.Prelude.{IsOk}
 use Rattle.std.specs.declared.alloc.Global.{Global}
 use Rattle.sq_lex.specs.declared.lexeme.Lexeme.{Lexeme}
 use Rattle.sq_lex.specs.declared.token.Token.{Token}
@@ -9,7 +9,8 @@ use Rattle.sq_lex.specs.Reading.{reading}
 use Rattle.sq_lex.specs.Token.{lexemes}
 use Rattle.sq_meaning.specs.Report.{Bytes}
 use Rattle.sq_perform.specs.Fault.{IsPlaced}
-use Rattle.sq_perform.specs.Refusal.{IsTokenOf, StandsAt}
+use Rattle.sq_perform.specs.Read.{start_of}
+use Rattle.sq_perform.specs.Refusal.{IsTokenOf, StandsAt, StandsAtByte}
 use Rattle.sq_perform.specs.Texts.{AllSpell, Spells, SpellsTree, texts}
 use Rattle.sq_perform.specs.declared.refusal.Refusal.{Refusal}
 
@@ -97,5 +98,5 @@ token_there text lexed number start refusal spells inside e placed =
     let found = is_there placed.tokens start (omega (arith, at, inside, count)) in (
       found.0,
       record { tokens = placed.tokens; read = placed.read; there = subst (λ n. slice_get placed.tokens n ≡ Some found.0) at found.1 },
-      subst (λ o. IfSome o (λ t. StandsAt text t refusal)) found.1 placed.stands,
+      subst (λ o. StandsAtByte text (start_of o) refusal) found.1 placed.stands,
     )

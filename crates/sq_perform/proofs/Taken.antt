@@ -20,13 +20,14 @@ use Rattle.sq_meaning.specs.Script.{argument_values}
 use Rattle.sq_catalog.specs.Catalog.{table_number}
 use Rattle.sq_session.specs.Kind.{Procedure, fits_at}
 use Rattle.sq_session.specs.Session.{Session, procedure_number}
-use Rattle.sq_perform.specs.Fault.{IsItemFault, IsOfItem, IsPlacedIfAny, IsPlacedIn, IsRefusalIfAny, IsScriptRefusal, IsUntaken, ItemFault, TextFault}
+use Rattle.sq_perform.specs.Fault.{IsItemFault, IsOfItem, IsPlacedIfAny, IsRefusalIfAny, IsScriptRefusal, IsUntaken, ItemFault, TextFault}
 use Rattle.sq_perform.specs.Action.{item_of}
 use Rattle.sq_perform.specs.Asked.{AreActions}
 use Rattle.sq_perform.specs.Steps.{IsPrepared}
 use Rattle.sq_perform.specs.declared.action.Action.{Action}
 use Rattle.sq_perform.specs.Items.{IsTaken, call_fault, item_fault, table_fault}
 use Rattle.sq_perform.specs.Refused.{IsFirstItem, IsRefusedScript}
+use Rattle.sq_perform.specs.Read.{refusal_of}
 use Rattle.sq_perform.specs.Refusal.{Matter, Meaning, matter}
 use Rattle.sq_perform.specs.Texts.{Spells, SpellsTree}
 use Rattle.sq_perform.specs.declared.refusal.Refusal.{Refusal}
@@ -68,10 +69,18 @@ prepared_more s actions a before here = All-append (IsPrepared s) actions (a ∷
 
 -- ---- where an item stands
 
-pub placed_again : (text : Bytes) (tokens : List Token) (number : ℕ) (fault : TextFault) → reading text ≡ Ok tokens → length tokens < 2 ^ 64 → IsPlacedIn text tokens number fault
-    → IsPlacedIfAny text number fault
-placed_again text tokens number NoMemory read few is = tt
-placed_again text tokens number (Refused refusal) read few is = record { tokens = tokens; read = read; few = few; stands = is }
+pub placed_again : (number : ℕ) (text : Bytes) (tokens : List Token) (token : ℕ) (what : RefusalName) (fault : TextFault) → reading text ≡ Ok tokens → length tokens < 2 ^ 64
+    → fault ≡ Refused (refusal_of number text tokens token what) → IsPlacedIfAny text token fault
+placed_again number text tokens token what NoMemory read few is = tt
+placed_again number text tokens token what (Refused refusal) read few is =
+    let same : refusal ≡ refusal_of number text tokens token what = cc in
+    record { tokens = tokens; read = read; few = few; stands = record { line = ap (λ r. r.line) same; column = ap (λ r. r.column) same } }
+
+pub named_again : (number : ℕ) (text : Bytes) (tokens : List Token) (token : ℕ) (what : RefusalName) (fault : TextFault)
+    → fault ≡ Refused (refusal_of number text tokens token what) → IsRefusalIfAny number what fault
+named_again number text tokens token what NoMemory is = tt
+named_again number text tokens token what (Refused refusal) is =
+    let same : refusal ≡ refusal_of number text tokens token what = cc in (ap (λ r. r.text) same, ap (λ r. r.what) same)
 
 some_tokens : (x : ScriptItem) → 0 < length (ended_item_tokens x)
 some_tokens x =

@@ -1,5 +1,5 @@
 -- What the faults of a text and of an item say.
-use Rattle.std.specs.Prelude.{◌≡◌, ℕ, ◌<◌, ◌^◌, List, length, slice_get, Option, Some, IfSome, Ok, ⊤}
+use Rattle.std.specs.Prelude.{◌≡◌, ℕ, ◌-◌, ◌<◌, ◌^◌, List, length, slice_get, Option, Some, Ok, ⊤}
 use Rattle.sq_lex.specs.Reading.{reading}
 use Rattle.sq_lex.specs.declared.lexeme.Lexeme.{Lexeme}
 use Rattle.sq_lex.specs.declared.token.Token.{Token}
@@ -10,6 +10,7 @@ use Rattle.sq_tree.specs.Starts.{script_item_start}
 use Rattle.sq_tree.specs.declared.script.ScriptText.{ScriptText}
 use Rattle.sq_parse.specs.declared.error.ParseError.{ParseError}
 use Rattle.sq_parse.specs.declared.error.ParseError.TheVariants as parse
+use Rattle.sq_grammar.specs.Reading.{Parser}
 use Rattle.sq_session.specs.Session.{Session}
 use Rattle.sq_perform.specs.declared.refusal.RefusalName.{RefusalName}
 use Rattle.sq_perform.specs.declared.refusal.RefusalName.TheVariants.{Unexpected, TooDeep, EndOfText}
@@ -18,8 +19,9 @@ use Rattle.sq_perform.specs.declared.refusal.RunFault.{RunFault}
 use Rattle.sq_perform.specs.declared.refusal.RunFault.TheVariants as run
 use Rattle.sq_perform.specs.declared.fault.Fault.{Fault}
 use Rattle.sq_perform.specs.declared.fault.Fault.TheVariants.{NoMemory, Refused}
+use Rattle.sq_perform.specs.Read.{module_rule, refusal_of, schema_rule, start_of}
 use Rattle.sq_perform.specs.Refused.{AreDeclared, IsFirstItem, IsOfSchemas, IsRefusedScript}
-use Rattle.sq_perform.specs.Refusal.{Matter, Tokens, Grammar, Depth, Meaning, matter, IsFirstFault, IsOfModules, IsRefused, IsTokenOf, OneRefused, StandsAt}
+use Rattle.sq_perform.specs.Refusal.{Matter, Tokens, Grammar, Depth, Meaning, matter, IsFirstFault, IsOfModules, IsRefused, IsTokenOf, OneRefused, StandsAt, StandsAtByte}
 
 -- why a text is not taken
 abbrev pub TextFault : Type 0
@@ -29,22 +31,18 @@ TextFault = Fault Refusal
 abbrev pub ItemFault : Type 0
 ItemFault = Fault RefusalName
 
--- a refusal of the text of this number, by this name
-abbrev pub IsRefusal : ℕ → RefusalName → TextFault → Type 0
-IsRefusal number what NoMemory = ⊥
-IsRefusal number what (Refused refusal) = (refusal.text ≡ number) × (refusal.what ≡ what)
-
 -- A refusal of the text of this number, by this name, unless memory ran out.
 abbrev pub IsRefusalIfAny : ℕ → RefusalName → TextFault → Type 0
 IsRefusalIfAny number what NoMemory = ⊤
 IsRefusalIfAny number what (Refused refusal) = (refusal.text ≡ number) × (refusal.what ≡ what)
 
 -- what a parse's fault means for a text
-abbrev pub IsParseFault : ℕ → ParseError → TextFault → Type 0
-IsParseFault number parse.NoMemory fault = fault ≡ NoMemory
-IsParseFault number (parse.Unexpected token) fault = IsRefusal number Unexpected fault
-IsParseFault number (parse.TooDeep token) fault = IsRefusal number TooDeep fault
-IsParseFault number parse.EndOfText fault = IsRefusal number EndOfText fault
+abbrev pub parse_fault : ℕ → Bytes → List Token → ParseError → TextFault
+parse_fault number text tokens parse.NoMemory = NoMemory
+parse_fault number text tokens (parse.Unexpected token) = Refused (refusal_of number text tokens token Unexpected)
+parse_fault number text tokens (parse.TooDeep token) = Refused (refusal_of number text tokens token TooDeep)
+parse_fault number text tokens parse.EndOfText =
+    Refused (refusal_of number text tokens (length tokens - 1) EndOfText)
 
 -- the text of this number has no reading
 abbrev pub IsUnread : ℕ → Bytes → TextFault → Type 0
@@ -62,18 +60,12 @@ abbrev pub IsItemFault : Option RefusalName → ItemFault → Type 0
 IsItemFault fault NoMemory = ⊤
 IsItemFault fault (Refused what) = fault ≡ Some what
 
--- a refusal at the token of this number, if there is such a token
-abbrev pub IsPlacedIn : Bytes → List Token → ℕ → TextFault → Type 0
-IsPlacedIn text tokens number NoMemory = ⊥
-IsPlacedIn text tokens number (Refused refusal) =
-    IfSome (slice_get tokens number) (λ token. StandsAt text token refusal)
-
 -- A refusal at the token of this number among the text's own tokens, which are few enough to be counted.
 pub record IsPlaced (text : Bytes) (number : ℕ) (refusal : Refusal) : Type 0 where
   pub tokens : List Token
   pub read : reading text ≡ Ok tokens
   pub few : length tokens < 2 ^ 64
-  pub stands : IfSome (slice_get tokens number) (λ token. StandsAt text token refusal)
+  pub stands : StandsAtByte text (start_of (slice_get tokens number)) refusal
 
 abbrev pub IsPlacedIfAny : Bytes → ℕ → TextFault → Type 0
 IsPlacedIfAny text number NoMemory = ⊤
@@ -100,22 +92,22 @@ IsOfItem script tree number (Refused what) NoMemory = ⊤
 IsOfItem script tree number (Refused what) (Refused refusal) = IsItemRefusal script tree number what refusal
 
 -- what a refusal says of a text that has no tree
-abbrev pub IsMisspelled : {T : Type 0} → (T → List Lexeme) → (T → ℕ) → Bytes → Refusal → Matter → Type 0
-IsMisspelled tokens_of depth_of text refusal Tokens = IsRefused tokens_of depth_of text refusal Tokens
-IsMisspelled tokens_of depth_of text refusal Grammar = IsRefused tokens_of depth_of text refusal Grammar
-IsMisspelled tokens_of depth_of text refusal Depth = IsRefused tokens_of depth_of text refusal Depth
-IsMisspelled tokens_of depth_of text refusal Meaning = ⊥
+abbrev pub IsMisspelled : {T : Type 0} → Parser T → (T → List Lexeme) → (T → ℕ) → Bytes → Refusal → Matter → Type 0
+IsMisspelled rule tokens_of depth_of text refusal Tokens = IsRefused rule tokens_of depth_of text refusal Tokens
+IsMisspelled rule tokens_of depth_of text refusal Grammar = IsRefused rule tokens_of depth_of text refusal Grammar
+IsMisspelled rule tokens_of depth_of text refusal Depth = IsRefused rule tokens_of depth_of text refusal Depth
+IsMisspelled rule tokens_of depth_of text refusal Meaning = ⊥
 
 -- what a fault says of the text of this number, which has no tree
-abbrev pub IsRefusedText : {T : Type 0} → ℕ → (T → List Lexeme) → (T → ℕ) → Bytes → TextFault → Type 0
-IsRefusedText number tokens_of depth_of text NoMemory = ⊤
-IsRefusedText number tokens_of depth_of text (Refused refusal) =
-    (refusal.text ≡ number) × IsMisspelled tokens_of depth_of text refusal (matter refusal.what)
+abbrev pub IsRefusedText : {T : Type 0} → Parser T → ℕ → (T → List Lexeme) → (T → ℕ) → Bytes → TextFault → Type 0
+IsRefusedText rule number tokens_of depth_of text NoMemory = ⊤
+IsRefusedText rule number tokens_of depth_of text (Refused refusal) =
+    (refusal.text ≡ number) × IsMisspelled rule tokens_of depth_of text refusal (matter refusal.what)
 
 -- what a fault says of one of these texts
-abbrev pub SomeRefused : {T : Type 0} → (T → List Lexeme) → (T → ℕ) → List Bytes → TextFault → Type 0
-SomeRefused tokens_of depth_of all NoMemory = ⊤
-SomeRefused tokens_of depth_of all (Refused refusal) = OneRefused tokens_of depth_of all refusal
+abbrev pub SomeRefused : {T : Type 0} → Parser T → (T → List Lexeme) → (T → ℕ) → List Bytes → TextFault → Type 0
+SomeRefused rule tokens_of depth_of all NoMemory = ⊤
+SomeRefused rule tokens_of depth_of all (Refused refusal) = OneRefused rule tokens_of depth_of all refusal
 
 -- a fault is for how a text is spelled, not for what it means
 abbrev pub IsOfSpelling : TextFault → Type 0
@@ -146,9 +138,9 @@ IsScriptRefusal start script (Refused refusal) =
 -- what a fault says of the schemas and modules of which no session is made
 abbrev pub IsOpeningFault : List Bytes → List Bytes → RunFault → Type 0
 IsOpeningFault schemas modules (run.SchemaRefused refusal) =
-    OneRefused schema_tokens schema_depth schemas refusal × IsOfSchemas schemas refusal (matter refusal.what)
+    OneRefused schema_rule schema_tokens schema_depth schemas refusal × IsOfSchemas schemas refusal (matter refusal.what)
 IsOpeningFault schemas modules (run.ModuleRefused refusal) =
-    AreDeclared schemas × OneRefused module_tokens module_depth modules refusal
+    AreDeclared schemas × OneRefused module_rule module_tokens module_depth modules refusal
     × IsOfModules modules refusal (matter refusal.what)
 IsOpeningFault schemas modules (run.ScriptRefused refusal) = ⊥
 IsOpeningFault schemas modules (run.Write bytes) = ⊥

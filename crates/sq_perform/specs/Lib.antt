@@ -5,6 +5,7 @@ pub mod Fault
 pub mod Items
 pub mod Opened
 pub mod Performed
+pub mod Read
 pub mod Refusal
 pub mod Refused
 pub mod Run

@@ -1,6 +1,7 @@
 -- What the refusal of a text says of the text.
 use Rattle.std.specs.Prelude.{◌≡◌, ℕ, ◌<◌, List, slice_get, take, Option, None, Some, Ok, Err, ⊤}
 use Rattle.sq_grammar.specs.declared.brackets.TheConstants.{MAX_DEPTH}
+use Rattle.sq_grammar.specs.Reading.{Parser}
 use Rattle.sq_lex.specs.declared.fault.LexFault.{LexFault}
 use Rattle.sq_lex.specs.Position.{position}
 use Rattle.sq_lex.specs.Reading.{reading}
@@ -17,6 +18,7 @@ use Rattle.sq_meaning.specs.declared.refusal.SchemaFault.{SchemaFault}
 use Rattle.sq_meaning.specs.declared.refusal.ScriptFault.{ScriptFault}
 use Rattle.sq_meaning.specs.declared.refusal.ScriptFault.TheVariants as fault
 use Rattle.sq_meaning.specs.Report.{Bytes}
+use Rattle.sq_perform.specs.Read.{read_text}
 use Rattle.sq_perform.specs.Texts.{AllSpell, SomeTrees, Spells}
 use Rattle.sq_perform.specs.declared.refusal.Refusal.{Refusal}
 use Rattle.sq_perform.specs.declared.refusal.RefusalName.{RefusalName}
@@ -44,14 +46,19 @@ pub record IsFirstFault (text : Bytes) (refusal : Refusal) : Type 0 where
   pub line : refusal.line ≡ fault.line
   pub column : refusal.column ≡ fault.column
 
--- What a refusal says of a text: its first fault, that no tree spells it, or that each tree that spells it
--- nests brackets too deep. A refusal for what a text means says nothing of its trees.
-abbrev pub IsRefused : {T : Type 0} → (T → List Lexeme) → (T → ℕ) → Bytes → Refusal → Matter → Type 0
-IsRefused tokens_of depth_of text refusal Tokens = IsFirstFault text refusal
-IsRefused {T = T} tokens_of depth_of text refusal Grammar = (tree : T) → Spells text (tokens_of tree) → ⊥
-IsRefused {T = T} tokens_of depth_of text refusal Depth =
-    (tree : T) → Spells text (tokens_of tree) → MAX_DEPTH < depth_of tree
-IsRefused tokens_of depth_of text refusal Meaning = ⊤
+-- A text without a tree is refused as reading it by the rule of the grammar comes to: by that name, at that line and column.
+abbrev pub IsMisread : {T : Type 0} → Parser T → Bytes → Refusal → Type 0
+IsMisread rule text refusal = read_text rule refusal.text text ≡ Err refusal
+
+-- What a refusal says of a text: its first fault; or the name and the place where reading it is stuck, and that no tree spells
+-- it, or that each tree that spells it nests brackets too deep. A refusal for what a text means says nothing of its trees.
+abbrev pub IsRefused : {T : Type 0} → Parser T → (T → List Lexeme) → (T → ℕ) → Bytes → Refusal → Matter → Type 0
+IsRefused rule tokens_of depth_of text refusal Tokens = IsFirstFault text refusal
+IsRefused {T = T} rule tokens_of depth_of text refusal Grammar =
+    IsMisread rule text refusal × ((tree : T) → Spells text (tokens_of tree) → ⊥)
+IsRefused {T = T} rule tokens_of depth_of text refusal Depth =
+    IsMisread rule text refusal × ((tree : T) → Spells text (tokens_of tree) → MAX_DEPTH < depth_of tree)
+IsRefused rule tokens_of depth_of text refusal Meaning = ⊤
 
 -- the texts that were read before a refusal: those before the refused one, and all of its kind where it is refused for what it means
 abbrev pub read_before : Matter → ℕ → List Bytes → List Bytes
@@ -61,19 +68,23 @@ read_before Depth text all = take text all
 read_before Meaning text all = all
 
 -- the refused text is at its index among these, and those that were read before spell trees
-pub record OneRefused {T : Type 0} (tokens_of : T → List Lexeme) (depth_of : T → ℕ) (all : List Bytes)
-    (refusal : Refusal) : Type 0 where
+pub record OneRefused {T : Type 0} (rule : Parser T) (tokens_of : T → List Lexeme) (depth_of : T → ℕ)
+    (all : List Bytes) (refusal : Refusal) : Type 0 where
   pub text : Bytes
   pub there : slice_get all refusal.text ≡ Some text
-  pub refused : IsRefused tokens_of depth_of text refusal (matter refusal.what)
+  pub refused : IsRefused rule tokens_of depth_of text refusal (matter refusal.what)
   pub before : SomeTrees tokens_of depth_of (read_before (matter refusal.what) refusal.text all)
 
 -- ---- tokens
 
+-- the line and the column of a byte
+pub record StandsAtByte (text : Bytes) (byte : ℕ) (refusal : Refusal) : Type 0 where
+  pub line : refusal.line ≡ (position text byte).line
+  pub column : refusal.column ≡ (position text byte).column
+
 -- the line and the column of the first byte of a token
-pub record StandsAt (text : Bytes) (token : Token) (refusal : Refusal) : Type 0 where
-  pub line : refusal.line ≡ (position text token.start).line
-  pub column : refusal.column ≡ (position text token.start).column
+abbrev pub StandsAt : Bytes → Token → Refusal → Type 0
+StandsAt text token refusal = StandsAtByte text token.start refusal
 
 -- the text's token of this number, from 0
 pub record IsTokenOf (text : Bytes) (number : ℕ) (token : Token) : Type 0 where

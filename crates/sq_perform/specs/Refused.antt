@@ -16,6 +16,7 @@ use Rattle.sq_binding.specs.Declaring.{catalog_of}
 use Rattle.sq_session.specs.Session.{Session}
 use Rattle.sq_perform.specs.Items.{IsTaken, item_fault}
 use Rattle.sq_perform.specs.Opened.{Opened}
+use Rattle.sq_perform.specs.Read.{module_rule, schema_rule, script_rule}
 use Rattle.sq_perform.specs.Refusal.{IsOfModules, IsOfSchema, IsRefused, IsTokenOf, Matter, Meaning, OneRefused, StandsAt, matter}
 use Rattle.sq_perform.specs.Texts.{AllSpell, SpellsTree}
 use Rattle.sq_perform.specs.declared.refusal.Refusal.{Refusal}
@@ -62,7 +63,7 @@ pub record IsFirstItem (start : Session) (script : Bytes) (refusal : Refusal) : 
 -- what a refusal says of the script: what trees it spells, or which item is refused for its fault
 abbrev pub IsRefusedScript : Session → Bytes → Refusal → Matter → Type 0
 IsRefusedScript start script refusal Meaning = IsFirstItem start script refusal
-IsRefusedScript start script refusal m = IsRefused script_tokens script_depth script refusal m
+IsRefusedScript start script refusal m = IsRefused script_rule script_tokens script_depth script refusal m
 
 -- the script is refused by a session that the schemas and modules open
 pub record ScriptIsRefused (row_numbers : ℕ) (schemas modules : List Bytes) (script : Bytes)
@@ -74,15 +75,15 @@ pub record ScriptIsRefused (row_numbers : ℕ) (schemas modules : List Bytes) (s
 
 -- ---- the texts of a run
 
--- A text is refused for its tokens only with the first fault of its reading, for its grammar only where no tree spells it, and for its depth only where
--- each tree that spells it is deeper than MAX_DEPTH brackets. Those of its kind before it spell trees. For what it means a schema or a module is refused
+-- A text is refused for its tokens only with the first fault of its reading. For its grammar it is refused only where no tree spells it, and for its depth
+-- only where each tree that spells it is deeper than MAX_DEPTH brackets: by the name and at the token where reading it by the grammar is stuck. Those of its kind before it spell trees. For what it means a schema or a module is refused
 -- only where the definitions refuse it first, for the fault that they find, at its first token, and the script only at its first item that has a fault,
 -- and for that. A module is refused only where the schemas declare a catalog, and the script only where all open a session.
 unfoldable pub RefusedText : ℕ → List Bytes → List Bytes → Bytes → RunFault → Type 0
 RefusedText row_numbers schemas modules script (SchemaRefused refusal) =
-    OneRefused schema_tokens schema_depth schemas refusal × IsOfSchemas schemas refusal (matter refusal.what)
+    OneRefused schema_rule schema_tokens schema_depth schemas refusal × IsOfSchemas schemas refusal (matter refusal.what)
 RefusedText row_numbers schemas modules script (ModuleRefused refusal) =
-    AreDeclared schemas × OneRefused module_tokens module_depth modules refusal
+    AreDeclared schemas × OneRefused module_rule module_tokens module_depth modules refusal
     × IsOfModules modules refusal (matter refusal.what)
 RefusedText row_numbers schemas modules script (ScriptRefused refusal) =
     ScriptIsRefused row_numbers schemas modules script refusal

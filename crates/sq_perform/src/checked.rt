@@ -11,6 +11,7 @@ ghost use Rattle.sq_tree.specs.Module.{module_tokens, module_depth};
 ghost use Rattle.sq_perform.specs.Checked as spec;
 ghost use Rattle.sq_perform.specs.Checked.{IsRead};
 ghost use Rattle.sq_perform.specs.Fault.{IsModuleFault, IsOpeningFault, IsSchemaFault, SomeRefused};
+ghost use Rattle.sq_perform.specs.Read.{module_rule, schema_rule};
 ghost use Rattle.sq_perform.specs.Refused.{AreDeclared};
 ghost use Rattle.sq_perform.specs.Texts.{AllSpell, texts};
 ghost use Rattle.sq_perform.specs.declared.fault.Fault.TheVariants.{NoMemory};
@@ -131,7 +132,7 @@ fn check_over(
 fn described(alloc: Global, schemas: &[Vec<u8>]) -> Result<Definitions, TextFault>
     ensures declared { IfOk result (λ _. AreDeclared (texts schemas.now)) }
     ensures checked { IfOk result (λ d. spec.SchemasAreChecked (texts schemas.now) d.catalog d.notes.items) }
-    ensures refused { IfErr result (SomeRefused schema_tokens schema_depth (texts schemas.now)) }
+    ensures refused { IfErr result (SomeRefused schema_rule schema_tokens schema_depth (texts schemas.now)) }
     ensures first { IfErr result (IsSchemaFault (texts schemas.now)) }
 {
     let trees = read_all::<SchemaText>(alloc, schemas)?;
@@ -149,7 +150,7 @@ fn described_by(
     requires spelled { AllSpell schema_tokens schema_depth (texts schemas.now) trees.now }
     ensures declared { IfOk result (λ _. AreDeclared (texts schemas.now)) }
     ensures checked { IfOk result (λ d. spec.SchemasAreChecked (texts schemas.now) d.catalog d.notes.items) }
-    ensures refused { IfErr result (SomeRefused schema_tokens schema_depth (texts schemas.now)) }
+    ensures refused { IfErr result (SomeRefused schema_rule schema_tokens schema_depth (texts schemas.now)) }
     ensures first { IfErr result (IsSchemaFault (texts schemas.now)) }
 {
     let catalog = built(alloc, schemas, trees)?;
@@ -188,7 +189,7 @@ fn checked_modules(
 ) -> Result<Notes, TextFault>
     ensures checked { IfOk result
         (λ notes. spec.ModulesAreChecked catalog.now (texts modules.now) notes.items) }
-    ensures refused { IfErr result (SomeRefused module_tokens module_depth (texts modules.now)) }
+    ensures refused { IfErr result (SomeRefused module_rule module_tokens module_depth (texts modules.now)) }
     ensures first { IfErr result (IsModuleFault (texts modules.now)) }
 {
     let trees = read_all::<ModuleText>(alloc, modules)?;
@@ -206,7 +207,7 @@ fn module_notes(
     requires spelled { AllSpell module_tokens module_depth (texts modules.now) trees.now }
     ensures checked { IfOk result
         (λ notes. spec.ModulesAreChecked catalog.now (texts modules.now) notes.items) }
-    ensures refused { IfErr result (SomeRefused module_tokens module_depth (texts modules.now)) }
+    ensures refused { IfErr result (SomeRefused module_rule module_tokens module_depth (texts modules.now)) }
     ensures first { IfErr result (IsModuleFault (texts modules.now)) }
 {
     match check_modules(alloc, catalog, trees) {

@@ -20,8 +20,7 @@ use std::alloc::{AllocError, Global};
 /// Reads schema, module and script texts, makes the script's calls in memory, and writes the report.
 ///
 /// Schemas come first, then modules, then the script, and all texts of a kind are parsed before any is checked for what it
-/// means. The first refusal is answered, and nothing is written before all are accepted. The lines of a script item are
-/// written in one go.
+/// means. The first refusal is answered, and nothing is written before all are accepted.
 pub fn run<S: Store, W: Out>(
     alloc: Global,
     schemas: &[Vec<u8>],

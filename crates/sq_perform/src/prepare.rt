@@ -19,6 +19,7 @@ ghost use Rattle.sq_session.specs.Schemas.{schemas_of};
 ghost use Rattle.sq_session.specs.Session.{IsOfModules, names_of};
 ghost use Rattle.sq_store.specs.Content.{no_rows};
 ghost use Rattle.sq_perform.specs.Opened.{Defined, Holds, Opened};
+ghost use Rattle.sq_perform.specs.Read.{module_rule, schema_rule};
 ghost use Rattle.sq_perform.specs.Refusal.{refused_part, refused_start};
 ghost use Rattle.sq_perform.specs.Items.{IsTaken};
 ghost use Rattle.sq_perform.specs.Run.{IsStart};
@@ -80,7 +81,7 @@ pub(crate) fn read_script<S: Store>(
 #[tactic(auto, using(crate::proofs::Opened::defined_if))]
 fn read_schemas(alloc: Global, schemas: &[Vec<u8>]) -> Result<Catalog, TextFault>
     ensures defined { IfOk result (Defined (texts schemas.now)) }
-    ensures refused { IfErr result (SomeRefused schema_tokens schema_depth (texts schemas.now)) }
+    ensures refused { IfErr result (SomeRefused schema_rule schema_tokens schema_depth (texts schemas.now)) }
     ensures first { IfErr result (IsSchemaFault (texts schemas.now)) }
 {
     let trees = read_all::<SchemaText>(alloc, schemas)?;
@@ -100,7 +101,7 @@ pub(crate) fn built(
     ensures declares { IfOk result (λ c. Declares trees.now (known c) c.bases c.views) }
     ensures exact { IfOk result (λ c. catalog_of trees.now ≡ Ok (declared c)) }
     ensures names { IfOk result NamesStand }
-    ensures refused { IfErr result (SomeRefused schema_tokens schema_depth (texts schemas.now)) }
+    ensures refused { IfErr result (SomeRefused schema_rule schema_tokens schema_depth (texts schemas.now)) }
     ensures first { IfErr result (IsSchemaFault (texts schemas.now)) }
 {
     match Catalog::build(alloc, trees) {
@@ -123,7 +124,7 @@ fn refused_schema(
     requires spelled { AllSpell schema_tokens schema_depth (texts schemas.now) trees.now }
     requires there { refusal.text < length trees.now }
     requires first { catalog_of trees.now ≡ Err (refusal_seen refusal) }
-    ensures refused { SomeRefused schema_tokens schema_depth (texts schemas.now) result }
+    ensures refused { SomeRefused schema_rule schema_tokens schema_depth (texts schemas.now) result }
     ensures first { IsSchemaFault (texts schemas.now) result }
 {
     let SchemaRefusal {
@@ -155,7 +156,7 @@ fn session_of<S: Store>(
 ) -> Result<Session<S>, TextFault>
     requires numbers { limits.row_numbers ≤ MOST_ROW_NUMBERS }
     ensures holds { IfOk result (Holds limits.row_numbers catalog (texts modules.now)) }
-    ensures refused { IfErr result (SomeRefused module_tokens module_depth (texts modules.now)) }
+    ensures refused { IfErr result (SomeRefused module_rule module_tokens module_depth (texts modules.now)) }
     ensures first { IfErr result (IsModuleFault (texts modules.now)) }
 {
     let trees = match read_all::<ModuleText>(alloc, modules) {
@@ -181,7 +182,7 @@ fn session_from<S: Store>(
     requires numbers { limits.row_numbers ≤ MOST_ROW_NUMBERS }
     requires spelled { AllSpell module_tokens module_depth (texts modules.now) trees.now }
     ensures holds { IfOk result (Holds limits.row_numbers catalog (texts modules.now)) }
-    ensures refused { IfErr result (SomeRefused module_tokens module_depth (texts modules.now)) }
+    ensures refused { IfErr result (SomeRefused module_rule module_tokens module_depth (texts modules.now)) }
     ensures first { IfErr result (IsModuleFault (texts modules.now)) }
 {
     match session_over(alloc, catalog, trees, limits) {
@@ -246,7 +247,7 @@ pub(crate) fn refused_module(
     requires spelled { AllSpell module_tokens module_depth (texts modules.now) trees.now }
     requires there { refusal.text < length trees.now }
     requires first { first_module_refusal trees.now ≡ Some (refusal_of refusal) }
-    ensures refused { SomeRefused module_tokens module_depth (texts modules.now) result }
+    ensures refused { SomeRefused module_rule module_tokens module_depth (texts modules.now) result }
     ensures first { IsModuleFault (texts modules.now) result }
 {
     let ModuleRefusal { fault, text, item } = refusal;

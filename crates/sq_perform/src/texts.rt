@@ -3,11 +3,14 @@ ghost use Rattle.std.specs.Prelude.{◌≡◌, ◌<◌, ◌≤◌, length, Ok, I
 ghost use Rattle.sq_lex.specs.Reading.{reading};
 ghost use Rattle.sq_lex.specs.Token.{lexemes};
 ghost use Rattle.sq_grammar.specs.declared.brackets.TheConstants.{MAX_DEPTH};
-ghost use Rattle.sq_parse.specs.Refusal.{HasNoTree};
+ghost use Rattle.sq_parse.specs.Refusal.{Answers, HasNoTree, parsed};
 ghost use Rattle.sq_tree.specs.Schema.{schema_tokens, schema_depth};
 ghost use Rattle.sq_tree.specs.Module.{module_tokens, module_depth};
 ghost use Rattle.sq_tree.specs.Script.{script_tokens, script_depth};
-ghost use Rattle.sq_perform.specs.Fault.{IsOfSpelling, IsParseFault, IsPlacedAmong, IsPlacedIfAny, IsPlacedIn, IsRefusal, IsRefusalIfAny, IsRefusedText, IsUnread, SomeRefused};
+ghost use Rattle.sq_perform.specs.Fault as spec;
+ghost use Rattle.sq_perform.specs.Fault.{IsOfSpelling, IsPlacedAmong, IsPlacedIfAny, IsRefusalIfAny, IsRefusedText, IsUnread, SomeRefused};
+ghost use Rattle.sq_perform.specs.Read.{module_rule, refusal_of, schema_rule, script_rule};
+ghost use Rattle.sq_perform.specs.declared.fault.Fault.TheVariants.{Refused};
 ghost use Rattle.sq_perform.specs.Refusal.{Meaning, matter};
 ghost use Rattle.sq_perform.specs.Texts.{AllSpell, SomeTrees, SpellsTree, texts};
 
@@ -24,7 +27,11 @@ pub(crate) type TextFault = Fault<Refusal>;
 /// A kind of texts, named by the type of its trees.
 pub(crate) trait TextTree: Drop {
     ghost use Rattle.std.specs.Prelude.{List, ℕ};
+    ghost use Rattle.sq_grammar.specs.Reading.{Parser};
     ghost use Rattle.sq_lex.specs.declared.lexeme.Lexeme.{Lexeme};
+
+    /// The rule of the grammar.
+    ghost rule: { Parser Self };
 
     /// The list of a tree's tokens.
     ghost tokens: { Self → List Lexeme };
@@ -34,12 +41,15 @@ pub(crate) trait TextTree: Drop {
 
     /// The tree of a text's tokens.
     fn parse(alloc: Global, source: &[Token]) -> Result<Self, ParseError>
+        ensures parsed { Answers (parsed rule (lexemes source.now)) result }
         ensures spelled { IfOk result (λ tree. lexemes source.now ≡ tokens tree) }
         ensures shallow { IfOk result (λ tree. depth tree ≤ MAX_DEPTH) }
         ensures no_tree { IfErr result (HasNoTree tokens depth (lexemes source.now)) };
 }
 
 impl TextTree for SchemaText {
+    ghost rule = { schema_rule };
+
     ghost tokens = { schema_tokens };
 
     ghost depth = { schema_depth };
@@ -50,6 +60,8 @@ impl TextTree for SchemaText {
 }
 
 impl TextTree for ModuleText {
+    ghost rule = { module_rule };
+
     ghost tokens = { module_tokens };
 
     ghost depth = { module_depth };
@@ -60,6 +72,8 @@ impl TextTree for ModuleText {
 }
 
 impl TextTree for ScriptText {
+    ghost rule = { script_rule };
+
     ghost tokens = { script_tokens };
 
     ghost depth = { script_depth };
@@ -72,7 +86,7 @@ impl TextTree for ScriptText {
 /// The trees of all texts of a kind, or why the first that has none is not taken.
 pub(crate) fn read_all<T: TextTree>(alloc: Global, all: &[Vec<u8>]) -> Result<Vec<T>, TextFault>
     ensures spelled { IfOk result (λ trees. AllSpell T.tokens T.depth (texts all.now) trees.items) }
-    ensures refused { IfErr result (SomeRefused T.tokens T.depth (texts all.now)) }
+    ensures refused { IfErr result (SomeRefused T.rule T.tokens T.depth (texts all.now)) }
     ensures spelling { IfErr result IsOfSpelling }
 {
     let mut trees = Vec::new(alloc);
@@ -95,7 +109,7 @@ pub(crate) fn read_text<T: TextTree>(
     text: &[u8],
 ) -> Result<T, TextFault>
     ensures spelled { IfOk result (SpellsTree T.tokens T.depth text.now) }
-    ensures refused { IfErr result (IsRefusedText number T.tokens T.depth text.now) }
+    ensures refused { IfErr result (IsRefusedText T.rule number T.tokens T.depth text.now) }
 {
     let tokens = tokens_of(alloc, number, text)?;
     match T::parse(alloc, tokens.as_slice()) {
@@ -122,7 +136,7 @@ fn tokens_of(alloc: Global, number: usize, text: &[u8]) -> Result<Vec<Token>, Te
 
 /// What a parse's fault means for a text. A text that ends too early is refused at its last token.
 fn parse_fault(text: &[u8], tokens: &[Token], number: usize, fault: ParseError) -> TextFault
-    ensures { IsParseFault number fault result }
+    ensures { result ≡ spec.parse_fault number text.now tokens.now fault }
 {
     match fault {
         ParseError::NoMemory => TextFault::NoMemory,
@@ -145,8 +159,7 @@ fn refused_at(
     token: usize,
     what: RefusalName,
 ) -> TextFault
-    ensures what { IsRefusal number what result }
-    ensures placed { IsPlacedIn text.now tokens.now token result }
+    ensures { result ≡ Refused (refusal_of number text.now tokens.now token what) }
 {
     let start = match tokens.get(token) {
         Some(token) => token.start,
@@ -172,7 +185,7 @@ pub(crate) fn refused_text<T: TextTree>(
     requires spelled { SomeTrees T.tokens T.depth (texts all.now) }
     requires there { number < length all.now }
     requires meaning { matter what ≡ Meaning }
-    ensures refused { SomeRefused T.tokens T.depth (texts all.now) result }
+    ensures refused { SomeRefused T.rule T.tokens T.depth (texts all.now) result }
     ensures what { IsRefusalIfAny number what result }
     ensures placed { IsPlacedAmong (texts all.now) number token result }
 {
@@ -180,7 +193,7 @@ pub(crate) fn refused_text<T: TextTree>(
 }
 
 /// A refusal for what a text says, at a token. No tokens are kept once a text has its tree, so they are read once more.
-#[tactic(auto, using(crate::proofs::Taken::placed_again))]
+#[tactic(auto, using(crate::proofs::Taken::placed_again, crate::proofs::Taken::named_again))]
 pub(crate) fn refused_again(
     alloc: Global,
     text: &[u8],

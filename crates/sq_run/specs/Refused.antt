@@ -12,6 +12,7 @@ use Rattle.sq_meaning.specs.Schema.{Elements}
 use Rattle.sq_meaning.specs.SchemaRefusal.{SchemaRefusal, elements_of, first_schema_refusal}
 use Rattle.sq_meaning.specs.Script.{ScriptRefusal, first_script_refusal}
 use Rattle.sq_meaning.specs.Report.{Bytes}
+use Rattle.sq_perform.specs.Read.{module_rule, schema_rule, script_rule}
 use Rattle.sq_perform.specs.Refusal.{IsOfModules, IsOfSchema, IsRefused, IsTokenOf, Matter, Meaning, OneRefused, StandsAt, matter, script_fault}
 use Rattle.sq_perform.specs.Texts.{AllSpell, SpellsTree}
 use Rattle.sq_perform.specs.declared.refusal.Refusal.{Refusal}
@@ -51,7 +52,7 @@ pub record IsFirstItem (elements : Elements) (modules : List ModuleText) (script
 -- what a refusal says of the script: what trees it spells, or what it means
 abbrev pub IsOfScript : Elements → List ModuleText → Bytes → Refusal → Matter → Type 0
 IsOfScript elements modules script refusal Meaning = IsFirstItem elements modules script refusal
-IsOfScript elements modules script refusal m = IsRefused script_tokens script_depth script refusal m
+IsOfScript elements modules script refusal m = IsRefused script_rule script_tokens script_depth script refusal m
 
 -- the schemas and modules are accepted, and this script is refused beside them
 pub record ScriptIsRefused (schemas modules : List Bytes) (script : Bytes) (refusal : Refusal) : Type 0 where
@@ -63,17 +64,18 @@ pub record ScriptIsRefused (schemas modules : List Bytes) (script : Bytes) (refu
 
 -- ---- the texts of a run
 
--- A text is refused for its tokens only with the first fault of its reading, for its grammar only where
--- no tree spells it, and for its depth only where each tree that spells it is deeper than MAX_DEPTH
--- brackets. Those of its kind before it spell trees. For what it means a text is refused only where the
+-- A text is refused for its tokens only with the first fault of its reading. For its grammar it is
+-- refused only where no tree spells it, and for its depth only where each tree that spells it is deeper
+-- than MAX_DEPTH brackets: by the name and at the token where reading it by the grammar is stuck. Those of
+-- its kind before it spell trees. For what it means a text is refused only where the
 -- definitions refuse it first among all of its kind, which spell trees, for the fault that they find, at
 -- its first token. A module is refused only where the schemas are accepted, and the script only where the
 -- schemas and the modules are.
 unfoldable pub RefusedText : List Bytes → List Bytes → Bytes → RunFault → Type 0
 RefusedText schemas modules script (SchemaRefused refusal) =
-    OneRefused schema_tokens schema_depth schemas refusal × IsOfSchemas schemas refusal (matter refusal.what)
+    OneRefused schema_rule schema_tokens schema_depth schemas refusal × IsOfSchemas schemas refusal (matter refusal.what)
 RefusedText schemas modules script (ModuleRefused refusal) =
-    AcceptedSchemas schemas × OneRefused module_tokens module_depth modules refusal
+    AcceptedSchemas schemas × OneRefused module_rule module_tokens module_depth modules refusal
     × IsOfModules modules refusal (matter refusal.what)
 RefusedText schemas modules script (ScriptRefused refusal) = ScriptIsRefused schemas modules script refusal
 RefusedText schemas modules script (Write bytes) = ⊤

@@ -16,7 +16,7 @@ use std::alloc::Global;
 ///
 /// Schemas come first, then modules, then the script, and all texts of a kind are parsed before any is
 /// checked for what it means. The first refusal is answered, and nothing is written before all are
-/// accepted. The lines of a script item are written in one go.
+/// accepted.
 pub fn run<S: Store, W: Out>(
     alloc: Global,
     schemas: &[Vec<u8>],
@@ -44,7 +44,7 @@ pub fn run<S: Store, W: Out>(
     ensures failed { IfErr result (λ fault. W.failed out.new ≡ is_write fault) }
 
     // A text is refused only where the definitions refuse it, for the first refusal that they
-    // find, at its first token.
+    // find, by its name, at its first token; without a tree at the token where reading is stuck.
     ensures refused { IfErr result (RefusedText (texts schemas.now) (texts modules.now) script.now) }
 
     // Behind each item each declared constraint holds, and a call that is not successful changes no table.

@@ -9,7 +9,7 @@ refused_again-requires g c =
 
 pub returns-clause-refused : goal.returns-clause-refused
 returns-clause-refused g c =
-    one_of_meaning g.T.TextTree.tokens g.T.TextTree.depth c.args.all.now c.args.number c.index-all-number.result c.refused_again.result c.requires.spelled.0
+    one_of_meaning g.T.TextTree.rule g.T.TextTree.tokens g.T.TextTree.depth c.args.all.now c.args.number c.index-all-number.result c.refused_again.result c.requires.spelled.0
     c.requires.there c.index-all-number.is c.requires.spelled.1 (named c.args.number c.args.what c.refused_again.result c.requires.meaning c.refused_again.ensures.what)
 
 pub returns-clause-placed : goal.returns-clause-placed
