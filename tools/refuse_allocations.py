@@ -32,7 +32,6 @@ from pathlib import Path
 import build_library
 from print_runs import runs_of
 from run_program import written
-from run_suite import words_of
 
 ROOT = Path(__file__).resolve().parent.parent
 RUNS = ("keys_move_together", "no_row_of_a_refused_copy", "changes_below_open_cursors",
@@ -99,6 +98,16 @@ def endings(words, made, numbers, ending, folder=None):
             return Counter(pool.map(ends, numbers))
     except RuntimeError as fault:
         sys.exit(str(fault))
+
+
+def words_of(case):
+    """The command line for a case of docs/SUITES.md without a setup."""
+    names = sorted(path.name for path in case.glob("*.sql"))
+    schemas = [name for name in names if name.startswith("schema")]
+    words = ["run"]
+    words += [word for name in schemas for word in ("--schema", name)]
+    words += [word for name in names if name not in schemas for word in ("--module", name)]
+    return words + ["--script", "script.txt"]
 
 
 def items_of(report):

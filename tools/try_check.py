@@ -1,8 +1,8 @@
 #!/usr/bin/env python3
 """Tries `check` on texts with their wanted lines, and on the texts of every run of crates/sq_cases/data.
 
-try_check.py PROGRAM: the status is 0 if each of tools/checks.txt comes to its lines, which show each fault of a name with one; each
-example to its check.txt if it has one; and of each run: the schemas and modules are refused as the run says; or each procedure that
+try_check.py PROGRAM: the status is 0 if each of tools/checks.txt comes to its lines, which show each fault of a name with one; and of
+each run: the schemas and modules are refused as the run says; or each procedure that
 a call of the run answers with 42000 has a fault, by the name that the run gives it, no procedure that answers otherwise has one,
 behind the faults of a name stands one that the texts have, and the exit status says whether there is a fault.
 """
@@ -68,12 +68,6 @@ def is_listed(program, run, lines):
     return found == ("".join(line + "\n" for line in lines), "", 4 if faults_in(lines) else 0)
 
 
-def is_as_shown(program, example):
-    """Whether `check` prints what the page of an example shows."""
-    out, err, _ = checked(program, ["--schema", "schema.sql", "--module", "module.sql"], example)
-    return (out, err) == ((example / "check.txt").read_text(), "")
-
-
 def faults_by_call(path):
     """For each run of a file by its place, the name of the fault of its calls that the data gives, by the call's number."""
     named, place = {}, -1
@@ -113,8 +107,6 @@ def tried(program):
     yield "names_behind", names_behind(cases) == OF_A_NAME
     for run, lines in cases:
         yield run.name, is_listed(program, run, lines)
-    for path in sorted((ROOT / "examples").rglob("check.txt")):
-        yield path.parent.name, is_as_shown(program, path.parent)
     for path in sorted(DATA.glob("runs-*.txt")):
         named = faults_by_call(path)
         for place, run in enumerate(runs_of(path)):

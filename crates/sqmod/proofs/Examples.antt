@@ -2,8 +2,8 @@
 -- of those that are taken.
 use Rattle.std.proofs.Common.{◌≡◌, ℕ, refl, List, [], ◌∷◌, Option, Some, None}
 use Rattle.std.specs.Prelude.{codes, option_map}
-use Rattle.clap.specs.Words.{Text, fault_of, first_of, subcommand_of}
-use Rattle.clap.specs.declared.error.kind.ErrorKind.TheVariants.{ArgumentConflict, DisplayHelp, MissingRequiredArgument}
+use Rattle.clap.specs.Words.{Text, fault_of, first_of, one_of, subcommand_of}
+use Rattle.clap.specs.declared.error.kind.ErrorKind.TheVariants.{ArgumentConflict, DisplayHelp, DisplayVersion, MissingRequiredArgument}
 use Rattle.clap.specs.declared.error.kind.ErrorKind.TheVariants.{MissingSubcommand, UnknownArgument, ValueValidation}
 use Rattle.clap.proofs.OnLiterals.{clap_on_literals}
 use Rattle.sqmod.specs.CommandLine.{files_of, row_numbers_of, sqmod}
@@ -102,3 +102,20 @@ lists = refl
 one_name : fault_of sqmod (codes "sqmod" ∷ codes "explain" ∷ codes "a" ∷ codes "b" ∷ []) ≡ UnknownArgument ∷ []
 unfolding clap_on_literals
 one_name = refl
+
+tested : List Text → Option (Text × List Text × List Text × Option Text)
+tested words =
+    option_map (λ s. (s.0, files_of (codes "folder") s.1, files_of (codes "filter") s.1, one_of (codes "list") s.1)) (subcommand_of sqmod words)
+
+tests : tested (codes "sqmod" ∷ codes "test" ∷ codes "a" ∷ codes "--filter" ∷ codes "x*" ∷ codes "b" ∷ codes "--list" ∷ [])
+    ≡ Some (codes "test", codes "a" ∷ codes "b" ∷ [], codes "x*" ∷ [], Some (codes "true"))
+unfolding clap_on_literals tested
+tests = refl
+
+no_folder : fault_of sqmod (codes "sqmod" ∷ codes "test" ∷ []) ≡ MissingRequiredArgument ∷ []
+unfolding clap_on_literals
+no_folder = refl
+
+version : fault_of sqmod (codes "sqmod" ∷ codes "--version" ∷ []) ≡ DisplayVersion ∷ []
+unfolding clap_on_literals
+version = refl

@@ -1,5 +1,5 @@
 -- The command line, and what it asks for.
-use Rattle.std.specs.Prelude.{ℕ, ◌≡◌, ◌<◌, ◌≤◌, ◌||◌, Bool, List, [], length, map, codes, slice_get, Option, None, Some, ⊤, true, IfSome, IsSome, unwrap_or}
+use Rattle.std.specs.Prelude.{ℕ, ◌≡◌, ◌<◌, ◌≤◌, ◌||◌, Bool, List, [], length, map, codes, slice_get, Option, None, Some, ⊤, true, false, IfSome, IsSome, unwrap_or}
 use Rattle.std.specs.Str.{bytes_eq}
 use Rattle.std.specs.Borrow.{Bor}
 use Rattle.std.specs.Option.{option_map, option_map_or}
@@ -7,15 +7,16 @@ use Rattle.std.specs.Str.Parse.{digits_value, without_leading_plus}
 use Rattle.clap.specs.Simple.{on_top}
 use Rattle.clap.specs.Words.{App, IsUnsignedIn, Row, Rule, Text, all_of, first_of, new_app, new_rule, one_of, subcommand_of, with_rule}
 use Rattle.clap.specs.Words.{with_subcommand}
-use Rattle.clap.specs.declared.builder.action.ArgAction.TheVariants.{Append, Set}
+use Rattle.clap.specs.declared.builder.action.ArgAction.TheVariants.{Append, Set, SetTrue}
 use Rattle.clap.specs.declared.builder.value_parser.ValueParser.TheVariants.{Unsigned}
 use Rattle.sq_store.specs.declared.store.TheConstants.{MOST_ROW_NUMBERS}
 use Rattle.sqmod.specs.declared.command_line.TheConstants.{USUAL_ROW_NUMBERS}
 use Rattle.sqmod.specs.declared.command_line.CheckRequest.{CheckRequest}
 use Rattle.sqmod.specs.declared.command_line.ExplainRequest.{ExplainRequest}
 use Rattle.sqmod.specs.declared.command_line.Request.{Request}
+use Rattle.sqmod.specs.declared.command_line.TestRequest.{TestRequest}
 use Rattle.sqmod.specs.declared.command_line.Task.{Task}
-use Rattle.sqmod.specs.declared.command_line.Task.TheVariants.{Run, Check, Explain}
+use Rattle.sqmod.specs.declared.command_line.Task.TheVariants.{Run, Check, Explain, Test}
 use Rattle.sqmod.specs.declared.fault.Source.{Source}
 use Rattle.sqmod.specs.declared.fault.Source.TheVariants.{Schema, Module, Script}
 
@@ -84,15 +85,35 @@ name_rule = record (new_rule (codes "name")) { value_names = 1; action = Some Se
 abbrev pub explain : App
 explain = with_rule (new_app (codes "explain")) name_rule
 
+-- an option `--NAME`
+abbrev pub flag_rule : Text → Rule
+flag_rule name = record (new_rule name) { long = Some name; action = Some SetTrue }
+
+-- Words that stand without an option.
+abbrev pub folders_rule : Rule
+folders_rule = record (new_rule (codes "folder")) { value_names = 1; action = Some Append; required = true }
+
+-- `test FOLDER... [--filter GLOB]... [--shard K/N]`
+abbrev pub selecting : App
+selecting =
+    let with_filters = with_rule (with_rule (new_app (codes "test")) folders_rule) (files_rule (codes "filter")) in
+    with_rule with_filters (value_rule (codes "shard"))
+
+-- `test FOLDER... [--filter GLOB]... [--shard K/N] [--junit F] [--list] [--update]`
+abbrev pub test : App
+test =
+    with_rule (with_rule (with_rule selecting (value_rule (codes "junit"))) (flag_rule (codes "list")))
+    (flag_rule (codes "update"))
+
 -- `sqmod` with the subcommands that read files, of which one must be given
 abbrev pub of_files : App
 of_files =
-    let without = on_top (λ shape. record shape { subcommand_required = true }) (new_app (codes "sqmod")) in
+    let without = on_top (λ shape. record shape { has_version = true; subcommand_required = true }) (new_app (codes "sqmod")) in
     with_subcommand (with_subcommand without run.top) check.top
 
 -- `sqmod` with all its subcommands.
 abbrev pub sqmod : App
-sqmod = with_subcommand of_files explain.top
+sqmod = with_subcommand (with_subcommand of_files explain.top) test.top
 
 -- ---- what `run` was given
 
@@ -132,11 +153,28 @@ pub record MakesCheck (rows : List Row) (request : CheckRequest) : Type 0 where
 abbrev pub MakesExplain : List Row → ExplainRequest → Type 0
 MakesExplain rows request = option_map (λ name. name.now) request.name ≡ first_of (codes "name") rows
 
+-- ---- what `test` was given
+
+-- A flag is set where it was given.
+pub record IsFlag (rows : List Row) (name : Text) (flag : Bool) : Type 0 where
+  pub none : one_of name rows ≡ None → flag ≡ false
+  pub given : one_of name rows ≡ Some (codes "true") → flag ≡ true
+  pub other : one_of name rows ≡ Some (codes "false") → flag ≡ false
+
+-- The request that `test` makes of what it was given.
+pub record MakesTest (rows : List Row) (request : TestRequest) : Type 0 where
+  pub folders : map (λ folder. folder.now) request.folders.items ≡ files_of (codes "folder") rows
+  pub filters : map (λ filter. filter.now) request.filters.items ≡ files_of (codes "filter") rows
+  pub shard : option_map (λ shard. shard.now) request.shard ≡ first_of (codes "shard") rows
+  pub junit : option_map (λ file. file.now) request.junit ≡ first_of (codes "junit") rows
+  pub list : IsFlag rows (codes "list") request.list
+  pub update : IsFlag rows (codes "update") request.update
+
 -- ---- what the words ask for
 
 abbrev pub is_subcommand : Text → Bool
 is_subcommand name = bytes_eq name (codes "run") || bytes_eq name (codes "check")
-    || bytes_eq name (codes "explain")
+    || bytes_eq name (codes "explain") || bytes_eq name (codes "test")
 
 -- a subcommand that the program has, with what it may be given
 abbrev pub IsGiven : Text → List Row → Type 0
@@ -148,6 +186,7 @@ abbrev pub MakesTask : Text → List Row → Task → Type 0
 MakesTask name rows (Run request) = (name ≡ codes "run") × Makes rows request
 MakesTask name rows (Check request) = (name ≡ codes "check") × MakesCheck rows request
 MakesTask name rows (Explain request) = (name ≡ codes "explain") × MakesExplain rows request
+MakesTask name rows (Test request) = (name ≡ codes "test") × MakesTest rows request
 
 -- The words name a subcommand, and ask for this task.
 abbrev pub AskFor : List Text → Task → Type 0
@@ -160,3 +199,4 @@ abbrev pub IsLimited : Task → Type 0
 IsLimited (Run request) = request.row_numbers ≤ MOST_ROW_NUMBERS
 IsLimited (Check request) = ⊤
 IsLimited (Explain request) = ⊤
+IsLimited (Test request) = ⊤

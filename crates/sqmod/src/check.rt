@@ -25,7 +25,7 @@ pub(crate) fn status_of_check<R: Files + Print + Eprint + AllocGlobal>(
     }
 }
 
-fn status_of_checked<R: Print + Eprint>(
+pub(crate) fn status_of_checked<R: Print + Eprint>(
     rt: &R,
     request: &CheckRequest<'_>,
     checked: &Checked,
@@ -47,7 +47,7 @@ fn checked<R: Files + AllocGlobal>(rt: &R, request: &CheckRequest<'_>) -> Result
 }
 
 #[tactic(auto, using(crate::proofs::Named::checked_one))]
-fn check_sources(alloc: Global, sources: &Sources) -> Result<Checked, Fault>
+pub(crate) fn check_sources(alloc: Global, sources: &Sources) -> Result<Checked, Fault>
     ensures { IfErr result
         (NamesOneOf (length sources.now.schemas.items) (length sources.now.modules.items)) }
 {

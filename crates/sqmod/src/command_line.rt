@@ -1,5 +1,5 @@
 //! The command line, read by `clap`.
-ghost use Rattle.std.specs.Prelude.{◌≡◌, ◌≤◌, Some, IfOk, false, map, string_bytes};
+ghost use Rattle.std.specs.Prelude.{◌≡◌, ◌≤◌, Some, IfOk, codes, false, map, string_bytes};
 ghost use Rattle.clap.specs.Words.{FailsBy, app_of, fault_of, found_of, rows_of, rule_of};
 ghost use Rattle.clap.specs.declared.builder.command.Command.TheViews.{out-Command as fields_of};
 ghost use Rattle.clap.specs.declared.builder.value_parser.ValueParser.TheVariants.{Unsigned};
@@ -12,7 +12,10 @@ use sq_store::MOST_ROW_NUMBERS;
 use std::alloc::{AllocError, Global};
 
 /// The row numbers of each table where `--rows` is left out.
-const USUAL_ROW_NUMBERS: u64 = 1_000_000;
+pub(crate) const USUAL_ROW_NUMBERS: u64 = 1_000_000;
+
+/// The version, which the file VERSION at the top of the repository names, too.
+const VERSION: &str = "0.1.0";
 
 /// What a command line asks for: the names of the files, and how many row numbers each table has.
 #[derive(Drop)]
@@ -64,16 +67,29 @@ pub(crate) struct ExplainRequest<'a> {
     pub(crate) name: Option<&'a str>,
 }
 
+/// Which cases are to be tried, and how that is said.
+#[derive(Drop)]
+pub(crate) struct TestRequest<'a> {
+    pub(crate) folders: Vec<&'a str>,
+    pub(crate) filters: Vec<&'a str>,
+    pub(crate) shard: Option<&'a str>,
+    pub(crate) junit: Option<&'a str>,
+    pub(crate) list: bool,
+    pub(crate) update: bool,
+}
+
 /// What a command line asks for.
 #[derive(Drop)]
 pub(crate) enum Task<'a> {
     Run(Request<'a>),
     Check(CheckRequest<'a>),
     Explain(ExplainRequest<'a>),
+    Test(TestRequest<'a>),
 }
 
 /// Reads `sqmod run [--schema F]... [--module F]... --script F [--rows N]`,
-/// `sqmod check [--schema F]... [--module F]...` or `sqmod explain [NAME]`.
+/// `sqmod check [--schema F]... [--module F]...`, `sqmod explain [NAME]` or
+/// `sqmod test FOLDER... [--filter GLOB]... [--shard K/N] [--junit F] [--list] [--update]`.
 pub(crate) fn read_task<'a>(alloc: Global, words: &'a [String]) -> Result<Task<'a>, Error>
     ensures refused { FailsBy (fault_of spec.sqmod (map string_bytes words.now)) result }
     ensures asked { IfOk result (spec.AskFor (map string_bytes words.now)) }
@@ -94,6 +110,7 @@ fn task_of<'a>(alloc: Global, name: &str, given: &ArgMatches<'a>) -> Result<Task
     match name {
         "run" => Ok(Task::Run(request_of(alloc, given)?)),
         "check" => Ok(Task::Check(check_request_of(alloc, given)?)),
+        "test" => Ok(Task::Test(test_request_of(alloc, given)?)),
         _ => Ok(Task::Explain(explain_request_of(given))),
     }
 }
@@ -134,6 +151,20 @@ fn explain_request_of<'a>(explain: &ArgMatches<'a>) -> ExplainRequest<'a>
     }
 }
 
+/// The request that `test` makes of what it was given.
+fn test_request_of<'a>(alloc: Global, test: &ArgMatches<'a>) -> Result<TestRequest<'a>, AllocError>
+    ensures { IfOk result (spec.MakesTest (rows_of (found_of test.now))) }
+{
+    Ok(TestRequest {
+        folders: files(alloc, test, "folder")?,
+        filters: files(alloc, test, "filter")?,
+        shard: test.get_str("shard"),
+        junit: test.get_str("junit"),
+        list: test.get_flag("list"),
+        update: test.get_flag("update"),
+    })
+}
+
 /// The files given by an option, in the order of the words.
 fn files<'a>(alloc: Global, run: &ArgMatches<'a>, option: &str) -> Result<Vec<&'a str>, AllocError>
     ensures { IfOk result (λ files. map (λ file. file.now) files.items
@@ -158,7 +189,8 @@ fn sqmod_command<'a>(alloc: Global) -> Result<Command<'a>, AllocError>
     ensures app { IfOk result (λ command. app_of command ≡ spec.sqmod) }
 {
     let explain = explain_command(alloc)?;
-    files_command(alloc)?.subcommand(explain)
+    let test = test_command(alloc)?;
+    files_command(alloc)?.subcommand(explain)?.subcommand(test)
 }
 
 /// The command with the subcommands that read files.
@@ -169,6 +201,7 @@ fn files_command<'a>(alloc: Global) -> Result<Command<'a>, AllocError>
     let check = check_command(alloc)?;
     Command::new(alloc, "sqmod")
         .about("Processes SQL-92 schemas and modules, and runs a script of procedure calls")
+        .version(VERSION)
         .subcommand_required(true)
         .subcommand(run)?
         .subcommand(check)
@@ -203,6 +236,76 @@ fn explain_command<'a>(alloc: Global) -> Result<Command<'a>, AllocError>
     Command::new(alloc, "explain")
         .about("Explains a status, a refusal or a fault, or lists their names")
         .arg(name_argument(alloc))
+}
+
+fn test_command<'a>(alloc: Global) -> Result<Command<'a>, AllocError>
+    ensures app { IfOk result (λ command. app_of command ≡ spec.test) }
+    ensures local { IfOk result (λ command. (fields_of command).has_globals ≡ false) }
+{
+    selecting_command(alloc)?
+        .arg(value_option(
+            alloc,
+            "junit",
+            "F",
+            "A file for JUnit's XML; - is standard output",
+        ))?
+        .arg(flag_option(
+            alloc,
+            "list",
+            "Prints the names of the cases, and runs none",
+        ))?
+        .arg(flag_option(
+            alloc,
+            "update",
+            "Writes what came in place of what was wanted",
+        ))
+}
+
+/// The command `test` with the options that say which cases are meant.
+fn selecting_command<'a>(alloc: Global) -> Result<Command<'a>, AllocError>
+    ensures app { IfOk result (λ command. app_of command ≡ spec.selecting) }
+    ensures local { IfOk result (λ command. (fields_of command).has_globals ≡ false) }
+{
+    Command::new(alloc, "test")
+        .about("Runs the cases below folders, and says which come to what they want")
+        .arg(folders_argument(alloc))?
+        .arg(filter_option(alloc))?
+        .arg(value_option(
+            alloc,
+            "shard",
+            "K/N",
+            "Only each N-th case, from the K-th on",
+        ))
+}
+
+fn folders_argument<'a>(alloc: Global) -> Arg<'a>
+    ensures rule { rule_of result ≡ spec.folders_rule }
+    ensures local { result.global ≡ false }
+{
+    Arg::new(alloc, "folder")
+        .value_name("FOLDER")
+        .help("A folder with cases in it, at any depth")
+        .required(true)
+        .action(ArgAction::Append)
+}
+
+/// An option that may be given again and again.
+fn filter_option<'a>(alloc: Global) -> Arg<'a>
+    ensures rule { rule_of result ≡ spec.files_rule (codes "filter") }
+    ensures local { result.global ≡ false }
+{
+    value_option(alloc, "filter", "GLOB", "Only cases with such a name").action(ArgAction::Append)
+}
+
+/// An option that has no value.
+fn flag_option<'a>(alloc: Global, name: &'a str, help: &'a str) -> Arg<'a>
+    ensures rule { rule_of result ≡ spec.flag_rule name.entry.now }
+    ensures local { result.global ≡ false }
+{
+    Arg::new(alloc, name)
+        .long(name)
+        .help(help)
+        .action(ArgAction::SetTrue)
 }
 
 fn name_argument<'a>(alloc: Global) -> Arg<'a>

@@ -37,7 +37,7 @@ fn print_names<R: Print>(rt: &R, entries: &[Entry]) -> io::Result<()> {
 }
 
 /// The status for what was printed.
-fn printed<R: Eprint>(rt: &R, printed: io::Result<()>) -> u8 {
+pub(crate) fn printed<R: Eprint>(rt: &R, printed: io::Result<()>) -> u8 {
     match printed {
         Ok(()) => 0,
         Err(_) => {

@@ -11,25 +11,28 @@ mod check;
 mod command_line;
 mod explain;
 mod fault;
+mod kept;
 mod request;
+mod suite;
 mod texts;
 
 use check::status_of_check;
 use clap::error::ErrorKind;
 use command_line::{CheckRequest, Request, Task, read_task};
-use explain::status_of_explain;
+use explain::{printed, status_of_explain};
 use fault::{Fault, NO_MEMORY, REFUSED};
 use sq_store::MOST_ROW_NUMBERS;
 use std::process::ExitCode;
 use std::rt::{Env, Files};
 use std::{env, io};
+use suite::status_of_test;
 
 fn main(rt: HostRuntime) -> ExitCode {
     ExitCode::from(status(&rt))
 }
 
 /// Does what the command line asks and gives the status to end with.
-fn status<R: Env + Files + Print + Eprint + AllocGlobal>(rt: &R) -> u8 {
+fn status<R: Env + Files + Print + Eprint + AllocGlobal + Clone + Drop>(rt: &R) -> u8 {
     match words(rt) {
         Ok(words) => status_of_words(rt, words.as_slice()),
         Err(error) => refuse_unreadable_words(rt, &error),
@@ -42,12 +45,33 @@ fn words<R: Env + AllocGlobal>(rt: &R) -> io::Result<Vec<String>> {
     Ok(words)
 }
 
-fn status_of_words<R: Files + Print + Eprint + AllocGlobal>(rt: &R, words: &[String]) -> u8 {
+fn status_of_words<R: Files + Print + Eprint + AllocGlobal + Clone + Drop>(
+    rt: &R,
+    words: &[String],
+) -> u8 {
     match read_task(rt.alloc(), words) {
         Ok(Task::Run(request)) => status_of_request(rt, &request),
         Ok(Task::Check(request)) => status_of_check(rt, &request),
         Ok(Task::Explain(request)) => status_of_explain(rt, request),
-        Err(error) => refuse_words(rt, &error),
+        Ok(Task::Test(request)) => status_of_test(rt, &request),
+        Err(error) => status_of_answer(rt, words, &error),
+    }
+}
+
+/// Prints what `clap` answers in place of a task: help or the version, where they are asked for, or what it refuses.
+fn status_of_answer<R: Print + Eprint>(rt: &R, words: &[String], error: &clap::Error) -> u8 {
+    if is_asked_for(words, error.kind()) {
+        return printed(rt, rt.print(error));
+    }
+    refuse_words(rt, error)
+}
+
+/// Whether the words ask for the version, or by `sqmod help` for help.
+fn is_asked_for(words: &[String], kind: ErrorKind) -> bool {
+    match kind {
+        ErrorKind::DisplayVersion => true,
+        ErrorKind::DisplayHelp => words.get(1).is_some_and(|word| word.as_str() == "help"),
+        _ => false,
     }
 }
 

@@ -69,7 +69,7 @@ fn ended(ran: Result<(), Fault>, flushed: Result<(), Fault>) -> Result<(), Fault
 }
 
 #[tactic(auto, using(crate::proofs::Named::names_one))]
-fn run_texts<W: Write>(
+pub(crate) fn run_texts<W: Write>(
     alloc: Global,
     texts: &Texts,
     limits: Limits,

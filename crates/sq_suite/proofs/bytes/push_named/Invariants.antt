@@ -1,0 +1,6 @@
+use Rattle.std.proofs.Common.{◌≡◌, ◌++◌, flat_map, take}
+use Rattle.sq_suite.specs.Bytes.{named}
+use Rattle.sq_suite.proofs.bytes.push_named.Given as goal
+
+abbrev pub invariant-loop-byte : goal.invariant-loop-byte
+invariant-loop-byte l = l.out.items ≡ l.fn.out.items ++ flat_map named (take l.byte-index l.name)

@@ -1,0 +1,232 @@
+//! What a case comes to, by the calls that `sqmod run` and `sqmod check` make.
+ghost use Rattle.std.specs.Prelude.{◌≡◌, ◌≤◌, OnOk, drop};
+
+use crate::check::{check_sources, status_of_checked};
+use crate::command_line::CheckRequest;
+use crate::fault::{Fault, Source};
+use crate::kept::Kept;
+use crate::report_of_file;
+use crate::request::run_texts;
+use crate::suite::files::CaseFiles;
+use crate::texts::{Sources, Texts, read_sources};
+use sq_perform::Checked;
+use sq_run::{Limits, Refusal};
+use sq_store::MOST_ROW_NUMBERS;
+use sq_suite::Outcome;
+use std::alloc::{AllocError, Global};
+use std::rt::Files;
+use std::{fs, io};
+
+/// Why there is no report, and the path of the file that it is about, if it is about one.
+#[derive(Clone, Copy)]
+struct Stop<'a> {
+    path: &'a str,
+    fault: Fault,
+}
+
+impl From<AllocError> for Stop<'_> {
+    fn from(_error: AllocError) -> Self {
+        Stop {
+            path: "",
+            fault: Fault::NoMemory(0),
+        }
+    }
+}
+
+/// What `sqmod run` comes to on a case's files, without what the scripts of its setups report.
+pub(crate) fn outcome_of_run<R: Files + AllocGlobal>(
+    rt: &R,
+    case: &str,
+    files: &CaseFiles,
+    script: &str,
+    limits: Limits,
+) -> Outcome
+    requires { limits.row_numbers ≤ MOST_ROW_NUMBERS }
+{
+    let mut report = Vec::new(rt.alloc());
+    let kept = Kept::new(rt.alloc());
+    let status = match run_files(rt, files, script, limits, &mut report) {
+        Ok(()) => 0,
+        Err(stop) => report_of_file(&kept, said(stop.path, case), stop.fault),
+    };
+    Outcome {
+        report,
+        errors: kept.into_text(),
+        status,
+    }
+}
+
+fn run_files<'a, R: Files + AllocGlobal>(
+    rt: &R,
+    files: &'a CaseFiles,
+    script: &'a str,
+    limits: Limits,
+    report: &mut Vec<u8>,
+) -> Result<(), Stop<'a>>
+    requires { limits.row_numbers ≤ MOST_ROW_NUMBERS }
+{
+    let sources = sources_of(rt, files)?;
+    let mut texts = Texts {
+        schemas: sources.schemas,
+        modules: sources.modules,
+        script: Vec::new(rt.alloc()),
+    };
+    let before = run_setups(rt, files, limits, &mut texts)?;
+    let shared = texts.script.iter().filter(|byte| **byte == b'\n').count();
+    add_script(rt, script, &mut texts.script)?;
+    match run_texts(rt.alloc(), &texts, limits, report) {
+        Ok(()) => Ok(remove_start(report, before)?),
+        Err(fault) => Err(Stop {
+            path: files.path(fault).unwrap_or(script),
+            fault: moved_up(fault, shared),
+        }),
+    }
+}
+
+/// Adds the scripts of the setups to the texts, and gives how many bytes they report.
+fn run_setups<'a, R: Files + AllocGlobal>(
+    rt: &R,
+    files: &'a CaseFiles,
+    limits: Limits,
+    texts: &mut Texts,
+) -> Result<usize, Stop<'a>>
+    requires { limits.row_numbers ≤ MOST_ROW_NUMBERS }
+{
+    let mut length = 0;
+    for setup in files.setups.iter() {
+        let path = setup.as_str();
+        add_script(rt, path, &mut texts.script)?;
+        let mut report = Vec::new(rt.alloc());
+        if let Err(fault) = run_texts(rt.alloc(), &*texts, limits, &mut report) {
+            let path = files.path(fault).unwrap_or(path);
+            return Err(Stop { path, fault });
+        }
+        length = report.len();
+    }
+    Ok(length)
+}
+
+/// Adds the text of a script, and an end of line.
+fn add_script<'a, R: Files + AllocGlobal>(
+    rt: &R,
+    path: &'a str,
+    script: &mut Vec<u8>,
+) -> Result<(), Stop<'a>> {
+    let Ok(text) = fs::read(rt, path) else {
+        return Err(Stop {
+            path,
+            fault: Fault::Unread(Source::Script),
+        });
+    };
+    script.extend_from_slice(text.as_slice())?;
+    script.extend_from_slice(b"\n")?;
+    Ok(())
+}
+
+/// Removes so many bytes at the start.
+fn remove_start(report: &mut Vec<u8>, count: usize) -> Result<(), AllocError>
+    ensures { OnOk result (report.new.items ≡ drop count report.old.items) }
+{
+    let rest = report.split_off(count.min(report.len()))?;
+    *report = rest;
+    Ok(())
+}
+
+/// A fault with the line counted from the one behind so many others, where it is about a script.
+fn moved_up(fault: Fault, lines: usize) -> Fault {
+    match fault {
+        Fault::Refused(Source::Script, refusal) => Fault::Refused(
+            Source::Script,
+            Refusal {
+                text: refusal.text,
+                line: refusal.line.saturating_sub(lines),
+                column: refusal.column,
+                what: refusal.what,
+            },
+        ),
+        _ => fault,
+    }
+}
+
+fn sources_of<'a, R: Files + AllocGlobal>(
+    rt: &R,
+    files: &'a CaseFiles,
+) -> Result<Sources, Stop<'a>> {
+    let schemas = strs(rt.alloc(), files.schemas.as_slice())?;
+    let modules = strs(rt.alloc(), files.modules.as_slice())?;
+    match read_sources(rt, schemas.as_slice(), modules.as_slice()) {
+        Ok(sources) => Ok(sources),
+        Err(fault) => Err(Stop {
+            path: files.path(fault).unwrap_or(""),
+            fault,
+        }),
+    }
+}
+
+/// What `sqmod check` prints of a case's files, to standard output and to standard error, and a line with its status.
+pub(crate) fn text_of_check<R: Files + AllocGlobal>(
+    rt: &R,
+    case: &str,
+    files: &CaseFiles,
+) -> io::Result<Vec<u8>> {
+    let kept = Kept::new(rt.alloc());
+    let status = status_of_files(rt, &kept, case, files)?;
+    println!(kept; "status {status}")?;
+    Ok(kept.into_text())
+}
+
+fn status_of_files<R: Files + AllocGlobal>(
+    rt: &R,
+    kept: &Kept,
+    case: &str,
+    files: &CaseFiles,
+) -> io::Result<u8> {
+    let request = CheckRequest {
+        schemas: names(rt.alloc(), files.schemas.as_slice(), case)?,
+        modules: names(rt.alloc(), files.modules.as_slice(), case)?,
+    };
+    Ok(match checked(rt, files) {
+        Ok(checked) => status_of_checked(kept, &request, &checked),
+        Err(stop) => report_of_file(kept, said(stop.path, case), stop.fault),
+    })
+}
+
+fn checked<'a, R: Files + AllocGlobal>(rt: &R, files: &'a CaseFiles) -> Result<Checked, Stop<'a>> {
+    let sources = sources_of(rt, files)?;
+    let answer = check_sources(rt.alloc(), &sources);
+    drop(sources);
+    match answer {
+        Ok(checked) => Ok(checked),
+        Err(fault) => Err(Stop {
+            path: files.path(fault).unwrap_or(""),
+            fault,
+        }),
+    }
+}
+
+fn strs<'a>(alloc: Global, texts: &'a [String]) -> Result<Vec<&'a str>, AllocError> {
+    texts.iter().map(|text| text.as_str()).collect(alloc)
+}
+
+/// The names of files as they are said of a case.
+fn names<'a>(alloc: Global, paths: &'a [String], case: &str) -> Result<Vec<&'a str>, AllocError> {
+    let mut names = Vec::new(alloc);
+    for path in paths {
+        names.push(said(path.as_str(), case))?;
+    }
+    Ok(names)
+}
+
+/// A path below a case's folder as it is seen from there, and any other from its folder `setup` on.
+fn said<'a>(path: &'a str, case: &str) -> &'a str {
+    let below = path
+        .strip_prefix(case)
+        .and_then(|rest| rest.strip_prefix('/'));
+    match below {
+        Some(name) => name,
+        None => match path.rfind("setup/") {
+            Some(at) => path.get(at..).unwrap_or(path),
+            None => path,
+        },
+    }
+}

@@ -1,0 +1,92 @@
+//! Which cases are asked for.
+use crate::command_line::TestRequest;
+use crate::suite::Stop;
+use crate::suite::cases::cases_below;
+use sq_suite::Shard;
+use std::alloc::AllocError;
+use std::io::ErrorKind;
+use std::rt::Files;
+
+/// A case: its folder, which is its name, and how many bytes of it are the folder of the suite.
+#[derive(Drop)]
+pub(crate) struct Case {
+    pub(crate) folder: String,
+    pub(crate) root: usize,
+}
+
+/// The cases that a request asks for: of those below its folders, those with a name that it asks for, and of these its part.
+pub(crate) fn selected<'a, R: Files + AllocGlobal + Clone + Drop>(
+    rt: &R,
+    request: &TestRequest<'a>,
+) -> Result<Vec<Case>, Stop<'a>> {
+    let shard = shard_of(request)?;
+    let mut cases = Vec::new(rt.alloc());
+    for folder in request.folders.iter() {
+        add_cases(rt, request, folder, &mut cases)?;
+    }
+    if cases.is_empty() {
+        return Err(Stop::Filter);
+    }
+    Ok(part_of(rt, cases, shard)?)
+}
+
+fn shard_of<'a>(request: &TestRequest<'a>) -> Result<Shard, Stop<'a>> {
+    match request.shard {
+        None => Ok(Shard::whole()),
+        Some(text) => Shard::parse(text).ok_or(Stop::Shard(text)),
+    }
+}
+
+/// Adds the cases below a folder that are asked for.
+fn add_cases<'a, R: Files + AllocGlobal + Clone + Drop>(
+    rt: &R,
+    request: &TestRequest<'a>,
+    folder: &'a str,
+    cases: &mut Vec<Case>,
+) -> Result<(), Stop<'a>> {
+    let root = without_slashes(folder);
+    let found = match cases_below(rt, root) {
+        Ok(found) => found,
+        Err(error) => return Err(unread(folder, error.kind())),
+    };
+    if found.is_empty() {
+        return Err(Stop::NoCase(folder));
+    }
+    for folder in found {
+        if request.asks_for(folder.as_str()) {
+            cases.push(Case {
+                folder,
+                root: root.len(),
+            })?;
+        }
+    }
+    Ok(())
+}
+
+fn unread(folder: &str, kind: ErrorKind) -> Stop<'_> {
+    if kind == ErrorKind::OutOfMemory {
+        Stop::NoMemory
+    } else {
+        Stop::Folder(folder)
+    }
+}
+
+/// The cases of a part.
+fn part_of<R: AllocGlobal>(
+    rt: &R,
+    cases: Vec<Case>,
+    shard: Shard,
+) -> Result<Vec<Case>, AllocError> {
+    let mut part = Vec::new(rt.alloc());
+    for (index, case) in cases.into_iter().enumerate() {
+        if shard.has(index) {
+            part.push(case)?;
+        }
+    }
+    Ok(part)
+}
+
+/// A folder's path without slashes at its end.
+fn without_slashes(folder: &str) -> &str {
+    folder.trim_end_matches('/')
+}
