@@ -1,0 +1,274 @@
+#!/usr/bin/env python3
+"""Tries the wrong bodies of docs/EDITS.md and writes their stamps.
+
+edit_trials.py [--all] [CRATE..]    tries the edits with no stamp of today's texts, or all; of these crates, or of each
+
+Each is tried in a copy of its crate, over the work that the crate's proof left, and the functions of the changed files alone are
+checked. Edits of different functions are put in together: a function is proved of the contracts of those that it calls, so each
+changed function stands or falls by itself. Of which such a run says nothing is tried alone, and an edit that passes so is NOT
+REFUSED only if the whole crate is proved with it.
+"""
+
+import functools
+import importlib.machinery
+import importlib.util
+import os
+import re
+import shutil
+import subprocess
+import sys
+import tempfile
+import time
+from pathlib import Path
+
+from edits import FUNCTION, NAMES, ROOT, crates, edits_of, fault_of, head_of, item_with, logic, stamps_of, sum_of, text_of, write_stamps
+
+PARTS = ("src", "specs", "proofs")
+ONE_JOB = ["--jobs", "1"]
+# What the checker says where a proof names what an edit took away.
+BY_NAME = re.compile(r"(\./)?proofs/.*(has no field|is not in scope|has no `|was not admitted)")
+
+
+@functools.lru_cache(maxsize=None)
+def tool():
+    """The kit's `rt`: its words for a check, and its rules of what is a bad edit."""
+    kit = Path(subprocess.run(["rt", "doc"], capture_output=True, text=True, check=True).stdout.strip()).parent
+    sys.dont_write_bytecode = True
+    loader = importlib.machinery.SourceFileLoader("rt", str(kit / "bin/rt"))
+    made = importlib.util.module_from_spec(importlib.util.spec_from_loader("rt", loader))
+    sys.modules["rt"] = made
+    loader.exec_module(made)
+    # it works out what a crate stands on once for each way down to it: once is enough
+    for name in ("stamp", "below"):
+        setattr(made.rtlib.Crate, name, once_a_folder(getattr(made.rtlib.Crate, name)))
+    return made
+
+
+def once_a_folder(method):
+    found = {}
+
+    def known(crate):
+        if crate.folder not in found:
+            found[crate.folder] = method(crate)
+        return found[crate.folder]
+
+    return known
+
+
+class Room:
+    """A copy of a proved crate in which edits are put, with the work that its proof left."""
+
+    def __init__(self, crate, folder):
+        self.crate, self.folder, self.kept = crate, Path(folder), Path(crate.folder) / "out/incremental"
+
+    def prove(self):
+        """Proves the libraries below the crate and the crate itself, over what earlier checks left. A built library was proved."""
+        for library in self.crate.below():
+            if library.build_rlib(ONE_JOB, anew=False):
+                return f"{library.name} is not proved"
+        if self.kept.is_dir() and self.crate.is_built():
+            return None
+        self.kept.mkdir(parents=True, exist_ok=True)
+        ran = self.run(self.crate.folder, self.kept)
+        return None if ran.returncode == 0 else f"it is not proved: {ran.stdout[-300:]}"
+
+    def checked(self, texts, *flags):
+        """Runs the checker on the crate with these texts in the place of its own."""
+        copy, kept = self.folder / "crate", self.folder / "kept"
+        shutil.rmtree(copy, ignore_errors=True)
+        shutil.rmtree(kept, ignore_errors=True)
+        for part in PARTS:
+            if os.path.isdir(f"{self.crate.folder}/{part}"):
+                shutil.copytree(f"{self.crate.folder}/{part}", copy / part)
+        for path, text in texts.items():
+            (copy / path).write_text(text, encoding="utf-8")
+        # links are enough: the checker never changes a kept file, it puts a new one in its place
+        subprocess.run(["cp", "-al", self.kept, kept], check=True)
+        return self.run(copy, kept, *flags)
+
+    def run(self, folder, kept, *flags):
+        words = [tool().rtlib.RATTLE, "check", *self.crate.words(ONE_JOB, keeps=False), "--incremental", str(kept), *flags]
+        how = {"stdin": subprocess.DEVNULL, "stdout": subprocess.PIPE, "stderr": subprocess.STDOUT, "errors": "replace", "text": True}
+        return subprocess.run([*tool().rtlib.guarded(), *words], cwd=folder, **how)
+
+
+def modules_of(edits):
+    """The flags that check the functions of the files that these edits change alone; none, if that is the whole crate."""
+    words = []
+    for path in dict.fromkeys(change.path for edit in edits for change in edit.changes):
+        module = re.fullmatch(r"src/(.+)\.rt", path)
+        if not module or module[1] in ("lib", "main"):
+            return []
+        words += ["--only", module[1].replace("/", "::")]
+    return words
+
+
+def function_of(edit):
+    """The module, the type, if it is a method, and the name of the function that an edit changes; None, if that isn't one function."""
+    path = edit.changes[0].path
+    if any(change.path != path for change in edit.changes):
+        return None
+    item = item_with(text_of(ROOT / "crates" / edit.crate / path), edit.changes[0].old)
+    names = [found[1] for found in map(FUNCTION.match, item.split("\n")) if found]
+    if len(names) != 1 or any(change.old not in item for change in edit.changes):
+        return None
+    block = re.match(r"(?:unsafe )?impl(?:<.*?>)? (?:.* for )?(?:\w+::)*(\w+)", head_of(item))
+    module = path.removeprefix("src/").removesuffix(".rt").replace("/", "::")
+    return f"{edit.crate}::{module}::", block[1] if block else "", names[0]
+
+
+def is_of(function, path):
+    """Whether this path, as the checker writes it, is the function's. It joins the names of a type and of a trait."""
+    module, type_name, name = function
+    rest = path.removeprefix(module).split("::") if path.startswith(module) else [""]
+    return rest[-1] == name and (rest[0].startswith(type_name) if type_name else len(rest) == 1)
+
+
+def nothing_said(texts, ran):
+    """Why a run of the checker says nothing of the edits in these texts, or None."""
+    lines = ran.stdout.rstrip("\n").split("\n")
+    bad = next((line for line in lines if tool().unread(line, texts)), None)
+    if bad:
+        return f"BAD EDIT: the checker can't read the edited text: {bad[:300]}"
+    if tool().rtlib.STALE.search(ran.stdout):
+        return "the kept work of a library can't be used"
+    if ran.returncode not in (0, 1) or not re.match(r"logic=|only=\d+ proved=\d+", lines[-1]):
+        return f"BAD EDIT: it did not reach the prover, or the checker could not tell: {' | '.join(lines[-6:])[:900]}"
+    return None
+
+
+def places_told(lines):
+    """The errors, and the notes of open goals, each with its place in a file."""
+    told = [line for line in lines if re.match(r"(note: )?\S+:\d+:\d+:", line)]
+    return [line for line in told if ": error" in line or line.startswith("note: ")]
+
+
+def failed_in(ran):
+    """The functions that a run doesn't prove for what they do themselves, and why, by their paths."""
+    failed = re.findall(r"^fn (\S+): (?:not proved|no proof)(.*)", ran.stdout, re.M)
+    return {path: why.lstrip(": ") for path, why in failed if not why.startswith(": it calls ")}
+
+
+def refused_at(edit, ran):
+    """The function that an edit changes, if it isn't proved, or `names`, and what the checker said; else None."""
+    function, failed = function_of(edit), failed_in(ran)
+    own = [path for path in failed if function and is_of(function, path)]
+    if len(own) != 1:
+        return None
+    folder = "/".join(own[0].split("::")[1:])
+    told = [line for line in places_told(ran.stdout.split("\n")) if re.search(rf"proofs/{re.escape(folder)}/\w+\.antt:", line)]
+    open_goals = [line for line in told if not BY_NAME.match(line)]
+    if told and not open_goals and not failed[own[0]]:
+        return NAMES, told[0]
+    return own[0], failed[own[0]] or (open_goals or [""])[0]
+
+
+def alone(room, edit):
+    """The function that an edit leaves unproved, or `names`, and what the checker said; or None, and why it has no good verdict."""
+    texts, why = tool().edited(edit.text, room.crate.folder)
+    if why:
+        return None, f"BAD EDIT: {why}"
+    words = modules_of([edit])
+    ran = room.checked(texts, *words)
+    if words and ran.returncode == 0:
+        ran = room.checked(texts)
+    why = nothing_said(texts, ran)
+    if why:
+        return None, why
+    if ran.returncode == 0:
+        return None, "NOT REFUSED: the crate is still proved with this edit"
+    found = refused_at(edit, ran)
+    if found:
+        return found
+    told = places_told(ran.stdout.split("\n"))
+    if told and all(map(BY_NAME.match, told)):
+        return NAMES, told[0]
+    failed = failed_in(ran)
+    if not failed:
+        return None, f"no function is named that isn't proved: {' | '.join(told[:3])[:900]}"
+    return next(iter(failed.items()))
+
+
+def groups_of(edits):
+    """The edits in groups that change different functions, and those of which no group can tell."""
+    groups, single = [], []
+    for edit in edits:
+        function = function_of(edit)
+        free = [group for group in groups if function not in map(function_of, group)]
+        if not function:
+            single.append(edit)
+        elif free:
+            free[0].append(edit)
+        else:
+            groups.append([edit])
+    return [group for group in groups if len(group) > 1], single + [group[0] for group in groups if len(group) == 1]
+
+
+def together(room, edits):
+    """What the checker says of each of these edits, put in together; nothing of those that are to be tried alone."""
+    texts = {}
+    for change in [change for edit in edits for change in edit.changes]:
+        text = texts.get(change.path) or (Path(room.crate.folder) / change.path).read_text(encoding="utf-8")
+        texts[change.path] = text.replace(change.old, change.new)
+    ran = room.checked(texts, *modules_of(edits))
+    why = nothing_said(texts, ran)
+    if why:
+        print(f"edits: {room.crate.name}: {len(edits)} together say nothing: {why}", flush=True)
+        half = len(edits) // 2
+        return {**together(room, edits[:half]), **together(room, edits[half:])} if half > 1 else {}
+    found = {edit.name: refused_at(edit, ran) for edit in edits}
+    return {name: it for name, it in found.items() if it and it[0] != NAMES}
+
+
+def note(edit, sum_then, function, said):
+    """Writes an edit's stamp, says what came out, and returns whether the edit was refused as it must be."""
+    stamps = stamps_of(edit.crate)
+    stamps.pop(edit.name, None)
+    if function:
+        stamps[edit.name] = [edit.name, time.strftime("%Y-%m-%d"), logic(), sum_then, function]
+    write_stamps(edit.crate, stamps)
+    what = {None: "NO GOOD VERDICT", NAMES: "REFUSED BY NAMES OF A PROOF ALONE"}.get(function, f"refused at {function}")
+    print(f"edits: {edit.crate}/{edit.name}: {what}: {said}", flush=True)
+    return function not in (None, NAMES)
+
+
+def try_in(room, edits):
+    """Tries edits of a proved crate and writes their stamps. Returns how many were not refused as they must be."""
+    sums, failed = {edit.name: sum_of(edit) for edit in edits}, 0
+    groups, single = groups_of(edits)
+    for group in groups:
+        started = time.monotonic()
+        found = together(room, group)
+        print(f"edits: {room.crate.name}: {len(group)} together took {time.monotonic() - started:.0f} seconds", flush=True)
+        failed += sum(not note(edit, sums[edit.name], *found[edit.name]) for edit in group if edit.name in found)
+        single += [edit for edit in group if edit.name not in found]
+    for edit in single:
+        started = time.monotonic()
+        function, said = alone(room, edit)
+        failed += not note(edit, sums[edit.name], function, f"{said} ({time.monotonic() - started:.0f} seconds)")
+    return failed
+
+
+def try_edits(names, all_anew):
+    failed, known = 0, {crate.name: crate for crate in tool().rtlib.crates_below(str(ROOT))}
+    for name in [name for name in crates() if not names or name in names]:
+        stamps = stamps_of(name)
+        edits = [edit for edit in edits_of(name) if all_anew or fault_of(edit, stamps)]
+        if not edits:
+            continue
+        out = ROOT / "crates" / name / "out"
+        out.mkdir(exist_ok=True)
+        with tempfile.TemporaryDirectory(prefix="edits-", dir=out) as folder:
+            room, started = Room(known[name], folder), time.monotonic()
+            why = room.prove()
+            print(f"edits: {name}: {why or 'proved'}, {time.monotonic() - started:.0f} seconds; edits to try: {len(edits)}", flush=True)
+            failed += len(edits) if why else try_in(room, edits)
+    return 1 if failed else 0
+
+
+if __name__ == "__main__":
+    words = [word for word in sys.argv[1:] if word != "--all"]
+    unknown = [word for word in words if word not in crates()]
+    if unknown:
+        sys.exit(f"edits: there is no crate {unknown[0]}\n{__doc__}")
+    sys.exit(try_edits(words, "--all" in sys.argv))
