@@ -21,7 +21,7 @@ import tempfile
 import time
 from pathlib import Path
 
-from edits import FUNCTION, NAMES, ROOT, crates, edits_of, fault_of, head_of, item_with, logic, stamps_of, sum_of, text_of, write_stamps
+from edits import FUNCTION, NAMES, ROOT, crates, edits_of, fault_of, impl_of, item_with, logic, stamps_of, sum_of, text_of, write_stamps
 
 PARTS = ("src", "specs", "proofs")
 ONE_JOB = ["--jobs", "1"]
@@ -112,16 +112,15 @@ def function_of(edit):
     names = [found[1] for found in map(FUNCTION.match, item.split("\n")) if found]
     if len(names) != 1 or any(change.old not in item for change in edit.changes):
         return None
-    block = re.match(r"(?:unsafe )?impl(?:<.*?>)? (?:.* for )?(?:\w+::)*(\w+)", head_of(item))
     module = path.removeprefix("src/").removesuffix(".rt").replace("/", "::")
-    return f"{edit.crate}::{module}::", block[1] if block else "", names[0]
+    return f"{edit.crate}::{module}::", impl_of(item)[1], names[0]
 
 
 def is_of(function, path):
     """Whether this path, as the checker writes it, is the function's. It joins the names of a type and of a trait."""
     module, type_name, name = function
-    rest = path.removeprefix(module).split("::") if path.startswith(module) else [""]
-    return rest[-1] == name and (rest[0].startswith(type_name) if type_name else len(rest) == 1)
+    parts = path.split("::")
+    return parts[-1] == name and parts[-2].startswith(type_name) if type_name else path == module + name
 
 
 def nothing_said(texts, ran):

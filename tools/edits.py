@@ -25,7 +25,7 @@ NAMES = "names"
 CITED = re.compile(r"\bRattle\.(\w+)\.specs\.([^\s;{}(),]+)")
 VISIBLE = r"(?:pub(?:\(.*?\))? )?"
 FUNCTION = re.compile(rf"\s*{VISIBLE}(?:const )?(?:unsafe )?fn (\w+)")
-TRAIT = re.compile(r"(?:unsafe )?impl(?:<.*?>)? (?:\w+::)*(\w+)(?:<.*?>)? for ")
+IMPL = re.compile(r"(?:unsafe )?impl (?:(?:\w+::)*(\w+) for )?[&*]*(?:\w+::)*(\w+)")
 
 
 @dataclass
@@ -94,6 +94,15 @@ def head_of(item):
     """An item's first line, behind its attributes."""
     lines = [line.strip() for line in item.split("\n")]
     return next((line for line in lines if line and not line.startswith("#")), "")
+
+
+def impl_of(item):
+    """The trait, if there is one, and the type of an `impl`."""
+    head, plain = "", head_of(item).replace("->", "")
+    while head != plain:
+        head, plain = plain, re.sub(r"<[^<>]*>", "", plain)
+    found = IMPL.match(plain)
+    return found.groups() if found else (None, None)
 
 
 def is_block(item):
@@ -216,9 +225,9 @@ def sum_of(edit):
         text = text_of(ROOT / "crates" / edit.crate / change.path)
         item = item_with(text, change.old)
         texts += [ghost_uses(text), item]
-        trait = TRAIT.match(head_of(item))
-        if trait and trait[1] in traits(edit.crate):
-            texts.append(text_of(traits(edit.crate)[trait[1]]))
+        trait = impl_of(item)[0]
+        if trait in traits(edit.crate):
+            texts.append(text_of(traits(edit.crate)[trait]))
     known = definitions(texts)
     texts += [f"{file.relative_to(ROOT)}\n{known[file]}" for file in sorted(known)]
     return hashlib.sha256("\0".join([logic(), *texts]).encode()).hexdigest()[:32]
