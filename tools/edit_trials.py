@@ -5,8 +5,9 @@ edit_trials.py [--all] [CRATE..]    tries the edits with no stamp of today's tex
 
 Each is tried in a copy of its crate, over the work that the crate's proof left, and the functions of the changed files alone are
 checked. Edits of different functions are put in together: a function is proved of the contracts of those that it calls, so each
-changed function stands or falls by itself. Of which such a run says nothing is tried alone, and an edit that passes so is NOT
-REFUSED only if the whole crate is proved with it.
+changed function stands or falls by itself. An edit counts as refused by such a run only if the checker names a goal or an error in the
+proof of the changed function itself; the others are tried again, at last alone. An edit that passes alone is NOT REFUSED only if the
+whole crate is proved with it.
 """
 
 import functools
@@ -143,9 +144,9 @@ def places_told(lines):
 
 
 def failed_in(ran):
-    """The functions that a run doesn't prove for what they do themselves, and why, by their paths."""
+    """The functions that a run doesn't prove, by their paths, and why, but for those that call one."""
     failed = re.findall(r"^fn (\S+): (?:not proved|no proof)(.*)", ran.stdout, re.M)
-    return {path: why.lstrip(": ") for path, why in failed if not why.startswith(": it calls ")}
+    return {path: re.sub(r"[:;] it calls .*", "", why).lstrip(": ") for path, why in failed}
 
 
 def refused_at(edit, ran):
@@ -157,9 +158,9 @@ def refused_at(edit, ran):
     folder = "/".join(own[0].split("::")[1:])
     told = [line for line in places_told(ran.stdout.split("\n")) if re.search(rf"proofs/{re.escape(folder)}/\w+\.antt:", line)]
     open_goals = [line for line in told if not BY_NAME.match(line)]
-    if told and not open_goals and not failed[own[0]]:
-        return NAMES, told[0]
-    return own[0], failed[own[0]] or (open_goals or [""])[0]
+    if open_goals or failed[own[0]]:
+        return own[0], failed[own[0]] or open_goals[0]
+    return (NAMES, told[0]) if told else None
 
 
 def alone(room, edit):
@@ -185,7 +186,7 @@ def alone(room, edit):
     failed = failed_in(ran)
     if not failed:
         return None, f"no function is named that isn't proved: {' | '.join(told[:3])[:900]}"
-    return next(iter(failed.items()))
+    return next(((path, why) for path, why in failed.items() if why), next(iter(failed.items())))
 
 
 def groups_of(edits):
@@ -235,12 +236,18 @@ def try_in(room, edits):
     """Tries edits of a proved crate and writes their stamps. Returns how many were not refused as they must be."""
     sums, failed = {edit.name: sum_of(edit) for edit in edits}, 0
     groups, single = groups_of(edits)
-    for group in groups:
+    while groups:
+        group = groups.pop(0)
         started = time.monotonic()
         found = together(room, group)
         print(f"edits: {room.crate.name}: {len(group)} together took {time.monotonic() - started:.0f} seconds", flush=True)
         failed += sum(not note(edit, sums[edit.name], *found[edit.name]) for edit in group if edit.name in found)
-        single += [edit for edit in group if edit.name not in found]
+        # a function that calls one of the others is told of once that one is right
+        left = [edit for edit in group if edit.name not in found]
+        if 1 < len(left) < len(group):
+            groups.append(left)
+        else:
+            single += left
     for edit in single:
         started = time.monotonic()
         function, said = alone(room, edit)
