@@ -20,6 +20,7 @@ import subprocess
 import sys
 import tempfile
 import time
+from dataclasses import dataclass
 from pathlib import Path
 
 from edits import FUNCTION, NAMES, ROOT, crates, edits_of, fault_of, impl_of, item_with, logic, stamps_of, sum_of, text_of, write_stamps
@@ -104,8 +105,31 @@ def modules_of(edits):
     return words
 
 
+@dataclass(frozen=True)
+class Function:
+    """A function that an edit changes: its module, its type if it is a method, its name, and its cycle of calls, if it is in one."""
+
+    module: str
+    type: str
+    name: str
+    cycle: str
+
+    def is_at(self, path):
+        """Whether this path, as the checker writes it, is the function's. It joins the names of a type and of a trait."""
+        parts = path.split("::")
+        return parts[-1] == self.name and parts[-2].startswith(self.type) if self.type else path == self.module + self.name
+
+    def folder(self, path):
+        """Where its proof is, below proofs/. The functions of a cycle have one proof."""
+        return "/".join((self.module + "+" + self.cycle if self.cycle else path).split("::")[1:])
+
+    def proof(self):
+        """What no other function of a group of edits may share with it."""
+        return (self.module, self.cycle) if self.cycle else self
+
+
 def function_of(edit):
-    """The module, the type, if it is a method, and the name of the function that an edit changes; None, if that isn't one function."""
+    """The function that an edit changes; None, if that isn't one function."""
     path = edit.changes[0].path
     if any(change.path != path for change in edit.changes):
         return None
@@ -113,15 +137,9 @@ def function_of(edit):
     names = [found[1] for found in map(FUNCTION.match, item.split("\n")) if found]
     if len(names) != 1 or any(change.old not in item for change in edit.changes):
         return None
+    cycle = re.search(r"#\[cycle\((\w+)\)\]", item)
     module = path.removeprefix("src/").removesuffix(".rt").replace("/", "::")
-    return f"{edit.crate}::{module}::", impl_of(item)[1], names[0]
-
-
-def is_of(function, path):
-    """Whether this path, as the checker writes it, is the function's. It joins the names of a type and of a trait."""
-    module, type_name, name = function
-    parts = path.split("::")
-    return parts[-1] == name and parts[-2].startswith(type_name) if type_name else path == module + name
+    return Function(f"{edit.crate}::{module}::", impl_of(item)[1] or "", names[0], cycle[1] if cycle else "")
 
 
 def nothing_said(texts, ran):
@@ -152,11 +170,11 @@ def failed_in(ran):
 def refused_at(edit, ran):
     """The function that an edit changes, if it isn't proved, or `names`, and what the checker said; else None."""
     function, failed = function_of(edit), failed_in(ran)
-    own = [path for path in failed if function and is_of(function, path)]
+    own = [path for path in failed if function and function.is_at(path)]
     if len(own) != 1:
         return None
-    folder = "/".join(own[0].split("::")[1:])
-    told = [line for line in places_told(ran.stdout.split("\n")) if re.search(rf"proofs/{re.escape(folder)}/\w+\.antt:", line)]
+    folder = re.escape(function.folder(own[0]))
+    told = [line for line in places_told(ran.stdout.split("\n")) if re.search(rf"proofs/{folder}/\w+\.antt:", line)]
     open_goals = [line for line in told if not BY_NAME.match(line)]
     if open_goals or failed[own[0]]:
         return own[0], failed[own[0]] or open_goals[0]
@@ -184,24 +202,26 @@ def alone(room, edit):
     if told and all(map(BY_NAME.match, told)):
         return NAMES, told[0]
     failed = failed_in(ran)
-    if not failed:
-        return None, f"no function is named that isn't proved: {' | '.join(told[:3])[:900]}"
-    return next(((path, why) for path, why in failed.items() if why), next(iter(failed.items())))
+    if not failed or not told:
+        return None, f"nothing is told of a function that isn't proved: {' | '.join([*failed, *told[:3]])[:900]}"
+    path = next((path for path, why in failed.items() if why), next(iter(failed)))
+    return path, failed[path] or next(line for line in told if not BY_NAME.match(line))
 
 
 def groups_of(edits):
-    """The edits in groups that change different functions, and those of which no group can tell."""
+    """The edits in groups that change functions of different proofs, and those of which no group can tell."""
     groups, single = [], []
     for edit in edits:
         function = function_of(edit)
-        free = [group for group in groups if function not in map(function_of, group)]
+        free = [group for group in groups if function and function.proof() not in group]
         if not function:
             single.append(edit)
         elif free:
-            free[0].append(edit)
+            free[0][function.proof()] = edit
         else:
-            groups.append([edit])
-    return [group for group in groups if len(group) > 1], single + [group[0] for group in groups if len(group) == 1]
+            groups.append({function.proof(): edit})
+    many = [[*group.values()] for group in groups if len(group) > 1]
+    return many, single + [edit for group in groups if len(group) == 1 for edit in group.values()]
 
 
 def together(room, edits):
