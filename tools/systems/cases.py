@@ -12,7 +12,6 @@ DATA = ROOT / "crates/sq_cases/data"
 sys.path.insert(0, str(ROOT / "tools"))
 
 from print_runs import runs_of  # noqa: E402
-from run_suite import cases_below, shown, text, words_of  # noqa: E402
 
 
 class Case(NamedTuple):
@@ -48,13 +47,43 @@ def all_data_cases():
     return [case for path in sorted(DATA.glob("runs-*.txt")) for case in data_cases(path)]
 
 
-def folder_case(folder):
-    words = words_of(folder)
-    texts = {kind: [(folder / name).read_bytes() for word, name in zip(words, words[1:]) if word == f"--{kind}"] for kind in ("schema", "module")}
+def texts_in(folder):
+    """The schema and the module texts of a folder, each kind by the names of their files."""
+    files = sorted(path for path in folder.iterdir() if path.suffix.lower() == ".sql")
+    schemas = [path for path in files if path.name.startswith("schema")]
+    return [path.read_bytes() for path in schemas], [path.read_bytes() for path in files if path not in schemas]
+
+
+def setups_of(case, top):
+    """The folders that a case shares with others below a folder, the outer ones first."""
+    below = [top, *(top / path for path in reversed(case.relative_to(top).parents) if path != Path())]
+    return [folder / "setup" for folder in below if (folder / "setup").is_dir()]
+
+
+def folder_case(folder, top):
+    """A case of a folder. One that shares a setup has no wanted report here, since the setup's calls have none."""
+    setups = setups_of(folder, top)
+    schemas, modules, script = [], [], b""
+    for part in [*setups, folder]:
+        own_schemas, own_modules = texts_in(part)
+        schemas += own_schemas
+        modules += own_modules
+        script += (part / "script.txt").read_bytes() if (part / "script.txt").exists() else b""
     report = folder / "report.txt"
-    wanted = text(report) if report.exists() and not (folder / "refusal.txt").exists() else None
-    return Case(str(shown(folder)), texts["schema"], texts["module"], (folder / "script.txt").read_bytes(), wanted, {})
+    wanted = report.read_bytes().decode("latin-1") if report.exists() and not setups else None
+    return Case(str(shown(folder)), schemas, modules, script, wanted, {})
+
+
+def shown(case):
+    """A case's name: its path below the folder where the command runs, if it is below it."""
+    here = Path.cwd()
+    return case.relative_to(here) if case.is_relative_to(here) else case
+
+
+def cases_below(top):
+    return sorted(path.parent for path in top.rglob("script.txt") if path.parent.name != "setup")
 
 
 def folder_cases(folders):
-    return [folder_case(folder) for folder in cases_below(Path(folder).resolve() for folder in folders)]
+    tops = [Path(folder).resolve() for folder in folders]
+    return [folder_case(case, top) for top in tops for case in cases_below(top)]
