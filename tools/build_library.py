@@ -1,8 +1,8 @@
 #!/usr/bin/env python3
-"""Builds the library for host programs, libsqmod.a: the proved archive of crates/sq_host_c, host/sqmod.c, and what the kit calls
-of the C library.
+"""Builds the libraries for host programs, libsqmod.a and libsqmod.so: the proved archive of crates/sq_host_c, host/sqmod.c, and what
+the kit calls of the C library.
 
-build_library.py FOLDER: leaves FOLDER/libsqmod.a. Where `rt ci` has just left the libraries of all crates below, crates/sq_host_c is
+build_library.py FOLDER: leaves FOLDER/libsqmod.a and FOLDER/libsqmod.so, whose soname is libsqmod.so.0. Where `rt ci` has just left the libraries of all crates below, crates/sq_host_c is
 proved and built over these. Else `rt lib` does it, and first proves the libraries that no earlier command did.
 """
 
@@ -19,6 +19,8 @@ CRATE = ROOT / "crates" / NAME
 ARCHIVE = CRATE / f"out/lib{NAME}.a"
 COMPILER = os.environ.get("CC", "cc")
 FLAGS = ["-std=c99", "-Wall", "-Wextra", "-O2", "-fPIC"]
+SONAME = "libsqmod.so.0"
+EXPORTS = "{ global: sqmod_*; local: *; };\n"
 
 
 def kit():
@@ -77,14 +79,18 @@ def archive():
 
 
 def build(folder, proved=None):
-    """Makes libsqmod.a in a folder. `proved` stands for the archive of the crate, where it is given."""
-    library = Path(folder) / "libsqmod.a"
+    """Makes both libraries in a folder and returns the static one. `proved` stands for the archive of the crate, where it is given."""
+    library, shared = Path(folder) / "libsqmod.a", Path(folder) / "libsqmod.so"
     proved = Path(proved) if proved else archive()
     with tempfile.TemporaryDirectory() as room:
         layer = Path(room) / "sqmod.o"
         subprocess.run([COMPILER, *FLAGS, "-c", ROOT / "host/sqmod.c", "-o", layer], check=True)
         script = f"create {library}\naddmod {layer}\naddlib {proved}\naddlib {kit()}/c/liblibc_c.a\nsave\nend\n"
         subprocess.run(["ar", "-M"], input=script, text=True, check=True)
+        names = Path(room) / "names"
+        names.write_text(EXPORTS)
+        links = ["-shared", f"-Wl,-soname,{SONAME}", f"-Wl,--version-script={names}", "-Wl,--no-undefined"]
+        subprocess.run([COMPILER, *links, layer, library, "-o", shared], check=True)
     return library
 
 
