@@ -17,7 +17,8 @@ decimal.Decimal; a str; None for a null.
 A status is no exception: 23000 is a reply like any other. Exceptions are for what could not be asked: Refused for a text that
 is refused, ValueError for values that don't fit, AttributeError for a procedure that does not exist, MemoryError.
 
-The library is looked for under the path in SQMOD_LIBRARY, then beside this file and in ../lib, then where the system looks.
+The library is looked for under the path in SQMOD_LIBRARY, then beside this file, in the two folders above it and in ../lib, then
+where the system looks.
 """
 
 import ctypes
@@ -87,7 +88,7 @@ class Reply(NamedTuple):
 def load():
     """The library, with the types of its functions."""
     here = Path(__file__).resolve().parent
-    places = [os.environ.get("SQMOD_LIBRARY"), here / NAME, here.parent / "lib" / NAME]
+    places = [os.environ.get("SQMOD_LIBRARY"), here / NAME, *(folder / NAME for folder in here.parents[:2]), here.parent / "lib" / NAME]
     found = next((str(place) for place in places if place and Path(place).exists()), NAME)
     library = ctypes.CDLL(found)
     for name, types in FUNCTIONS.items():

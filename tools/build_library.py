@@ -2,8 +2,8 @@
 """Builds the libraries for host programs, libsqmod.a and libsqmod.so: the proved archive of crates/sq_host_c, host/sqmod.c, and what
 the kit calls of the C library.
 
-build_library.py FOLDER: leaves FOLDER/libsqmod.a and FOLDER/libsqmod.so, whose soname is libsqmod.so.0. Where `rt ci` has just left the libraries of all crates below, crates/sq_host_c is
-proved and built over these. Else `rt lib` does it, and first proves the libraries that no earlier command did.
+build_library.py FOLDER: leaves FOLDER/libsqmod.a and FOLDER/libsqmod.so, whose soname is libsqmod.so.0. Where `rt ci` has just left
+the libraries of all crates below, crates/sq_host_c is proved and built over these. Else `rt lib` does it, and first proves the libraries that no earlier command did.
 """
 
 import os
