@@ -57,7 +57,6 @@ class Outcome:
     differences: list = field(default_factory=list)
     unsaid: list = field(default_factory=list)
     counts: Counter = field(default_factory=Counter)
-    report: list = field(default_factory=list)
 
     @property
     def verdict(self):
@@ -118,11 +117,9 @@ class Comparison:
         if wanted.status == "42000" and self.is_of_the_module(statement, cursor, fault):
             self.outcome.counts["module"] += 1
             return True
-        found = Answer(unsaid=self.untried(item, wanted, cursor, fault))
-        if found.unsaid is None:
-            found = self.trial.answer(item)
-        self.outcome.report += found.lines(item)
-        if found.unsaid is not None and not (wanted.status == found.status == "42000" or wanted.status == "42000" and same_status("42000", found.status)):
+        reason = self.untried(item, wanted, cursor, fault)
+        found = self.trial.answer(item) if reason is None else Answer(unsaid=reason)
+        if found.unsaid is not None and not (wanted.status == "42000" and same_status("42000", found.status)):
             return self.untold(found.unsaid, statement, wanted, cursor)
         self.note(statement, cursor, wanted)
         return self.told(Difference(self.kind_of(wanted, found), line, item, statement, wanted, found, fault, self.declared(item, statement),
