@@ -11,7 +11,7 @@ from dataclasses import dataclass, field
 from typing import NamedTuple
 
 from performing import Answer, Trial
-from trees import Call, Close, CurrentOf, Delete, Fetch, Insert, Open, SelectInto, Update
+from trees import Call, Close, CurrentOf, Delete, Fetch, Insert, Open, SelectInto, TableName, Update, within
 from writing import Unsayable
 
 DONE = ("00000", "01004", "02000")
@@ -153,9 +153,9 @@ class Comparison:
         return None
 
     def is_of_others(self, item):
-        """Whether a call is about tables of another user than its module's."""
-        user = self.trial.modules[item.module].user
-        return f"schema={user!r}" not in (shown := repr(self.trial.statement(item))) and "schema='" in shown
+        """Whether a call names tables of other users than its module's, and none of its own."""
+        schemas = {table.schema for table in within(self.trial.statement(item), TableName)} - {None}
+        return bool(schemas) and self.trial.modules[item.module].user not in schemas
 
     def declared(self, item, statement):
         where = getattr(statement, "where", None)

@@ -42,9 +42,9 @@ TOOL = """
 ## What is compared, and what is not
 
 - A text is read by `tools/plain_reading.py` and written in the system's words: each name in quotes, each table with its schema,
-  constraints but NOT NULL behind the columns, parameters as `CAST(? AS type)` (SQLite: `?`; PostgreSQL: the value in
-  place of `?`). A PostgreSQL session becomes the module's user for each call, one of HSQLDB between transactions. SQLite, H2 and Derby, and HSQLDB where users alternate in a
-  transaction, are asked by one user; there a call that a privilege decides is not tried.
+  constraints but NOT NULL behind the columns, parameters as `CAST(? AS type)` (SQLite: `?`; PostgreSQL: the value in place of
+  `?`). A PostgreSQL session becomes the module's user for each call, one of HSQLDB between transactions. SQLite, H2 and Derby,
+  and HSQLDB where users alternate in a transaction, are asked by one user; there a call that a privilege decides is not tried.
 - OPEN and FETCH are DECLARE and FETCH in PostgreSQL, and a result that is read row by row elsewhere; WHERE CURRENT OF is a
   statement in PostgreSQL and Derby, and a change of the result's row in HSQLDB and H2. SQLite has none.
 - No system has the module language. So `tools/systems/performing.py` does what belongs to parameters: their types, indicators,

@@ -6,9 +6,9 @@ number of rows. Where a system doesn't know cursors by name, it is also known he
 from decimal import ROUND_DOWN, Decimal, getcontext
 from typing import NamedTuple
 
+from system import Refused
 from texts import Reader
 from trees import Call, CurrentOf, Number
-from system import Refused
 from writing import Faulty, Unsayable
 
 CODES = {"00000": 0, "01004": 0, "02000": 100, "21000": -2100, "22001": -2201, "22002": -2202, "22003": -2203, "22012": -2212, "22019": -2219,

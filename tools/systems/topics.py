@@ -3,7 +3,7 @@
 import re
 from typing import NamedTuple
 
-from trees import CurrentOf, Delete, Fetch, Insert, Open, Select, SelectInto, Union, Update
+from trees import CurrentOf, Delete, Fetch, Insert, Open, Select, SelectInto, Union, Update, User, within
 
 PIECE = re.compile(r"(?:\w+=)?(?:'(?:[^']|'')*'|[^ ]+)")
 DONE = ("00000", "01004", "02000")
@@ -222,7 +222,7 @@ def of_one_sided(system, difference, wanted, found):
 def of_rows(difference):
     """Where one finds a row and the other doesn't, or where a text is cut by one alone."""
     if "02000" not in (difference.wanted.status, difference.found.status):
-        return "user" if "User()" in repr(difference.statement) else "stored-texts"
+        return "user" if next(within(difference.statement, User), None) is not None else "stored-texts"
     if isinstance(difference.statement, Fetch):
         return "cursor-changes" if difference.after_change else "order" if difference.found.values in difference.peers else "padding"
     if isinstance(getattr(difference.statement, "where", None), CurrentOf):
