@@ -11,7 +11,7 @@ from dataclasses import dataclass, field
 from typing import NamedTuple
 
 from performing import Answer, Trial
-from trees import Call, Close, CurrentOf, Delete, Fetch, Insert, Open, SelectInto, Update
+from trees import Call, Close, CurrentOf, Delete, Fetch, Insert, Open, SelectInto, TableName, Update, within
 from writing import Unsayable
 
 DONE = ("00000", "01004", "02000")
@@ -57,7 +57,6 @@ class Outcome:
     differences: list = field(default_factory=list)
     unsaid: list = field(default_factory=list)
     counts: Counter = field(default_factory=Counter)
-    report: list = field(default_factory=list)
 
     @property
     def verdict(self):
@@ -118,11 +117,9 @@ class Comparison:
         if wanted.status == "42000" and self.is_of_the_module(statement, cursor, fault):
             self.outcome.counts["module"] += 1
             return True
-        found = Answer(unsaid=self.untried(item, wanted, cursor, fault))
-        if found.unsaid is None:
-            found = self.trial.answer(item)
-        self.outcome.report += found.lines(item)
-        if found.unsaid is not None and not (wanted.status == found.status == "42000" or wanted.status == "42000" and same_status("42000", found.status)):
+        reason = self.untried(item, wanted, cursor, fault)
+        found = self.trial.answer(item) if reason is None else Answer(unsaid=reason)
+        if found.unsaid is not None and not (wanted.status == "42000" and same_status("42000", found.status)):
             return self.untold(found.unsaid, statement, wanted, cursor)
         self.note(statement, cursor, wanted)
         return self.told(Difference(self.kind_of(wanted, found), line, item, statement, wanted, found, fault, self.declared(item, statement),
@@ -156,9 +153,9 @@ class Comparison:
         return None
 
     def is_of_others(self, item):
-        """Whether a call is about tables of another user than its module's."""
-        user = self.trial.modules[item.module].user
-        return f"schema={user!r}" not in (shown := repr(self.trial.statement(item))) and "schema='" in shown
+        """Whether a call names tables of other users than its module's, and none of its own."""
+        schemas = {table.schema for table in within(self.trial.statement(item), TableName)} - {None}
+        return bool(schemas) and self.trial.modules[item.module].user not in schemas
 
     def declared(self, item, statement):
         where = getattr(statement, "where", None)

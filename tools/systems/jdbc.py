@@ -6,8 +6,8 @@ from contextlib import suppress
 from decimal import Decimal
 from pathlib import Path
 
-from trees import Delete, Null, Number, Parameter, Text
 from system import Refused, Result, System
+from trees import Delete, Null, Number, Parameter, Text
 from writing import Unsayable, Writer
 
 SECONDS = 30

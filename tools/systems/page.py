@@ -1,5 +1,6 @@
 """Makes docs/SYSTEMS.md of the results."""
 
+import textwrap
 from collections import Counter
 from pathlib import Path
 
@@ -9,25 +10,29 @@ from topics import TOPICS
 PAGE = Path(__file__).resolve().parents[2] / "docs/SYSTEMS.md"
 VERDICTS = ("same", "status", "value", "not tried")
 CELL = 52
+WIDTH = 128
 REASONS = 8
 AGREEING = 3
 FRONT = """# Other systems
 
-Here other systems are held to the reports of this repository's runs: each accepted run of `crates/sq_cases/data` and each case of `examples`
-was performed on them, and what they answered stands beside what SQL-92 and, where it leaves things open, [LANGUAGE.md](LANGUAGE.md) wants. Nothing
-here is written by hand: `tools/systems/run.py --page` makes the page from `tools/systems/results`, which come of real runs. Your own cases are tried
-likewise, by the same folders that [SUITES.md](SUITES.md) describes:
+Here other systems are held to the reports of this repository's runs: each accepted run of `crates/sq_cases/data` and each case
+of `examples` was performed on them, and what they answered stands beside what SQL-92 and, where it leaves things open,
+[LANGUAGE.md](LANGUAGE.md) wants. Nothing here is written by hand: `tools/systems/run.py --page` makes the page from
+`tools/systems/results`, which come of real runs. Your own cases are tried likewise, by the same folders that
+[SUITES.md](SUITES.md) describes:
 
 ```
 python3 tools/systems/run.py examples/suite --system sqlite
 ```
 
-prints TAP. For the other systems, `tools/systems/try.sh` installs what they need from Debian's packages, and says whether they still answer what stands here.
+prints TAP. For the other systems, `tools/systems/try.sh` installs what they need from Debian's packages, and says whether they
+still answer what stands here.
 
 ## At a glance
 
-*Another status* and *another value* are said of a run by its first difference. *Not tried* are runs without a difference in which the system has no words
-for at least one call; the calls that it could be given were the same. *Said whole* are runs of which every call that was reached could be put to the system.
+*Another status* and *another value* are said of a run by its first difference. *Not tried* are runs without a difference in
+which the system has no words for at least one call; the calls that it could be given were the same. *Said whole* are runs of
+which every call that was reached could be put to the system.
 """
 BEHIND_TABLE = """
 A run is compared call by call, and behind a difference as long as the tables of both must still be the same. The calls:
@@ -36,22 +41,26 @@ A run is compared call by call, and behind a difference as long as the tables of
 TOOL = """
 ## What is compared, and what is not
 
-- A text is read by `tools/plain_reading.py` and written in the system's words: each name in quotes, each table with its schema, constraints but NOT NULL
-  behind the columns, parameters as `CAST(? AS type)` (SQLite: `?`). A PostgreSQL session becomes the module's user for each call, one of HSQLDB between transactions.
-  SQLite, H2 and Derby, and HSQLDB where users alternate in a transaction, are asked by one user; there a call that a privilege decides is not tried.
-- OPEN and FETCH are DECLARE and FETCH in PostgreSQL, and a result that is read row by row elsewhere; WHERE CURRENT OF is a statement in PostgreSQL and Derby, and
-  a change of the result's row in HSQLDB and H2. SQLite has none.
-- No system has the module language. So `tools/systems/performing.py` does what belongs to parameters: their types, indicators, 01004, 22002 and 22003 in retrieving,
-  02000 and 21000 from the number of rows, SQLCODE, and, but for PostgreSQL, 24000 where a cursor is open or closed. Faults of parameters, targets and cursors'
-  names are not put to a system.
-- SQLSTATE is the system's. It is the same where class and subclass are, and where a system gives a subclass of its own in a class whose subclass 000 is
-  wanted: 23505 is 23000. SQLite has none: its errors of preparing count as 42000, its constraints as 23000.
-- A statement that is wanted to be taken and that a system refuses as no statement (class 42, 0A and the like) is one that it can't say. The rows of TABLE may come in any order.
+- A text is read by `tools/plain_reading.py` and written in the system's words: each name in quotes, each table with its schema,
+  constraints but NOT NULL behind the columns, parameters as `CAST(? AS type)` (SQLite: `?`; PostgreSQL: the value in place of
+  `?`). A PostgreSQL session becomes the module's user for each call, one of HSQLDB between transactions. SQLite, H2 and Derby,
+  and HSQLDB where users alternate in a transaction, are asked by one user; there a call that a privilege decides is not tried.
+- OPEN and FETCH are DECLARE and FETCH in PostgreSQL, and a result that is read row by row elsewhere; WHERE CURRENT OF is a
+  statement in PostgreSQL and Derby, and a change of the result's row in HSQLDB and H2. SQLite has none.
+- No system has the module language. So `tools/systems/performing.py` does what belongs to parameters: their types, indicators,
+  01004, 22002 and 22003 in retrieving, 02000 and 21000 from the number of rows, SQLCODE, and, but for PostgreSQL, 24000 where a
+  cursor is open or closed. Faults of parameters, targets and cursors' names are not put to a system.
+- SQLSTATE is the system's. It is the same where class and subclass are, and where a system gives a subclass of its own in a
+  class whose subclass 000 is wanted: 23505 is 23000. SQLite has none: its errors of preparing count as 42000, its constraints
+  as 23000.
+- A statement that is wanted to be taken and that a system refuses as no statement (class 42, 0A and the like) is one that it
+  can't say. The rows of TABLE may come in any order.
 
 """
 BY_TOPIC = """## By topic
 
-The number of runs that show a topic; a run may show several. *Left open* is what the standard leaves to the implementer: there the rule is sqmod's own.
+The number of runs that show a topic; a run may show several. *Left open* is what the standard leaves to the implementer: there
+the rule is sqmod's own.
 
 """
 OTHERWISE = f"""
@@ -83,7 +92,7 @@ def counted(record):
 def glance(records):
     names = {name for each in records for name in [*each["same"], *each["cases"]]}
     examples = sum(name.startswith("examples/") for name in names)
-    told = f"There are {len(names) - examples} runs of the data and {examples} examples.\n\n"
+    told = f"\nThere are {len(names) - examples} runs of the data and {examples} examples.\n\n"
     rows = [[each["system"], each["version"], each["day"], *counted(each)] for each in records]
     calls = [[each["system"], *(each["calls"].get(kind, 0) for kind in VERDICTS), each["calls"].get("module", 0)] for each in records]
     return (told + table(["System", "Version", "Day", "Same", "Another status", "Another value", "Not tried", "Said whole"], rows) + BEHIND_TABLE
@@ -112,7 +121,8 @@ def section(key, records):
         if found := showing(each, key):
             _, name, (line, wanted, answered, message) = found[0]
             rows.append([each["system"], len(found), cell(f"{name}:{line}"), cell(wanted), cell(answered), cell(message)])
-    return f"### {TOPICS[key].title}\n\n{TOPICS[key].rule}\n\n" + table(["System", "Runs", "Smallest run, line", "Wanted", "Found", "Its words"], rows)
+    rule = textwrap.fill(TOPICS[key].rule, WIDTH, break_long_words=False, break_on_hyphens=False)
+    return f"### {TOPICS[key].title}\n\n{rule}\n\n" + table(["System", "Runs", "Smallest run, line", "Wanted", "Found", "Its words"], rows)
 
 
 def untried(record):

@@ -6,9 +6,9 @@ number of rows. Where a system doesn't know cursors by name, it is also known he
 from decimal import ROUND_DOWN, Decimal, getcontext
 from typing import NamedTuple
 
+from system import Refused
 from texts import Reader
 from trees import Call, CurrentOf, Number
-from system import Refused
 from writing import Faulty, Unsayable
 
 CODES = {"00000": 0, "01004": 0, "02000": 100, "21000": -2100, "22001": -2201, "22002": -2202, "22003": -2203, "22012": -2212, "22019": -2219,
@@ -56,7 +56,8 @@ class Stopped(Exception):
 
 
 def whole(domain, value):
-    """A text in the length of its type."""
+    """A text in the length of its type. Of an argument that is longer, only blanks go."""
+    value = value[: domain.size]
     return value.ljust(domain.size) if domain.name == "CHARACTER" else value
 
 
@@ -82,7 +83,7 @@ def retrieved(domain, value):
         raise Stopped("22005")
     if not domain.is_text:
         return stored_number(domain, value), 0
-    return whole(domain, value[: domain.size]), len(value) if len(value) > domain.size else 0
+    return whole(domain, value), len(value) if len(value) > domain.size else 0
 
 
 def written(value):
@@ -268,6 +269,19 @@ class Trial:
                 found[target.indicator] = stored_number(domains[target.indicator], Decimal(indicates))
         values = "".join(f" {name}={written(found[name])}" for name in domains if name in found)
         return Answer("01004" if cut else "00000", values)
+
+
+def performed(system, case):
+    """The lines of a system's report of a case."""
+    trial = Trial(system, case)
+    try:
+        trial.begin()
+        for item in trial.script:
+            yield from trial.answer(item).lines(item)
+    except Unsayable as reason:
+        yield f"not tried: {reason}"
+    finally:
+        system.end()
 
 
 def shown_value(domain, value):

@@ -22,7 +22,10 @@ from pathlib import Path
 from cases import ROOT, all_data_cases, data_cases, folder_cases
 from comparing import compared
 from page import PAGE, made_page
+from performing import performed
+from plain_reading import Refusal
 from results import SYSTEMS, changes, record_of, results_of, unknown, write_results
+from terms import Misplaced
 
 
 @contextmanager
@@ -63,8 +66,11 @@ def tap(system, cases):
 
 def reports(system, cases):
     for case in cases:
-        if case.wanted is not None:
-            print(f"# {case.name}", *compared(system, case).report, sep="\n")
+        print(f"# {case.name}")
+        try:
+            print(*performed(system, case), sep="\n")
+        except (Misplaced, Refusal):
+            print("not tried: a text that sqmod refuses")
 
 
 def check(name):

@@ -5,8 +5,8 @@ SQLite refuses to prepare is given 42000 here, its constraints 23000, and a few 
 import sqlite3
 from decimal import Decimal
 
-from trees import Bracket, Union
 from system import Refused, Result, System
+from trees import Bracket, Union
 from writing import CorrelatedWriter, Unsayable
 
 # What is in a message, and the state of it.

@@ -3,7 +3,7 @@
 import re
 from typing import NamedTuple
 
-from trees import CurrentOf, Delete, Fetch, Insert, Open, Select, SelectInto, Union, Update
+from trees import CurrentOf, Delete, Fetch, Insert, Open, Select, SelectInto, Union, Update, User, within
 
 PIECE = re.compile(r"(?:\w+=)?(?:'(?:[^']|'')*'|[^ ]+)")
 DONE = ("00000", "01004", "02000")
@@ -174,7 +174,8 @@ OF_RUNS = (
 def topic(system, case, difference):
     """The topic of a difference."""
     if difference.kind == "value":
-        return of_values(difference)
+        key = of_values(difference)
+        return "user" if key == "stored-texts" and is_of_user(system, case, difference) else key
     wanted, found = difference.wanted.status, difference.found.status
     if wanted == "42000":
         named = next((key for part, key in OF_RUNS if part in case.name), "other")
@@ -221,7 +222,7 @@ def of_one_sided(system, difference, wanted, found):
 def of_rows(difference):
     """Where one finds a row and the other doesn't, or where a text is cut by one alone."""
     if "02000" not in (difference.wanted.status, difference.found.status):
-        return "user" if "User()" in repr(difference.statement) else "stored-texts"
+        return "user" if next(within(difference.statement, User), None) is not None else "stored-texts"
     if isinstance(difference.statement, Fetch):
         return "cursor-changes" if difference.after_change else "order" if difference.found.values in difference.peers else "padding"
     if isinstance(getattr(difference.statement, "where", None), CurrentOf):
@@ -250,6 +251,13 @@ def is_of_null(difference):
     place = int(by) - 1 if by.isdigit() else names.index(by) if by in names else 0
     mark = f" {difference.statement.targets[place].name}=NULL"
     return (mark in difference.wanted.values) != (mark in difference.found.values)
+
+
+def is_of_user(system, case, difference):
+    """Whether a text differs by the blanks that USER has here."""
+    wanted, found = differing(difference)[0]
+    says_user = any(re.search(rb"\buser\b", text, re.I) for text in [*case.schemas, *case.modules])
+    return system != "SQLite" and says_user and len(wanted) == 20 and found == "'" + wanted.strip("' ") + "'"
 
 
 def names_gone(values):

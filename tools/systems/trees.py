@@ -304,3 +304,12 @@ class Call(NamedTuple):
 
 class Show(NamedTuple):
     table: TableName
+
+
+def within(tree, kind):
+    """All trees of a kind in a tree."""
+    if isinstance(tree, kind):
+        yield tree
+    elif isinstance(tree, (tuple, list)):
+        for part in tree:
+            yield from within(part, kind)
