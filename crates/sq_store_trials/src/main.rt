@@ -31,17 +31,17 @@ const SMALL: Bench = Bench {
 
 /// What the words of the command line ask for.
 #[derive(Clone, Copy)]
-enum Asked {
+enum Request {
     Trials,
     Work(Bench),
     Both,
 }
 
 fn main(rt: HostRuntime) -> io::Result<()> {
-    match asked(&rt)? {
-        Asked::Trials => trials::make(&rt),
-        Asked::Work(bench) => do_work(&rt, &bench),
-        Asked::Both => {
+    match request_of(&rt)? {
+        Request::Trials => trials::make(&rt),
+        Request::Work(bench) => do_work(&rt, &bench),
+        Request::Both => {
             trials::make(&rt)?;
             do_work(&rt, &SMALL)
         }
@@ -55,12 +55,12 @@ fn do_work<R: Print + Clock + AllocGlobal>(rt: &R, bench: &Bench) -> io::Result<
 }
 
 /// A number that is left out or can't be read is 0.
-fn asked<R: Env + AllocGlobal>(rt: &R) -> io::Result<Asked> {
+fn request_of<R: Env + AllocGlobal>(rt: &R) -> io::Result<Request> {
     let mut words = env::args(rt)?.skip(1);
     match words.next() {
-        None => Ok(Asked::Trials),
-        Some(word) if word.as_str() == "both" => Ok(Asked::Both),
-        rows => Ok(Asked::Work(Bench {
+        None => Ok(Request::Trials),
+        Some(word) if word.as_str() == "both" => Ok(Request::Both),
+        rows => Ok(Request::Work(Bench {
             rows: number_of(rows),
             changes: number_of(words.next()),
             keys: number_of(words.next()) as usize,
