@@ -3,7 +3,7 @@
 ghost use Rattle.std.specs.Prelude.{IsTrue};
 ghost use Rattle.sqmod.specs.Request.{NamesFile};
 
-use crate::command_line::{Request, Task, read_task};
+use crate::command_line::{CheckRequest, Request, Task, read_task};
 use crate::fault::{Fault, Source};
 use crate::recorder::Recorder;
 use crate::texts::read_texts;
@@ -105,8 +105,29 @@ fn reads_what_is_explained(rt: HostRuntime) -> Result<(), Fail> {
     Ok(())
 }
 
+/// Whether a line asks for what binds the modules `m` and `n` to C, or else to COBOL.
+fn asks_to_bind(alloc: Global, line: &str, to_c: bool) -> Result<bool, Fail> {
+    let words = words_of(alloc, line)?;
+    match read_task(alloc, words.as_slice())? {
+        Task::BindC(request) => Ok(to_c && is_of_modules(&request)),
+        Task::BindCobol(request) => Ok(!to_c && is_of_modules(&request)),
+        _ => Ok(false),
+    }
+}
+
+fn is_of_modules(request: &CheckRequest<'_>) -> bool {
+    request.schemas.is_empty() && request.modules.as_slice() == ["m", "n"].as_slice()
+}
+
+#[test]
+fn reads_what_is_bound(rt: HostRuntime) -> Result<(), Fail> {
+    assert!(rt; asks_to_bind(rt.alloc(), "sqmod bind-c --module m --module=n", true)?);
+    assert!(rt; asks_to_bind(rt.alloc(), "sqmod bind-cobol --module m --module=n", false)?);
+    Ok(())
+}
+
 /// Lines that are refused, with what is printed.
-const REFUSED: [(&str, &str); 12] = [
+const REFUSED: [(&str, &str); 13] = [
     (
         "sqmod run",
         "error: the following required arguments were not provided:
@@ -166,7 +187,7 @@ For more information, try '--help'.
     (
         "sqmod",
         "error: 'sqmod' requires a subcommand but one was not provided
-  [subcommands: run, check, explain, help]
+  [subcommands: run, check, explain, bind-c, bind-cobol, help]
 
 Usage: sqmod <COMMAND>
 
@@ -180,10 +201,12 @@ For more information, try '--help'.
 Usage: sqmod <COMMAND>
 
 Commands:
-  run      Runs a script
-  check    Says which calls answer 42000 and why, and which cursors and views are updatable
-  explain  Explains a status, a refusal or a fault, or lists their names
-  help     Print this message or the help of the given subcommand(s)
+  run         Runs a script
+  check       Says which calls answer 42000 and why, and which cursors and views are updatable
+  explain     Explains a status, a refusal or a fault, or lists their names
+  bind-c      Prints a header for C with a function for each procedure
+  bind-cobol  Prints a copybook for COBOL with a paragraph for each procedure
+  help        Print this message or the help of the given subcommand(s)
 
 Options:
   -h, --help  Print help
@@ -213,6 +236,16 @@ Options:
       --schema <F>  A file with schemas
       --module <F>  A file with a module
   -h, --help        Print help
+",
+    ),
+    (
+        "sqmod bind-c",
+        "error: the following required arguments were not provided:
+  --module <F>
+
+Usage: sqmod bind-c --module <F>
+
+For more information, try '--help'.
 ",
     ),
     (
