@@ -119,3 +119,17 @@ no_folder = refl
 version : fault_of sqmod (codes "sqmod" ∷ codes "--version" ∷ []) ≡ DisplayVersion ∷ []
 unfolding clap_on_literals
 version = refl
+
+binds_c : checked (codes "sqmod" ∷ codes "bind-c" ∷ codes "--module" ∷ codes "m" ∷ codes "--module=n" ∷ [])
+    ≡ Some (codes "bind-c", [], codes "m" ∷ codes "n" ∷ [])
+unfolding clap_on_literals checked
+binds_c = refl
+
+binds_cobol : checked (codes "sqmod" ∷ codes "bind-cobol" ∷ codes "--module" ∷ codes "m" ∷ [])
+    ≡ Some (codes "bind-cobol", [], codes "m" ∷ [])
+unfolding clap_on_literals checked
+binds_cobol = refl
+
+no_module : fault_of sqmod (codes "sqmod" ∷ codes "bind-c" ∷ []) ≡ MissingRequiredArgument ∷ []
+unfolding clap_on_literals
+no_module = refl

@@ -40,8 +40,14 @@ explain_level = unwrap_or (slice_get whole.subs 2) (new_shape [])
 abbrev test_level : Shape
 test_level = unwrap_or (slice_get whole.subs 3) (new_shape [])
 
+abbrev bind_c_level : Shape
+bind_c_level = unwrap_or (slice_get whole.subs 4) (new_shape [])
+
+abbrev bind_cobol_level : Shape
+bind_cobol_level = unwrap_or (slice_get whole.subs 5) (new_shape [])
+
 abbrev help_level : Shape
-help_level = unwrap_or (slice_get whole.subs 4) (new_shape [])
+help_level = unwrap_or (slice_get whole.subs 6) (new_shape [])
 
 pub is_simple_command : is_simple sqmod ≡ true
 is_simple_command = refl
@@ -94,11 +100,10 @@ pub record MeetsOne (met : Option (Text × List Row)) : Type 0 where
   pub known : is_subcommand name ≡ true
   pub sound : bytes_eq name (codes "run") ≡ true → IsSoundRun rows
 
-abbrev level_by : Bool → Bool → Bool → Bool → Bool → Option Shape
-level_by is_run is_check is_explain is_test is_help =
-    cond is_run (Some run_level)
-    (cond is_check (Some check_level)
-    (cond is_explain (Some explain_level) (cond is_test (Some test_level) (cond is_help (Some help_level) None))))
+abbrev level_by : Bool → Bool → Bool → Bool → Bool → Bool → Bool → Option Shape
+level_by is_run is_check is_explain is_test is_c is_cobol is_help =
+    cond is_run (Some run_level) (cond is_check (Some check_level) (cond is_explain (Some explain_level) (cond is_test (Some test_level)
+    (cond is_c (Some bind_c_level) (cond is_cobol (Some bind_cobol_level) (cond is_help (Some help_level) None))))))
 
 is_one : is_subcommand (codes "run") ≡ true
 unfolding clap_on_literals
@@ -128,27 +133,48 @@ test_is_other : bytes_eq (codes "test") (codes "run") ≡ false
 unfolding clap_on_literals
 test_is_other = refl
 
+bind_c_is_one : is_subcommand (codes "bind-c") ≡ true
+unfolding clap_on_literals
+bind_c_is_one = refl
+
+bind_c_is_other : bytes_eq (codes "bind-c") (codes "run") ≡ false
+unfolding clap_on_literals
+bind_c_is_other = refl
+
+bind_cobol_is_one : is_subcommand (codes "bind-cobol") ≡ true
+unfolding clap_on_literals
+bind_cobol_is_one = refl
+
+bind_cobol_is_other : bytes_eq (codes "bind-cobol") (codes "run") ≡ false
+unfolding clap_on_literals
+bind_cobol_is_other = refl
+
 met_one : (own : List Row) (stop : Option (Text × List Text)) → IsPastHelp whole.top stop → entered_fault whole stop ≡ []
     → check_fault whole.top own (is_some (entered whole stop)) ≡ [] → MeetsOne (entered whole stop)
 met_one own None past under checked = some_kind _ _ checked
 met_one own (Some p) past under checked =
     go (answers_to p.0 (label_of run_level)) (answers_to p.0 (label_of check_level)) (answers_to p.0 (label_of explain_level))
-    (answers_to p.0 (label_of test_level)) (answers_to p.0 (label_of help_level)) (no_help p.0 (past refl)) under checked
+    (answers_to p.0 (label_of test_level)) (answers_to p.0 (label_of bind_c_level)) (answers_to p.0 (label_of bind_cobol_level))
+    (answers_to p.0 (label_of help_level)) (no_help p.0 (past refl)) under checked
   where
-    go : (is_run is_check is_explain is_test is_help : Bool) → (is_help ≡ true → ⊥)
-        → option_map_or (λ s. level_fault s [] nothing_held p.1 false []) (level_by is_run is_check is_explain is_test is_help) [] ≡ []
-        → check_fault whole.top own (is_some (option_map (λ s. rows_at s p.1) (level_by is_run is_check is_explain is_test is_help))) ≡ []
-        → MeetsOne (option_map (λ s. rows_at s p.1) (level_by is_run is_check is_explain is_test is_help))
-    go true is_check is_explain is_test is_help other e checked =
+    go : (is_run is_check is_explain is_test is_c is_cobol is_help : Bool) → (is_help ≡ true → ⊥)
+        → option_map_or (λ s. level_fault s [] nothing_held p.1 false []) (level_by is_run is_check is_explain is_test is_c is_cobol is_help) [] ≡ []
+        → check_fault whole.top own (is_some (option_map (λ s. rows_at s p.1) (level_by is_run is_check is_explain is_test is_c is_cobol is_help))) ≡ []
+        → MeetsOne (option_map (λ s. rows_at s p.1) (level_by is_run is_check is_explain is_test is_c is_cobol is_help))
+    go true is_check is_explain is_test is_c is_cobol is_help other e checked =
         record { name = codes "run"; rows = (rows_at run_level p.1).1; is = refl; known = is_one; sound = λ _. sound_run p.1 e }
-    go false true is_explain is_test is_help other e checked =
+    go false true is_explain is_test is_c is_cobol is_help other e checked =
         record { name = codes "check"; rows = (rows_at check_level p.1).1; is = refl; known = check_is_one; sound = λ same. absurd (true≢false (sym same ∙ check_is_other)) }
-    go false false true is_test is_help other e checked =
+    go false false true is_test is_c is_cobol is_help other e checked =
         record { name = codes "explain"; rows = (rows_at explain_level p.1).1; is = refl; known = explain_is_one; sound = λ same. absurd (true≢false (sym same ∙ explain_is_other)) }
-    go false false false true is_help other e checked =
+    go false false false true is_c is_cobol is_help other e checked =
         record { name = codes "test"; rows = (rows_at test_level p.1).1; is = refl; known = test_is_one; sound = λ same. absurd (true≢false (sym same ∙ test_is_other)) }
-    go false false false false true other e checked = absurd (other refl)
-    go false false false false false other e checked = some_kind _ _ checked
+    go false false false false true is_cobol is_help other e checked =
+        record { name = codes "bind-c"; rows = (rows_at bind_c_level p.1).1; is = refl; known = bind_c_is_one; sound = λ same. absurd (true≢false (sym same ∙ bind_c_is_other)) }
+    go false false false false false true is_help other e checked =
+        record { name = codes "bind-cobol"; rows = (rows_at bind_cobol_level p.1).1; is = refl; known = bind_cobol_is_one; sound = λ same. absurd (true≢false (sym same ∙ bind_cobol_is_other)) }
+    go false false false false false false true other e checked = absurd (other refl)
+    go false false false false false false false other e checked = some_kind _ _ checked
 
 -- words with no fault name a subcommand
 pub meets_one : (words : List Text) → fault_of sqmod words ≡ [] → MeetsOne (subcommand_of sqmod words)

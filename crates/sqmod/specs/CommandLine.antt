@@ -16,7 +16,7 @@ use Rattle.sqmod.specs.declared.command_line.ExplainRequest.{ExplainRequest}
 use Rattle.sqmod.specs.declared.command_line.Request.{Request}
 use Rattle.sqmod.specs.declared.command_line.TestRequest.{TestRequest}
 use Rattle.sqmod.specs.declared.command_line.Task.{Task}
-use Rattle.sqmod.specs.declared.command_line.Task.TheVariants.{Run, Check, Explain, Test}
+use Rattle.sqmod.specs.declared.command_line.Task.TheVariants.{Run, Check, Explain, Test, BindC, BindCobol}
 use Rattle.sqmod.specs.declared.fault.Source.{Source}
 use Rattle.sqmod.specs.declared.fault.Source.TheVariants.{Schema, Module, Script}
 
@@ -111,9 +111,20 @@ of_files =
     let without = on_top (λ shape. record shape { has_version = true; subcommand_required = true }) (new_app (codes "sqmod")) in
     with_subcommand (with_subcommand without run.top) check.top
 
+-- `sqmod` with those, `explain` and `test`
+abbrev pub told : App
+told = with_subcommand (with_subcommand of_files explain.top) test.top
+
+abbrev pub modules_rule : Rule
+modules_rule = record (files_rule (codes "module")) { required = true }
+
+-- `bind-c --module F...` or `bind-cobol --module F...`
+abbrev pub bind : Text → App
+bind name = with_rule (new_app name) modules_rule
+
 -- `sqmod` with all its subcommands.
 abbrev pub sqmod : App
-sqmod = with_subcommand (with_subcommand of_files explain.top) test.top
+sqmod = with_subcommand (with_subcommand told (bind (codes "bind-c")).top) (bind (codes "bind-cobol")).top
 
 -- ---- what `run` was given
 
@@ -140,9 +151,9 @@ pub record Makes (rows : List Row) (request : Request) : Type 0 where
   pub script : Some request.script.now ≡ first_of (codes "script") rows
   pub row_numbers : request.row_numbers ≡ row_numbers_of rows
 
--- ---- what `check` was given
+-- ---- what `check` and what binds modules were given
 
--- The request that `check` makes of what it was given.
+-- The request that `check` makes of what it was given, and `bind-c` and `bind-cobol`, which are given no schemas.
 pub record MakesCheck (rows : List Row) (request : CheckRequest) : Type 0 where
   pub schemas : map (λ file. file.now) request.schemas.items ≡ files_of (codes "schema") rows
   pub modules : map (λ file. file.now) request.modules.items ≡ files_of (codes "module") rows
@@ -175,6 +186,7 @@ pub record MakesTest (rows : List Row) (request : TestRequest) : Type 0 where
 abbrev pub is_subcommand : Text → Bool
 is_subcommand name = bytes_eq name (codes "run") || bytes_eq name (codes "check")
     || bytes_eq name (codes "explain") || bytes_eq name (codes "test")
+    || bytes_eq name (codes "bind-c") || bytes_eq name (codes "bind-cobol")
 
 -- a subcommand that the program has, with what it may be given
 abbrev pub IsGiven : Text → List Row → Type 0
@@ -187,6 +199,8 @@ MakesTask name rows (Run request) = (name ≡ codes "run") × Makes rows request
 MakesTask name rows (Check request) = (name ≡ codes "check") × MakesCheck rows request
 MakesTask name rows (Explain request) = (name ≡ codes "explain") × MakesExplain rows request
 MakesTask name rows (Test request) = (name ≡ codes "test") × MakesTest rows request
+MakesTask name rows (BindC request) = (name ≡ codes "bind-c") × MakesCheck rows request
+MakesTask name rows (BindCobol request) = (name ≡ codes "bind-cobol") × MakesCheck rows request
 
 -- The words name a subcommand, and ask for this task.
 abbrev pub AskFor : List Text → Task → Type 0
@@ -200,3 +214,5 @@ IsLimited (Run request) = request.row_numbers ≤ MOST_ROW_NUMBERS
 IsLimited (Check request) = ⊤
 IsLimited (Explain request) = ⊤
 IsLimited (Test request) = ⊤
+IsLimited (BindC request) = ⊤
+IsLimited (BindCobol request) = ⊤

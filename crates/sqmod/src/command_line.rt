@@ -85,11 +85,16 @@ pub(crate) enum Task<'a> {
     Check(CheckRequest<'a>),
     Explain(ExplainRequest<'a>),
     Test(TestRequest<'a>),
+    /// The header that binds modules to C.
+    BindC(CheckRequest<'a>),
+    /// The copybook that binds modules to COBOL.
+    BindCobol(CheckRequest<'a>),
 }
 
 /// Reads `sqmod run [--schema F]... [--module F]... --script F [--rows N]`,
-/// `sqmod check [--schema F]... [--module F]...`, `sqmod explain [NAME]` or
-/// `sqmod test FOLDER... [--filter GLOB]... [--shard K/N] [--junit F] [--list] [--update]`.
+/// `sqmod check [--schema F]... [--module F]...`, `sqmod explain [NAME]`,
+/// `sqmod test FOLDER... [--filter GLOB]... [--shard K/N] [--junit F] [--list] [--update]`,
+/// `sqmod bind-c --module F...` or `sqmod bind-cobol --module F...`.
 pub(crate) fn read_task<'a>(alloc: Global, words: &'a [String]) -> Result<Task<'a>, Error>
     ensures refused { FailsBy (fault_of spec.sqmod (map string_bytes words.now)) result }
     ensures asked { IfOk result (spec.AskFor (map string_bytes words.now)) }
@@ -111,6 +116,8 @@ fn task_of<'a>(alloc: Global, name: &str, given: &ArgMatches<'a>) -> Result<Task
         "run" => Ok(Task::Run(request_of(alloc, given)?)),
         "check" => Ok(Task::Check(check_request_of(alloc, given)?)),
         "test" => Ok(Task::Test(test_request_of(alloc, given)?)),
+        "bind-c" => Ok(Task::BindC(check_request_of(alloc, given)?)),
+        "bind-cobol" => Ok(Task::BindCobol(check_request_of(alloc, given)?)),
         _ => Ok(Task::Explain(explain_request_of(given))),
     }
 }
@@ -129,7 +136,7 @@ fn request_of<'a>(alloc: Global, run: &ArgMatches<'a>) -> Result<Request<'a>, Al
     })
 }
 
-/// The request that `check` makes of what it was given.
+/// The request that `check`, `bind-c` or `bind-cobol` makes of what it was given; the last two are given no schemas.
 fn check_request_of<'a>(
     alloc: Global,
     check: &ArgMatches<'a>,
@@ -188,9 +195,40 @@ fn row_numbers(run: &ArgMatches<'_>) -> u64
 fn sqmod_command<'a>(alloc: Global) -> Result<Command<'a>, AllocError>
     ensures app { IfOk result (λ command. app_of command ≡ spec.sqmod) }
 {
+    let header = bind_command(
+        alloc,
+        "bind-c",
+        "Prints a header for C with a function for each procedure",
+    )?;
+    let copybook = bind_command(
+        alloc,
+        "bind-cobol",
+        "Prints a copybook for COBOL with a paragraph for each procedure",
+    )?;
+    told_command(alloc)?
+        .subcommand(header)?
+        .subcommand(copybook)
+}
+
+/// The command with the subcommands that read files, `explain` and `test`.
+fn told_command<'a>(alloc: Global) -> Result<Command<'a>, AllocError>
+    ensures app { IfOk result (λ command. app_of command ≡ spec.told) }
+{
     let explain = explain_command(alloc)?;
     let test = test_command(alloc)?;
     files_command(alloc)?.subcommand(explain)?.subcommand(test)
+}
+
+/// A command that prints what binds modules to a host's language.
+fn bind_command<'a>(alloc: Global, name: &'a str, about: &'a str) -> Result<Command<'a>, AllocError>
+    ensures app { IfOk result (λ command. app_of command ≡ spec.bind name.entry.now) }
+    ensures local { IfOk result (λ command. (fields_of command).has_globals ≡ false) }
+{
+    Command::new(alloc, name).about(about).arg(files_option(
+        alloc,
+        "module",
+        "A file with a module",
+    ).required(true))
 }
 
 /// The command with the subcommands that read files.

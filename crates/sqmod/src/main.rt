@@ -7,6 +7,7 @@ ghost use Rattle.std.specs.Prelude.{◌≡◌, ◌≤◌};
 ghost use Rattle.sqmod.specs.Fault.{status_of};
 ghost use Rattle.sqmod.specs.Request.{NamesCheckedFile, NamesFile};
 
+mod bind;
 mod check;
 mod command_line;
 mod explain;
@@ -16,11 +17,13 @@ mod request;
 mod suite;
 mod texts;
 
+use bind::status_of_bind;
 use check::status_of_check;
 use clap::error::ErrorKind;
 use command_line::{CheckRequest, Request, Task, read_task};
 use explain::{printed, status_of_explain};
 use fault::{Fault, NO_MEMORY, REFUSED};
+use sq_bindings::{C, COBOL};
 use sq_store::MOST_ROW_NUMBERS;
 use std::process::ExitCode;
 use std::rt::{Env, Files};
@@ -54,6 +57,8 @@ fn status_of_words<R: Files + Print + Eprint + AllocGlobal + Clone + Drop>(
         Ok(Task::Check(request)) => status_of_check(rt, &request),
         Ok(Task::Explain(request)) => status_of_explain(rt, request),
         Ok(Task::Test(request)) => status_of_test(rt, &request),
+        Ok(Task::BindC(request)) => status_of_bind(rt, &C, &request),
+        Ok(Task::BindCobol(request)) => status_of_bind(rt, &COBOL, &request),
         Err(error) => status_of_answer(rt, words, &error),
     }
 }

@@ -1,0 +1,9 @@
+pub mod Binding
+pub mod Called
+pub mod Declaring
+pub mod Language
+pub mod Mention
+pub mod Names
+pub mod Parameter
+pub mod Picture
+pub mod Template
