@@ -6,28 +6,28 @@ ghost use Rattle.sq_lex.specs.declared.word.Word.TheVariants as word;
 ghost use Rattle.sq_tree.specs.Tree.{bracketed, optional};
 ghost use Rattle.sq_tree.specs.Cond as spec;
 
-use crate::list::walk_bracketed;
+use crate::row::{Behind, IfWritten};
 use crate::sink::Sink;
 use crate::tree::Tree;
-use sq_items::Boxed;
 use sq_lex::{Symbol, Word};
 use sq_tree::{
-    Body, ColumnReference, CommaList, Comparison, Cond, Conj, Correlation, Expr, Quantifier,
-    QuerySpecification, SelectList, TableExpression, TableReference, Tail, Test,
+    Body, Comparison, Cond, Conj, Correlation, Quantifier, QuerySpecification, SelectList,
+    TableExpression, TableReference, Tail, Test,
 };
 
 impl Tree for Comparison {
     ghost tokens = { λ part. spec.comparison_token part ∷ [] };
 
     fn walk<S: Sink>(&self, sink: &mut S) -> Result<(), S::Stop> {
-        sink.symbol(match self {
+        let symbol = match self {
             Comparison::Equal => Symbol::Equal,
             Comparison::NotEqual => Symbol::NotEqual,
             Comparison::Less => Symbol::Less,
             Comparison::Greater => Symbol::Greater,
             Comparison::LessOrEqual => Symbol::LessOrEqual,
             Comparison::GreaterOrEqual => Symbol::GreaterOrEqual,
-        })
+        };
+        symbol.walk(sink)
     }
 }
 
@@ -35,11 +35,12 @@ impl Tree for Quantifier {
     ghost tokens = { λ part. spec.compared_token part ∷ [] };
 
     fn walk<S: Sink>(&self, sink: &mut S) -> Result<(), S::Stop> {
-        sink.word(match self {
+        let word = match self {
             Quantifier::All => Word::All,
             Quantifier::Any => Word::Any,
             Quantifier::Some => Word::Some,
-        })
+        };
+        word.walk(sink)
     }
 }
 
@@ -47,8 +48,7 @@ impl Tree for Correlation {
     ghost tokens = { spec.correlation_tokens };
 
     fn walk<S: Sink>(&self, sink: &mut S) -> Result<(), S::Stop> {
-        sink.words_if(self.as_word, &[Word::As])?;
-        sink.name(self.name)
+        (IfWritten(self.as_word, Word::As), self.name).walk(sink)
     }
 }
 
@@ -56,8 +56,7 @@ impl Tree for TableReference {
     ghost tokens = { spec.table_reference_tokens };
 
     fn walk<S: Sink>(&self, sink: &mut S) -> Result<(), S::Stop> {
-        self.table.walk(sink)?;
-        self.correlation.walk(sink)
+        (&self.table, &self.correlation).walk(sink)
     }
 }
 
@@ -66,7 +65,7 @@ impl Tree for SelectList {
 
     fn walk<S: Sink>(&self, sink: &mut S) -> Result<(), S::Stop> {
         match self {
-            SelectList::Star => sink.symbol(Symbol::Star),
+            SelectList::Star => Symbol::Star.walk(sink),
             SelectList::Items(items) => items.walk(sink),
         }
     }
@@ -80,7 +79,7 @@ impl Tree for Cond {
     fn walk<S: Sink>(&self, sink: &mut S) -> Result<(), S::Stop> {
         self.first.walk(sink)?;
         for conj in self.rest.as_slice() {
-            sink.word(Word::Or)?;
+            Word::Or.walk(sink)?;
             conj.walk(sink)?;
         }
         Ok(())
@@ -95,7 +94,7 @@ impl Tree for Conj {
     fn walk<S: Sink>(&self, sink: &mut S) -> Result<(), S::Stop> {
         self.first.walk(sink)?;
         for test in self.rest.as_slice() {
-            sink.word(Word::And)?;
+            Word::And.walk(sink)?;
             test.walk(sink)?;
         }
         Ok(())
@@ -108,7 +107,7 @@ impl Tree for Test {
     #[cycle(walk_cond)]
     #[tactic(auto, using(sq_tree::proofs::CondLaws::cond_tokens_levels, std::proofs::lemmas::Grind::common_steps))]
     fn walk<S: Sink>(&self, sink: &mut S) -> Result<(), S::Stop> {
-        sink.words_if(self.negated, &[Word::Not])?;
+        IfWritten(self.negated, Word::Not).walk(sink)?;
         self.body.walk(sink)
     }
 }
@@ -125,13 +124,13 @@ impl Tree for Body {
                 tail.walk(sink)
             }
             Body::Exists(query) => {
-                sink.word(Word::Exists)?;
+                Word::Exists.walk(sink)?;
                 walk_subquery(query.get(), sink)
             }
             Body::Bracketed(cond) => {
-                sink.symbol(Symbol::Open)?;
+                Symbol::Open.walk(sink)?;
                 cond.get().walk(sink)?;
-                sink.symbol(Symbol::Close)
+                Symbol::Close.walk(sink)
             }
         }
     }
@@ -144,43 +143,44 @@ impl Tree for Tail {
     #[tactic(auto, using(sq_tree::proofs::CondLaws::cond_tokens_levels, std::proofs::lemmas::Grind::common_steps))]
     fn walk<S: Sink>(&self, sink: &mut S) -> Result<(), S::Stop> {
         match self {
-            Tail::Compare(operator, right) => {
-                operator.walk(sink)?;
-                right.walk(sink)
-            }
+            Tail::Compare(operator, right) => (operator, right).walk(sink),
             Tail::CompareQuery(operator, quantifier, query) => {
-                operator.walk(sink)?;
-                quantifier.walk(sink)?;
+                (operator, quantifier).walk(sink)?;
                 walk_subquery(query.get(), sink)
             }
             Tail::Between(negated, low, high) => {
-                sink.words_if(*negated, &[Word::Not])?;
-                sink.word(Word::Between)?;
-                low.walk(sink)?;
-                sink.word(Word::And)?;
-                high.get().walk(sink)
+                (
+                    IfWritten(*negated, Word::Not),
+                    Word::Between,
+                    low,
+                    (Word::And, high),
+                )
+                    .walk(sink)
             }
             Tail::InQuery(negated, query) => {
-                sink.words_if(*negated, &[Word::Not])?;
-                sink.word(Word::In)?;
+                (IfWritten(*negated, Word::Not), Word::In).walk(sink)?;
                 walk_subquery(query.get(), sink)
             }
             Tail::InList(negated, values) => {
-                sink.words_if(*negated, &[Word::Not])?;
-                sink.word(Word::In)?;
-                walk_bracketed(values, sink)
+                (
+                    IfWritten(*negated, Word::Not),
+                    Word::In,
+                    (Symbol::Open, values, Symbol::Close),
+                )
+                    .walk(sink)
             }
             Tail::Like(negated, pattern, escape) => {
-                sink.words_if(*negated, &[Word::Not])?;
-                sink.word(Word::Like)?;
-                pattern.walk(sink)?;
-                walk_escape(escape, sink)
+                (
+                    IfWritten(*negated, Word::Not),
+                    Word::Like,
+                    pattern,
+                    Behind(Word::Escape, escape),
+                )
+                    .walk(sink)
             }
-            Tail::Null(negated) => {
-                sink.word(Word::Is)?;
-                sink.words_if(*negated, &[Word::Not])?;
-                sink.word(Word::Null)
-            }
+            Tail::Null(negated) => (Word::Is, IfWritten(*negated, Word::Not), Word::Null).walk(
+                sink,
+            ),
         }
     }
 }
@@ -191,10 +191,9 @@ impl Tree for TableExpression {
     #[cycle(walk_cond)]
     #[tactic(auto, using(sq_tree::proofs::CondLaws::cond_tokens_levels, std::proofs::lemmas::Grind::common_steps))]
     fn walk<S: Sink>(&self, sink: &mut S) -> Result<(), S::Stop> {
-        sink.word(Word::From)?;
-        self.from.walk(sink)?;
+        (Word::From, &self.from).walk(sink)?;
         walk_clause(Word::Where, &self.where_clause, sink)?;
-        walk_group_by(&self.group_by, sink)?;
+        Behind((Word::Group, Word::By), &self.group_by).walk(sink)?;
         walk_clause(Word::Having, &self.having, sink)
     }
 }
@@ -205,9 +204,7 @@ impl Tree for QuerySpecification {
     #[cycle(walk_cond)]
     #[tactic(auto, using(sq_tree::proofs::CondLaws::cond_tokens_levels, std::proofs::lemmas::Grind::common_steps))]
     fn walk<S: Sink>(&self, sink: &mut S) -> Result<(), S::Stop> {
-        sink.word(Word::Select)?;
-        self.quantifier.walk(sink)?;
-        self.list.walk(sink)?;
+        (Word::Select, &self.quantifier, &self.list).walk(sink)?;
         self.table.walk(sink)
     }
 }
@@ -219,20 +216,9 @@ fn walk_subquery<S: Sink>(query: &QuerySpecification, sink: &mut S) -> Result<()
     ensures { OnOk result (sink.new
         ≡ fold S.after sink.old (bracketed (spec.query_specification_tokens query.now))) }
 {
-    sink.symbol(Symbol::Open)?;
+    Symbol::Open.walk(sink)?;
     query.walk(sink)?;
-    sink.symbol(Symbol::Close)
-}
-
-/// Writes ESCAPE and the expression behind it, where there is one.
-fn walk_escape<S: Sink>(escape: &Option<Boxed<Expr>>, sink: &mut S) -> Result<(), S::Stop>
-    ensures { OnOk result (sink.new ≡ fold S.after sink.old (optional spec.escape_tokens escape.now)) }
-{
-    if let Some(escape) = escape {
-        sink.word(Word::Escape)?;
-        escape.get().walk(sink)?;
-    }
-    Ok(())
+    Symbol::Close.walk(sink)
 }
 
 /// Writes a word and the condition behind it, where there is one.
@@ -242,23 +228,11 @@ fn walk_clause<S: Sink>(word: Word, cond: &Option<Cond>, sink: &mut S) -> Result
     ensures { OnOk result (sink.new
         ≡ fold S.after sink.old (optional (λ c. lexeme.Word word ∷ spec.cond_tokens c) cond.now)) }
 {
-    if let Some(cond) = cond {
-        sink.word(word)?;
-        cond.walk(sink)?;
+    match cond {
+        Some(cond) => {
+            word.walk(sink)?;
+            cond.walk(sink)
+        }
+        None => Ok(()),
     }
-    Ok(())
-}
-
-fn walk_group_by<S: Sink>(
-    columns: &Option<CommaList<ColumnReference>>,
-    sink: &mut S,
-) -> Result<(), S::Stop>
-    ensures { OnOk result (sink.new ≡ fold S.after sink.old (optional spec.group_by_tokens columns.now)) }
-{
-    if let Some(columns) = columns {
-        sink.word(Word::Group)?;
-        sink.word(Word::By)?;
-        columns.walk(sink)?;
-    }
-    Ok(())
 }

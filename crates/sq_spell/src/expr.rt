@@ -1,6 +1,8 @@
 //! The spelling of value expressions.
 
-ghost use Rattle.std.specs.Prelude.{◌∷◌, []};
+ghost use Rattle.std.specs.Prelude.{◌≡◌, ◌∷◌, [], ◌++◌, fold, OnOk};
+ghost use Rattle.sq_lex.specs.declared.lexeme.Lexeme.TheVariants as lexeme;
+ghost use Rattle.sq_lex.specs.declared.symbol.Symbol.TheVariants as symbol;
 ghost use Rattle.sq_tree.specs.Expr as spec;
 
 use crate::sink::Sink;
@@ -15,10 +17,11 @@ impl Tree for Sign {
     ghost tokens = { λ part. spec.sign_token part ∷ [] };
 
     fn walk<S: Sink>(&self, sink: &mut S) -> Result<(), S::Stop> {
-        sink.symbol(match self {
+        let symbol = match self {
             Sign::Plus => Symbol::Plus,
             Sign::Minus => Symbol::Minus,
-        })
+        };
+        symbol.walk(sink)
     }
 }
 
@@ -26,10 +29,11 @@ impl Tree for TimesSign {
     ghost tokens = { λ part. spec.times_token part ∷ [] };
 
     fn walk<S: Sink>(&self, sink: &mut S) -> Result<(), S::Stop> {
-        sink.symbol(match self {
+        let symbol = match self {
             TimesSign::Times => Symbol::Star,
             TimesSign::Over => Symbol::Slash,
-        })
+        };
+        symbol.walk(sink)
     }
 }
 
@@ -37,10 +41,11 @@ impl Tree for SetQuantifier {
     ghost tokens = { λ part. spec.quantifier_token part ∷ [] };
 
     fn walk<S: Sink>(&self, sink: &mut S) -> Result<(), S::Stop> {
-        sink.word(match self {
+        let word = match self {
             SetQuantifier::All => Word::All,
             SetQuantifier::Distinct => Word::Distinct,
-        })
+        };
+        word.walk(sink)
     }
 }
 
@@ -48,13 +53,14 @@ impl Tree for SetFunction {
     ghost tokens = { λ part. spec.function_token part ∷ [] };
 
     fn walk<S: Sink>(&self, sink: &mut S) -> Result<(), S::Stop> {
-        sink.word(match self {
+        let word = match self {
             SetFunction::Count => Word::Count,
             SetFunction::Sum => Word::Sum,
             SetFunction::Avg => Word::Avg,
             SetFunction::Min => Word::Min,
             SetFunction::Max => Word::Max,
-        })
+        };
+        word.walk(sink)
     }
 }
 
@@ -62,8 +68,7 @@ impl Tree for SignedNumber {
     ghost tokens = { spec.signed_number_tokens };
 
     fn walk<S: Sink>(&self, sink: &mut S) -> Result<(), S::Stop> {
-        self.sign.walk(sink)?;
-        sink.number(self.number)
+        (&self.sign, self.number).walk(sink)
     }
 }
 
@@ -135,29 +140,33 @@ impl Tree for Primary {
     #[tactic(auto, using(sq_tree::proofs::ExprLaws::expr_tokens_levels, std::proofs::lemmas::Grind::common_steps))]
     fn walk<S: Sink>(&self, sink: &mut S) -> Result<(), S::Stop> {
         match self {
-            Primary::Number(number) => sink.number(*number),
+            Primary::Number(number) => number.walk(sink),
             Primary::Text(characters) => sink.text(characters),
             Primary::Parameter(parameter) => parameter.walk(sink),
-            Primary::User => sink.word(Word::User),
+            Primary::User => Word::User.walk(sink),
             Primary::Column(column) => column.walk(sink),
             Primary::CountRows => {
-                sink.word(Word::Count)?;
-                sink.symbol(Symbol::Open)?;
-                sink.symbol(Symbol::Star)?;
-                sink.symbol(Symbol::Close)
+                (Word::Count, Symbol::Open, Symbol::Star, Symbol::Close).walk(sink)
             }
             Primary::SetFunction(function, quantifier, expr) => {
-                function.walk(sink)?;
-                sink.symbol(Symbol::Open)?;
-                quantifier.walk(sink)?;
-                expr.get().walk(sink)?;
-                sink.symbol(Symbol::Close)
+                (function, Symbol::Open, quantifier).walk(sink)?;
+                walk_closed(expr.get(), sink)
             }
             Primary::Bracketed(expr) => {
-                sink.symbol(Symbol::Open)?;
-                expr.get().walk(sink)?;
-                sink.symbol(Symbol::Close)
+                Symbol::Open.walk(sink)?;
+                walk_closed(expr.get(), sink)
             }
         }
     }
+}
+
+/// Writes an expression and the bracket that closes behind it.
+#[cycle(walk_expr)]
+#[tactic(auto, using(sq_tree::proofs::ExprLaws::expr_tokens_levels, std::proofs::lemmas::Grind::common_steps))]
+fn walk_closed<S: Sink>(expr: &Expr, sink: &mut S) -> Result<(), S::Stop>
+    ensures { OnOk result (sink.new
+        ≡ fold S.after sink.old (spec.expr_tokens expr.now ++ lexeme.Symbol symbol.Close ∷ [])) }
+{
+    expr.walk(sink)?;
+    Symbol::Close.walk(sink)
 }

@@ -9,6 +9,7 @@ mod list;
 mod module;
 mod names;
 mod query;
+mod row;
 mod schema;
 mod script;
 mod sink;

@@ -1,12 +1,10 @@
-//! The spelling of lists with commas, of rows without, of parts that a text may lack, and of parts in brackets.
+//! The spelling of lists with commas, of lists without, of parts that a text may lack, and of parts in boxes.
 
-ghost use Rattle.std.specs.Prelude.{◌≡◌, fold, OnOk};
-ghost use Rattle.sq_tree.specs.Tree.{bracketed};
 ghost use Rattle.sq_tree.specs.List as spec;
 
 use crate::sink::Sink;
 use crate::tree::Tree;
-use sq_items::Items;
+use sq_items::{Boxed, Items};
 use sq_lex::Symbol;
 use sq_tree::CommaList;
 
@@ -17,8 +15,7 @@ impl<T: Tree> Tree for CommaList<T> {
     fn walk<S: Sink>(&self, sink: &mut S) -> Result<(), S::Stop> {
         self.first.walk(sink)?;
         for item in self.rest.as_slice() {
-            sink.symbol(Symbol::Comma)?;
-            item.walk(sink)?;
+            (Symbol::Comma, item).walk(sink)?;
         }
         Ok(())
     }
@@ -44,6 +41,14 @@ impl<T: Tree> Tree for Items<T> {
     }
 }
 
+impl<T: Tree> Tree for Boxed<T> {
+    ghost tokens = { T.tokens };
+
+    fn walk<S: Sink>(&self, sink: &mut S) -> Result<(), S::Stop> {
+        self.get().walk(sink)
+    }
+}
+
 impl<T: Tree> Tree for Option<T> {
     ghost use Rattle.sq_tree.specs.Tree.{optional};
 
@@ -55,14 +60,4 @@ impl<T: Tree> Tree for Option<T> {
             None => Ok(()),
         }
     }
-}
-
-/// Writes a part in brackets.
-#[tactic(auto, using(std::proofs::lemmas::Grind::common_steps))]
-pub fn walk_bracketed<T: Tree, S: Sink>(part: &T, sink: &mut S) -> Result<(), S::Stop>
-    ensures { OnOk result (sink.new ≡ fold S.after sink.old (bracketed (T.tokens part.now))) }
-{
-    sink.symbol(Symbol::Open)?;
-    part.walk(sink)?;
-    sink.symbol(Symbol::Close)
 }

@@ -1,20 +1,19 @@
 //! The spelling of names and parameters.
 
-ghost use Rattle.std.specs.Prelude.{◌≡◌, ◌∷◌, [], fold, OnOk};
 ghost use Rattle.sq_tree.specs.Tree.{optional};
 ghost use Rattle.sq_tree.specs.Names as spec;
 
-use crate::list::walk_bracketed;
+use crate::row::IfWritten;
 use crate::sink::Sink;
 use crate::tree::Tree;
-use sq_lex::{Name, Symbol, Word};
+use sq_lex::{Lexeme, Name, Symbol, Word};
 use sq_tree::{ColumnReference, CommaList, Indicator, Parameter, TableName};
 
 impl Tree for Name {
     ghost tokens = { spec.name_tokens };
 
     fn walk<S: Sink>(&self, sink: &mut S) -> Result<(), S::Stop> {
-        sink.name(*self)
+        sink.take(Lexeme::Name(*self))
     }
 }
 
@@ -22,23 +21,22 @@ impl Tree for TableName {
     ghost tokens = { spec.table_name_tokens };
 
     fn walk<S: Sink>(&self, sink: &mut S) -> Result<(), S::Stop> {
-        if let Some(schema) = self.schema {
-            sink.name(schema)?;
-            sink.symbol(Symbol::Dot)?;
+        match self.schema {
+            Some(schema) => (schema, Symbol::Dot, self.table).walk(sink),
+            None => self.table.walk(sink),
         }
-        sink.name(self.table)
     }
 }
 
 impl Tree for ColumnReference {
     ghost tokens = { spec.column_reference_tokens };
 
+    #[tactic(auto, using(std::proofs::lemmas::Grind::common_steps))]
     fn walk<S: Sink>(&self, sink: &mut S) -> Result<(), S::Stop> {
-        if let Some(qualifier) = &self.qualifier {
-            qualifier.walk(sink)?;
-            sink.symbol(Symbol::Dot)?;
+        match &self.qualifier {
+            Some(qualifier) => (qualifier, Symbol::Dot, self.column).walk(sink),
+            None => self.column.walk(sink),
         }
-        sink.name(self.column)
     }
 }
 
@@ -46,9 +44,8 @@ impl Tree for Indicator {
     ghost tokens = { spec.indicator_tokens };
 
     fn walk<S: Sink>(&self, sink: &mut S) -> Result<(), S::Stop> {
-        sink.words_if(self.word, &[Word::Indicator])?;
-        sink.symbol(Symbol::Colon)?;
-        sink.name(self.name)
+        let word = IfWritten(self.word, Word::Indicator);
+        (word, Symbol::Colon, self.name).walk(sink)
     }
 }
 
@@ -56,28 +53,21 @@ impl Tree for Parameter {
     ghost tokens = { spec.parameter_tokens };
 
     fn walk<S: Sink>(&self, sink: &mut S) -> Result<(), S::Stop> {
-        sink.symbol(Symbol::Colon)?;
-        sink.name(self.name)?;
-        self.indicator.walk(sink)
+        (Symbol::Colon, self.name, &self.indicator).walk(sink)
     }
 }
 
-/// Writes a list of columns in brackets.
-pub fn walk_columns<S: Sink>(columns: &CommaList<Name>, sink: &mut S) -> Result<(), S::Stop>
-    ensures { OnOk result (sink.new ≡ fold S.after sink.old (spec.columns_tokens columns.now)) }
-{
-    walk_bracketed(columns, sink)
-}
+/// A list of columns in brackets, where there is one.
+#[derive(Clone, Copy)]
+pub struct Columns<'a>(pub &'a Option<CommaList<Name>>);
 
-/// Writes a list of columns in brackets, where there is one.
-pub fn walk_some_columns<S: Sink>(
-    columns: &Option<CommaList<Name>>,
-    sink: &mut S,
-) -> Result<(), S::Stop>
-    ensures { OnOk result (sink.new ≡ fold S.after sink.old (optional spec.columns_tokens columns.now)) }
-{
-    match columns {
-        Some(columns) => walk_columns(columns, sink),
-        None => Ok(()),
+impl Tree for Columns<'_> {
+    ghost tokens = { λ columns. optional spec.columns_tokens columns.0.now };
+
+    fn walk<S: Sink>(&self, sink: &mut S) -> Result<(), S::Stop> {
+        match self.0 {
+            Some(columns) => (Symbol::Open, columns, Symbol::Close).walk(sink),
+            None => Ok(()),
+        }
     }
 }

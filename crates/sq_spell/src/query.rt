@@ -2,6 +2,7 @@
 
 ghost use Rattle.sq_tree.specs.Query as spec;
 
+use crate::row::IfWritten;
 use crate::sink::Sink;
 use crate::tree::Tree;
 use sq_lex::{Symbol, Word};
@@ -27,8 +28,7 @@ impl Tree for UnionTerm {
     #[cycle(walk_query)]
     #[tactic(auto, using(sq_tree::proofs::QueryLaws::query_tokens_levels, std::proofs::lemmas::Grind::common_steps))]
     fn walk<S: Sink>(&self, sink: &mut S) -> Result<(), S::Stop> {
-        sink.word(Word::Union)?;
-        sink.words_if(self.all, &[Word::All])?;
+        (Word::Union, IfWritten(self.all, Word::All)).walk(sink)?;
         self.term.walk(sink)
     }
 }
@@ -42,9 +42,9 @@ impl Tree for QueryTerm {
         match self {
             QueryTerm::Specification(specification) => specification.walk(sink),
             QueryTerm::Bracketed(query) => {
-                sink.symbol(Symbol::Open)?;
+                Symbol::Open.walk(sink)?;
                 query.get().walk(sink)?;
-                sink.symbol(Symbol::Close)
+                Symbol::Close.walk(sink)
             }
         }
     }

@@ -1,38 +1,33 @@
 //! The spelling of schema texts.
 
-ghost use Rattle.std.specs.Prelude.{◌≡◌, ◌∷◌, [], fold, OnOk};
 ghost use Rattle.sq_tree.specs.Schema as spec;
 
-use crate::list::walk_bracketed;
-use crate::names::{walk_columns, walk_some_columns};
+use crate::names::Columns;
+use crate::row::IfWritten;
 use crate::sink::Sink;
 use crate::tree::Tree;
 use sq_lex::{Symbol, Word};
 use sq_tree::{
-    Action, ColumnConstraint, ColumnDefinition, Cond, DefaultValue, ForeignKey, GrantStatement,
-    Grantee, Privileges, References, SchemaDefinition, SchemaElement, SchemaText, TableDefinition,
+    Action, ColumnConstraint, ColumnDefinition, DefaultValue, ForeignKey, GrantStatement, Grantee,
+    Privileges, References, SchemaDefinition, SchemaElement, SchemaText, TableDefinition,
     TableElement, ViewDefinition,
 };
 
 impl Tree for SchemaText {
     ghost tokens = { spec.schema_tokens };
 
-    #[tactic(auto, using(std::proofs::lemmas::Grind::common_steps))]
     fn walk<S: Sink>(&self, sink: &mut S) -> Result<(), S::Stop> {
-        self.first.walk(sink)?;
-        self.rest.walk(sink)
+        (&self.first, &self.rest).walk(sink)
     }
 }
 
 impl Tree for SchemaDefinition {
     ghost tokens = { spec.schema_definition_tokens };
 
-    #[tactic(auto, using(std::proofs::lemmas::Grind::common_steps))]
     fn walk<S: Sink>(&self, sink: &mut S) -> Result<(), S::Stop> {
-        sink.words(&[Word::Create, Word::Schema, Word::Authorization])?;
-        sink.name(self.authorization)?;
-        self.elements.walk(sink)?;
-        sink.symbol_if(self.semicolon, Symbol::Semicolon)
+        let head = (Word::Authorization, self.authorization);
+        let end = IfWritten(self.semicolon, Symbol::Semicolon);
+        (Word::Create, Word::Schema, head, (&self.elements, end)).walk(sink)
     }
 }
 
@@ -51,31 +46,29 @@ impl Tree for SchemaElement {
 impl Tree for TableDefinition {
     ghost tokens = { spec.table_definition_tokens };
 
-    #[tactic(auto, using(std::proofs::lemmas::Grind::common_steps))]
     fn walk<S: Sink>(&self, sink: &mut S) -> Result<(), S::Stop> {
-        sink.words(&[Word::Create, Word::Table])?;
-        self.name.walk(sink)?;
-        walk_bracketed(&self.elements, sink)
+        let elements = (Symbol::Open, &self.elements, Symbol::Close);
+        (Word::Create, Word::Table, &self.name, elements).walk(sink)
     }
 }
 
 impl Tree for TableElement {
     ghost tokens = { spec.table_element_tokens };
 
-    #[tactic(auto, using(std::proofs::lemmas::Grind::common_steps))]
     fn walk<S: Sink>(&self, sink: &mut S) -> Result<(), S::Stop> {
         match self {
             TableElement::Column(column) => column.walk(sink),
             TableElement::Unique(columns) => {
-                sink.word(Word::Unique)?;
-                walk_columns(columns, sink)
+                (Word::Unique, Symbol::Open, columns, Symbol::Close).walk(sink)
             }
             TableElement::PrimaryKey(columns) => {
-                sink.words(&[Word::Primary, Word::Key])?;
-                walk_columns(columns, sink)
+                let columns = (Symbol::Open, columns, Symbol::Close);
+                (Word::Primary, Word::Key, columns).walk(sink)
             }
             TableElement::ForeignKey(key) => key.walk(sink),
-            TableElement::Check(cond) => walk_check(cond, sink),
+            TableElement::Check(cond) => {
+                (Word::Check, Symbol::Open, cond, Symbol::Close).walk(sink)
+            }
         }
     }
 }
@@ -83,34 +76,25 @@ impl Tree for TableElement {
 impl Tree for ForeignKey {
     ghost tokens = { spec.foreign_key_tokens };
 
-    #[tactic(auto, using(std::proofs::lemmas::Grind::common_steps))]
     fn walk<S: Sink>(&self, sink: &mut S) -> Result<(), S::Stop> {
-        sink.words(&[Word::Foreign, Word::Key])?;
-        walk_columns(&self.columns, sink)?;
-        self.references.walk(sink)
+        let columns = (Symbol::Open, &self.columns, Symbol::Close, &self.references);
+        (Word::Foreign, Word::Key, columns).walk(sink)
     }
 }
 
 impl Tree for References {
     ghost tokens = { spec.references_tokens };
 
-    #[tactic(auto, using(std::proofs::lemmas::Grind::common_steps))]
     fn walk<S: Sink>(&self, sink: &mut S) -> Result<(), S::Stop> {
-        sink.word(Word::References)?;
-        self.table.walk(sink)?;
-        walk_some_columns(&self.columns, sink)
+        (Word::References, &self.table, Columns(&self.columns)).walk(sink)
     }
 }
 
 impl Tree for ColumnDefinition {
     ghost tokens = { spec.column_definition_tokens };
 
-    #[tactic(auto, using(std::proofs::lemmas::Grind::common_steps))]
     fn walk<S: Sink>(&self, sink: &mut S) -> Result<(), S::Stop> {
-        sink.name(self.name)?;
-        self.data_type.walk(sink)?;
-        self.default.walk(sink)?;
-        self.constraints.walk(sink)
+        (self.name, &self.data_type, &self.default, &self.constraints).walk(sink)
     }
 }
 
@@ -119,12 +103,12 @@ impl Tree for DefaultValue {
     ghost tokens = { spec.default_clause_tokens };
 
     fn walk<S: Sink>(&self, sink: &mut S) -> Result<(), S::Stop> {
-        sink.word(Word::Default)?;
+        Word::Default.walk(sink)?;
         match self {
             DefaultValue::Number(number) => number.walk(sink),
             DefaultValue::Text(characters) => sink.text(characters),
-            DefaultValue::User => sink.word(Word::User),
-            DefaultValue::Null => sink.word(Word::Null),
+            DefaultValue::User => Word::User.walk(sink),
+            DefaultValue::Null => Word::Null.walk(sink),
         }
     }
 }
@@ -134,11 +118,13 @@ impl Tree for ColumnConstraint {
 
     fn walk<S: Sink>(&self, sink: &mut S) -> Result<(), S::Stop> {
         match self {
-            ColumnConstraint::NotNull => sink.words(&[Word::Not, Word::Null]),
-            ColumnConstraint::Unique => sink.word(Word::Unique),
-            ColumnConstraint::PrimaryKey => sink.words(&[Word::Primary, Word::Key]),
+            ColumnConstraint::NotNull => (Word::Not, Word::Null).walk(sink),
+            ColumnConstraint::Unique => Word::Unique.walk(sink),
+            ColumnConstraint::PrimaryKey => (Word::Primary, Word::Key).walk(sink),
             ColumnConstraint::References(references) => references.walk(sink),
-            ColumnConstraint::Check(cond) => walk_check(cond, sink),
+            ColumnConstraint::Check(cond) => {
+                (Word::Check, Symbol::Open, cond, Symbol::Close).walk(sink)
+            }
         }
     }
 }
@@ -146,30 +132,26 @@ impl Tree for ColumnConstraint {
 impl Tree for ViewDefinition {
     ghost tokens = { spec.view_definition_tokens };
 
-    #[tactic(auto, using(std::proofs::lemmas::Grind::common_steps))]
     fn walk<S: Sink>(&self, sink: &mut S) -> Result<(), S::Stop> {
-        sink.words(&[Word::Create, Word::View])?;
-        self.name.walk(sink)?;
-        walk_some_columns(&self.columns, sink)?;
-        sink.word(Word::As)?;
-        self.query.walk(sink)?;
-        sink.words_if(self.check_option, &[Word::With, Word::Check, Word::Option])
+        let option = (Word::With, Word::Check, Word::Option);
+        let query = (Word::As, &self.query, IfWritten(self.check_option, option));
+        let name = (&self.name, Columns(&self.columns), query);
+        (Word::Create, Word::View, name).walk(sink)
     }
 }
 
 impl Tree for GrantStatement {
     ghost tokens = { spec.grant_tokens };
 
-    #[tactic(auto, using(std::proofs::lemmas::Grind::common_steps))]
     fn walk<S: Sink>(&self, sink: &mut S) -> Result<(), S::Stop> {
-        sink.word(Word::Grant)?;
-        self.privileges.walk(sink)?;
-        sink.word(Word::On)?;
-        sink.words_if(self.table_word, &[Word::Table])?;
-        self.table.walk(sink)?;
-        sink.word(Word::To)?;
-        self.grantees.walk(sink)?;
-        sink.words_if(self.grant_option, &[Word::With, Word::Grant, Word::Option])
+        let option = (Word::With, Word::Grant, Word::Option);
+        let to = (
+            Word::To,
+            &self.grantees,
+            IfWritten(self.grant_option, option),
+        );
+        let table = (IfWritten(self.table_word, Word::Table), &self.table, to);
+        (Word::Grant, &self.privileges, Word::On, table).walk(sink)
     }
 }
 
@@ -178,7 +160,7 @@ impl Tree for Privileges {
 
     fn walk<S: Sink>(&self, sink: &mut S) -> Result<(), S::Stop> {
         match self {
-            Privileges::All => sink.words(&[Word::All, Word::Privileges]),
+            Privileges::All => (Word::All, Word::Privileges).walk(sink),
             Privileges::Actions(actions) => actions.walk(sink),
         }
     }
@@ -189,17 +171,11 @@ impl Tree for Action {
 
     fn walk<S: Sink>(&self, sink: &mut S) -> Result<(), S::Stop> {
         match self {
-            Action::Select => sink.word(Word::Select),
-            Action::Insert => sink.word(Word::Insert),
-            Action::Delete => sink.word(Word::Delete),
-            Action::Update(columns) => {
-                sink.word(Word::Update)?;
-                walk_some_columns(columns, sink)
-            }
-            Action::References(columns) => {
-                sink.word(Word::References)?;
-                walk_some_columns(columns, sink)
-            }
+            Action::Select => Word::Select.walk(sink),
+            Action::Insert => Word::Insert.walk(sink),
+            Action::Delete => Word::Delete.walk(sink),
+            Action::Update(columns) => (Word::Update, Columns(columns)).walk(sink),
+            Action::References(columns) => (Word::References, Columns(columns)).walk(sink),
         }
     }
 }
@@ -209,16 +185,8 @@ impl Tree for Grantee {
 
     fn walk<S: Sink>(&self, sink: &mut S) -> Result<(), S::Stop> {
         match self {
-            Grantee::Public => sink.word(Word::Public),
-            Grantee::User(name) => sink.name(*name),
+            Grantee::Public => Word::Public.walk(sink),
+            Grantee::User(name) => name.walk(sink),
         }
     }
-}
-
-/// Writes CHECK and a condition in brackets.
-fn walk_check<S: Sink>(cond: &Cond, sink: &mut S) -> Result<(), S::Stop>
-    ensures { OnOk result (sink.new ≡ fold S.after sink.old (spec.check_tokens cond.now)) }
-{
-    sink.word(Word::Check)?;
-    walk_bracketed(cond, sink)
 }

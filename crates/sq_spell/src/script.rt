@@ -1,11 +1,8 @@
 //! The spelling of script texts.
 
-ghost use Rattle.std.specs.Prelude.{◌≡◌, ◌∷◌, [], fold, OnOk};
-ghost use Rattle.sq_lex.specs.declared.lexeme.Lexeme.TheVariants as lexeme;
-ghost use Rattle.sq_lex.specs.declared.symbol.Symbol.TheVariants as symbol;
+ghost use Rattle.std.specs.Prelude.{◌≡◌, fold, OnOk};
 ghost use Rattle.sq_tree.specs.Script as spec;
 
-use crate::list::walk_bracketed;
 use crate::sink::Sink;
 use crate::tree::Tree;
 use sq_lex::{Name, Symbol, Word};
@@ -25,7 +22,7 @@ impl Tree for ScriptItem {
 
     fn walk<S: Sink>(&self, sink: &mut S) -> Result<(), S::Stop> {
         walk_item(self, sink)?;
-        sink.symbol(Symbol::Semicolon)
+        Symbol::Semicolon.walk(sink)
     }
 }
 
@@ -35,11 +32,8 @@ impl Tree for Arguments {
     fn walk<S: Sink>(&self, sink: &mut S) -> Result<(), S::Stop> {
         match self {
             Arguments::Unwritten => Ok(()),
-            Arguments::Empty => {
-                sink.symbol(Symbol::Open)?;
-                sink.symbol(Symbol::Close)
-            }
-            Arguments::Listed(arguments) => walk_bracketed(arguments, sink),
+            Arguments::Empty => (Symbol::Open, Symbol::Close).walk(sink),
+            Arguments::Listed(arguments) => (Symbol::Open, arguments, Symbol::Close).walk(sink),
         }
     }
 }
@@ -51,7 +45,7 @@ impl Tree for Argument {
         match self {
             Argument::Number(number) => number.walk(sink),
             Argument::Text(characters) => sink.text(characters),
-            Argument::Null => sink.symbol(Symbol::Star),
+            Argument::Null => Symbol::Star.walk(sink),
         }
     }
 }
@@ -67,23 +61,11 @@ fn walk_item<S: Sink>(item: &ScriptItem, sink: &mut S) -> Result<(), S::Stop>
             procedure,
             arguments,
         } => {
-            sink.name(Name::new(b"CALL"))?;
-            walk_two_names(*module, *procedure, sink)?;
-            arguments.walk(sink)
+            let called = (*module, Symbol::Dot, *procedure, arguments);
+            (Name::new(b"CALL"), called).walk(sink)
         }
         ScriptItem::Table { schema, table } => {
-            sink.word(Word::Table)?;
-            walk_two_names(*schema, *table, sink)
+            (Word::Table, *schema, Symbol::Dot, *table).walk(sink)
         }
     }
-}
-
-/// Writes two names with a period between.
-fn walk_two_names<S: Sink>(first: Name, second: Name, sink: &mut S) -> Result<(), S::Stop>
-    ensures { OnOk result (sink.new
-        ≡ fold S.after sink.old (lexeme.Name first ∷ lexeme.Symbol symbol.Dot ∷ lexeme.Name second ∷ [])) }
-{
-    sink.name(first)?;
-    sink.symbol(Symbol::Dot)?;
-    sink.name(second)
 }

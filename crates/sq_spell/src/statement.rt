@@ -2,8 +2,8 @@
 
 ghost use Rattle.sq_tree.specs.Statement as spec;
 
-use crate::list::walk_bracketed;
-use crate::names::walk_some_columns;
+use crate::names::Columns;
+use crate::row::IfWritten;
 use crate::sink::Sink;
 use crate::tree::Tree;
 use sq_lex::{Symbol, Word};
@@ -17,21 +17,15 @@ impl Tree for Statement {
 
     fn walk<S: Sink>(&self, sink: &mut S) -> Result<(), S::Stop> {
         match self {
-            Statement::Open(cursor) => sink.word_and_name(Word::Open, *cursor),
+            Statement::Open(cursor) => (Word::Open, *cursor).walk(sink),
             Statement::Fetch(fetch) => fetch.walk(sink),
-            Statement::Close(cursor) => sink.word_and_name(Word::Close, *cursor),
+            Statement::Close(cursor) => (Word::Close, *cursor).walk(sink),
             Statement::Select(select) => select.walk(sink),
             Statement::Insert(insert) => insert.walk(sink),
             Statement::Update(update) => update.walk(sink),
             Statement::Delete(delete) => delete.walk(sink),
-            Statement::Commit(work) => {
-                sink.word(Word::Commit)?;
-                sink.words_if(*work, &[Word::Work])
-            }
-            Statement::Rollback(work) => {
-                sink.word(Word::Rollback)?;
-                sink.words_if(*work, &[Word::Work])
-            }
+            Statement::Commit(work) => (Word::Commit, IfWritten(*work, Word::Work)).walk(sink),
+            Statement::Rollback(work) => (Word::Rollback, IfWritten(*work, Word::Work)).walk(sink),
         }
     }
 }
@@ -39,13 +33,9 @@ impl Tree for Statement {
 impl Tree for Fetch {
     ghost tokens = { spec.fetch_tokens };
 
-    #[tactic(auto, using(std::proofs::lemmas::Grind::common_steps))]
     fn walk<S: Sink>(&self, sink: &mut S) -> Result<(), S::Stop> {
-        sink.word(Word::Fetch)?;
-        self.from.walk(sink)?;
-        sink.name(self.cursor)?;
-        sink.word(Word::Into)?;
-        self.targets.walk(sink)
+        let into = (Word::Into, &self.targets);
+        (Word::Fetch, &self.from, self.cursor, into).walk(sink)
     }
 }
 
@@ -53,8 +43,7 @@ impl Tree for FetchFrom {
     ghost tokens = { spec.fetch_from_tokens };
 
     fn walk<S: Sink>(&self, sink: &mut S) -> Result<(), S::Stop> {
-        self.orientation.walk(sink)?;
-        sink.word(Word::From)
+        (&self.orientation, Word::From).walk(sink)
     }
 }
 
@@ -63,18 +52,12 @@ impl Tree for Orientation {
 
     fn walk<S: Sink>(&self, sink: &mut S) -> Result<(), S::Stop> {
         match self {
-            Orientation::Next => sink.word(Word::Next),
-            Orientation::Prior => sink.word(Word::Prior),
-            Orientation::First => sink.word(Word::First),
-            Orientation::Last => sink.word(Word::Last),
-            Orientation::Absolute(position) => {
-                sink.word(Word::Absolute)?;
-                position.walk(sink)
-            }
-            Orientation::Relative(position) => {
-                sink.word(Word::Relative)?;
-                position.walk(sink)
-            }
+            Orientation::Next => Word::Next.walk(sink),
+            Orientation::Prior => Word::Prior.walk(sink),
+            Orientation::First => Word::First.walk(sink),
+            Orientation::Last => Word::Last.walk(sink),
+            Orientation::Absolute(position) => (Word::Absolute, position).walk(sink),
+            Orientation::Relative(position) => (Word::Relative, position).walk(sink),
         }
     }
 }
@@ -85,10 +68,7 @@ impl Tree for Position {
     fn walk<S: Sink>(&self, sink: &mut S) -> Result<(), S::Stop> {
         match self {
             Position::Number(number) => number.walk(sink),
-            Position::Parameter(name) => {
-                sink.symbol(Symbol::Colon)?;
-                sink.name(*name)
-            }
+            Position::Parameter(name) => (Symbol::Colon, *name).walk(sink),
         }
     }
 }
@@ -96,38 +76,33 @@ impl Tree for Position {
 impl Tree for Select {
     ghost tokens = { spec.select_tokens };
 
-    #[tactic(auto, using(std::proofs::lemmas::Grind::common_steps))]
     fn walk<S: Sink>(&self, sink: &mut S) -> Result<(), S::Stop> {
-        sink.word(Word::Select)?;
-        self.quantifier.walk(sink)?;
-        self.list.walk(sink)?;
-        sink.word(Word::Into)?;
-        self.targets.walk(sink)?;
-        self.table.walk(sink)
+        let into = (Word::Into, &self.targets, &self.table);
+        (Word::Select, &self.quantifier, &self.list, into).walk(sink)
     }
 }
 
 impl Tree for Insert {
     ghost tokens = { spec.insert_tokens };
 
-    #[tactic(auto, using(std::proofs::lemmas::Grind::common_steps))]
     fn walk<S: Sink>(&self, sink: &mut S) -> Result<(), S::Stop> {
-        sink.words(&[Word::Insert, Word::Into])?;
-        self.table.walk(sink)?;
-        walk_some_columns(&self.columns, sink)?;
-        self.source.walk(sink)
+        (
+            Word::Insert,
+            Word::Into,
+            &self.table,
+            (Columns(&self.columns), &self.source),
+        )
+            .walk(sink)
     }
 }
 
 impl Tree for InsertSource {
     ghost tokens = { spec.insert_source_tokens };
 
-    #[tactic(auto, using(std::proofs::lemmas::Grind::common_steps))]
     fn walk<S: Sink>(&self, sink: &mut S) -> Result<(), S::Stop> {
         match self {
             InsertSource::Values(values) => {
-                sink.word(Word::Values)?;
-                walk_bracketed(values, sink)
+                (Word::Values, Symbol::Open, values, Symbol::Close).walk(sink)
             }
             InsertSource::Query(query) => query.walk(sink),
         }
@@ -140,7 +115,7 @@ impl Tree for NewValue {
     fn walk<S: Sink>(&self, sink: &mut S) -> Result<(), S::Stop> {
         match self {
             NewValue::Expr(expr) => expr.walk(sink),
-            NewValue::Null => sink.word(Word::Null),
+            NewValue::Null => Word::Null.walk(sink),
         }
     }
 }
@@ -148,13 +123,9 @@ impl Tree for NewValue {
 impl Tree for Update {
     ghost tokens = { spec.update_tokens };
 
-    #[tactic(auto, using(std::proofs::lemmas::Grind::common_steps))]
     fn walk<S: Sink>(&self, sink: &mut S) -> Result<(), S::Stop> {
-        sink.word(Word::Update)?;
-        self.table.walk(sink)?;
-        sink.word(Word::Set)?;
-        self.assignments.walk(sink)?;
-        self.target.walk(sink)
+        let set = (Word::Set, &self.assignments);
+        (Word::Update, &self.table, set, &self.target).walk(sink)
     }
 }
 
@@ -162,20 +133,15 @@ impl Tree for Assignment {
     ghost tokens = { spec.assignment_tokens };
 
     fn walk<S: Sink>(&self, sink: &mut S) -> Result<(), S::Stop> {
-        sink.name(self.column)?;
-        sink.symbol(Symbol::Equal)?;
-        self.value.walk(sink)
+        (self.column, Symbol::Equal, &self.value).walk(sink)
     }
 }
 
 impl Tree for Delete {
     ghost tokens = { spec.delete_tokens };
 
-    #[tactic(auto, using(std::proofs::lemmas::Grind::common_steps))]
     fn walk<S: Sink>(&self, sink: &mut S) -> Result<(), S::Stop> {
-        sink.words(&[Word::Delete, Word::From])?;
-        self.table.walk(sink)?;
-        self.target.walk(sink)
+        (Word::Delete, Word::From, &self.table, &self.target).walk(sink)
     }
 }
 
@@ -183,12 +149,10 @@ impl Tree for Where {
     ghost tokens = { spec.target_tokens };
 
     fn walk<S: Sink>(&self, sink: &mut S) -> Result<(), S::Stop> {
-        sink.word(Word::Where)?;
         match self {
-            Where::Condition(cond) => cond.walk(sink),
+            Where::Condition(cond) => (Word::Where, cond).walk(sink),
             Where::CurrentOf(cursor) => {
-                sink.word(Word::Current)?;
-                sink.word_and_name(Word::Of, *cursor)
+                (Word::Where, Word::Current, Word::Of, *cursor).walk(sink)
             }
         }
     }
