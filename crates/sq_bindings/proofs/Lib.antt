@@ -1,3 +1,4 @@
 pub mod Added
 pub mod Guards
+pub mod Listed
 pub mod Unused

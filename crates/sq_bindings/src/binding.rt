@@ -203,11 +203,17 @@ fn bare_declared(
 ) -> Result<Vec<Declaration>, AllocError>
     ensures { IfOk result (λ list. list.items ≡ first ∷ map (λ b. b.declaration) rest.now) }
 {
-    let others: Vec<Declaration> = rest.iter().map(|bare| bare.declaration).collect(alloc)?;
+    let others = declarations_of(alloc, rest)?;
     let mut list = Vec::new(alloc);
     list.push(first)?;
     list.extend_from_slice(others.as_slice())?;
     Ok(list)
+}
+
+fn declarations_of(alloc: Global, rest: &[BareDeclaration]) -> Result<Vec<Declaration>, AllocError>
+    ensures { IfOk result (λ list. list.items ≡ map (λ b. b.declaration) rest.now) }
+{
+    rest.iter().map(|bare| bare.declaration).collect(alloc)
 }
 
 /// Adds a part of a procedure.

@@ -1,5 +1,6 @@
 //! What a host's language calls things, and its templates.
 ghost use Rattle.std.specs.Prelude.{◌≡◌, IfOk};
+ghost use Rattle.std.specs.List.{list_any};
 ghost use Rattle.sq_bindings.specs.Declaring as declaring;
 ghost use Rattle.sq_bindings.specs.Called as called;
 
@@ -56,7 +57,7 @@ impl<'a> Part<'a> {
     pub(crate) fn missing_sqlstate(&self, declarations: &[Declaration]) -> &'a str
         ensures { result.now ≡ spec.missing_sqlstate self.now declarations.now }
     {
-        if declarations.iter().any(|it| is_sqlstate(it)) {
+        if has_sqlstate(declarations) {
             ""
         } else {
             self.no_sqlstate
@@ -67,7 +68,7 @@ impl<'a> Part<'a> {
     pub(crate) fn missing_sqlcode(&self, declarations: &[Declaration]) -> &'a str
         ensures { result.now ≡ spec.missing_sqlcode self.now declarations.now }
     {
-        if declarations.iter().any(|it| is_sqlcode(it)) {
+        if has_sqlcode(declarations) {
             ""
         } else {
             self.no_sqlcode
@@ -100,10 +101,26 @@ fn is_sqlstate(declaration: &Declaration) -> bool
     matches!(declaration, Declaration::Sqlstate)
 }
 
+fn has_sqlstate(declarations: &[Declaration]) -> bool
+    ensures { result ≡ list_any declaring.is_sqlstate declarations.now }
+{
+    declarations
+        .iter()
+        .any(|declaration| is_sqlstate(declaration))
+}
+
 fn is_sqlcode(declaration: &Declaration) -> bool
     ensures { result ≡ declaring.is_sqlcode declaration.now }
 {
     matches!(declaration, Declaration::Sqlcode)
+}
+
+fn has_sqlcode(declarations: &[Declaration]) -> bool
+    ensures { result ≡ list_any declaring.is_sqlcode declarations.now }
+{
+    declarations
+        .iter()
+        .any(|declaration| is_sqlcode(declaration))
 }
 
 /// No templates.

@@ -1,5 +1,6 @@
 //! What modules, procedures and parameters are called in C and in COBOL.
-ghost use Rattle.std.specs.Prelude.{◌≡◌, IfOk};
+ghost use Rattle.std.specs.Prelude.{◌≡◌, IfOk, bytes_eq, map, nat_eq};
+ghost use Rattle.std.specs.List.{ends_with, list_any};
 ghost use Rattle.sq_bindings.specs.Names as spec;
 
 use sq_lex::Name;
@@ -9,12 +10,24 @@ use std::alloc::{AllocError, Global};
 fn is_among(words: &[&[u8]], text: &[u8]) -> bool
     ensures { result ≡ spec.is_among (spec.listed words.now) text.now }
 {
+    has_word(words, text)
+}
+
+fn has_word(words: &[&[u8]], text: &[u8]) -> bool
+    ensures { result ≡ list_any (λ word. bytes_eq word.now text.now) words.now }
+{
     words.iter().any(|word| *word == text)
 }
 
 /// Whether a text ends with one of some words.
 fn ends_with_any(words: &[&[u8]], text: &[u8]) -> bool
     ensures { result ≡ spec.ends_with_any (spec.listed words.now) text.now }
+{
+    has_end(words, text)
+}
+
+fn has_end(words: &[&[u8]], text: &[u8]) -> bool
+    ensures { result ≡ list_any (λ word. ends_with nat_eq text.now word.now) words.now }
 {
     words.iter().any(|word| text.ends_with(word))
 }
@@ -100,15 +113,17 @@ fn cobol_code(code: u8) -> u8
     if code == b'_' { b'-' } else { code }
 }
 
+fn hyphened(alloc: Global, codes: &[u8]) -> Result<Vec<u8>, AllocError>
+    ensures { IfOk result (λ text. text.items ≡ map spec.cobol_code codes.now) }
+{
+    codes.iter().map(|code| cobol_code(*code)).collect(alloc)
+}
+
 /// What a name is called in COBOL.
 pub(crate) fn cobol_name(alloc: Global, words: &[&[u8]], name: Name) -> Result<Vec<u8>, AllocError>
     ensures { IfOk result (λ text. text.items ≡ spec.cobol_name (spec.listed words.now) name) }
 {
-    let text: Vec<u8> = name
-        .codes()
-        .iter()
-        .map(|code| cobol_code(*code))
-        .collect(alloc)?;
+    let text = hyphened(alloc, name.codes())?;
     let is_used = is_used_in_cobol(words, text.as_slice());
     escaped(text, is_used, COBOL_ESCAPE)
 }

@@ -1,5 +1,6 @@
 //! The parameters of a procedure, and how its statement uses them.
 ghost use Rattle.std.specs.Prelude.{◌≡◌};
+ghost use Rattle.std.specs.List.{list_any};
 ghost use Rattle.sq_bindings.specs.Parameter as spec;
 
 use crate::mention::mentions;
@@ -94,12 +95,13 @@ fn names(target: &Parameter, name: Name) -> bool
 fn is_target(targets: &CommaList<Parameter>, name: Name) -> bool
     ensures { result ≡ spec.is_target name targets.now }
 {
-    names(&targets.first, name)
-        || targets
-            .rest
-            .as_slice()
-            .iter()
-            .any(|target| names(target, name))
+    names(&targets.first, name) || has_name(targets.rest.as_slice(), name)
+}
+
+fn has_name(targets: &[Parameter], name: Name) -> bool
+    ensures { result ≡ list_any (spec.names name) targets.now }
+{
+    targets.iter().any(|target| names(target, name))
 }
 
 /// How a statement uses a parameter that is read elsewhere or isn't, and set or isn't.
