@@ -65,11 +65,19 @@ def build_over(folders):
     return words + ["--toolchain", f"{top}/toolchain", "--backend", "llvm", "-o", ARCHIVE]
 
 
+def is_current(folders):
+    """Whether the archive is there, and newer than the libraries that it stands on and the crate's own sources."""
+    sources = [*folders, *CRATE.joinpath("src").rglob("*.rt")]
+    return ARCHIVE.exists() and all(it.stat().st_mtime < ARCHIVE.stat().st_mtime for it in sources)
+
+
 def archive():
-    """The archive of the crate, proved."""
+    """The archive of the crate, proved: the one that is there, if it is current."""
     if shutil.which("rt") is None:
         sys.exit("sqmod: there is no command rt on the path; it belongs to the Rattle kit")
     folders = libraries()
+    if folders and is_current(folders):
+        return ARCHIVE
     words = build_over(folders) if folders else ["rt", "lib"]
     ARCHIVE.parent.mkdir(exist_ok=True)
     done = subprocess.run(words, cwd=CRATE, stdin=subprocess.DEVNULL, capture_output=True, text=True)
