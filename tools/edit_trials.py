@@ -23,7 +23,7 @@ import time
 from dataclasses import dataclass
 from pathlib import Path
 
-from edits import FUNCTION, NAMES, ROOT, crates, edits_of, fault_of, impl_of, item_with, logic, stamps_of, sum_of, text_of, write_stamps
+from edits import FUNCTION, NAMES, ROOT, crates, edits_of, impl_of, item_with, lack_of, logic, misfit_of, stamps_of, sum_of, text_of, write_stamps
 
 PARTS = ("src", "specs", "proofs")
 ONE_JOB = ["--jobs", "1"]
@@ -279,7 +279,7 @@ def try_edits(names, all_anew):
     failed, known = 0, {crate.name: crate for crate in tool().rtlib.crates_below(str(ROOT))}
     for name in [name for name in crates() if not names or name in names]:
         stamps = stamps_of(name)
-        edits = [edit for edit in edits_of(name) if all_anew or fault_of(edit, stamps)]
+        edits = [edit for edit in edits_of(name) if all_anew or misfit_of(edit) or lack_of(edit, stamps)]
         if not edits:
             continue
         out = ROOT / "crates" / name / "out"

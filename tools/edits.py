@@ -1,7 +1,8 @@
 #!/usr/bin/env python3
 """The wrong bodies of docs/EDITS.md, and what the checker said of each.
 
-edits.py check    names each edit that has no stamp, or one of other texts than today's, and then fails
+edits.py check    names each edit that has no stamp, or one of other texts than today's, and then fails; but for those that are owed
+edits.py owe      writes the list of those that are owed, tools/edits_owed.txt: each edit that has no stamp of today's texts
 
 An edit is a file NAME.edit in crates/CRATE/must-fail or crates/CRATE/more-edits. crates/CRATE/edits.stamp has a line for each
 edit that was tried: its name, the day, the kit's logic, a sum of the texts that its verdict stands on, and the function whose
@@ -21,6 +22,8 @@ ROOT = Path(__file__).resolve().parent.parent
 FOLDERS = ("must-fail", "more-edits")
 HEADER = "# Edits that the checker refused: name, day, logic, sum of texts, function that isn't proved. Written by tools/try_edits.sh\n"
 NAMES = "names"
+OWED = ROOT / "tools/edits_owed.txt"
+OWED_HEADER = "# Edits that have no verdict of today's texts, as CRATE NAME. tools/try_edits.sh CRATE tries them; tools/edits.py owe writes this list.\n"
 # A module of definitions, wherever a text names one.
 CITED = re.compile(r"\bRattle\.(\w+)\.specs\.([^\s;{}(),]+)")
 VISIBLE = r"(?:pub(?:\(.*?\))? )?"
@@ -253,13 +256,24 @@ def write_stamps(crate, stamps):
     stamp_file(crate).write_text(HEADER + "".join(lines))
 
 
-def fault_of(edit, stamps):
-    """What is wrong with an edit or its stamp, or None."""
+def owed():
+    """The edits that may lack a stamp of today's texts, by crate and name."""
+    lines = OWED.read_text().split("\n") if OWED.is_file() else []
+    return {tuple(line.split()) for line in lines if line.strip() and not line.startswith("#")}
+
+
+def misfit_of(edit):
+    """Which of an edit's texts does not stand once in its file, or None."""
     for change in edit.changes or [Change("", "", "")]:
         file = ROOT / "crates" / edit.crate / change.path
         count = file.read_text(encoding="utf-8").count(change.old) if file.is_file() else 0
         if count != 1:
             return f"{change.path or 'no file'} has its old text {count} times, and not once"
+    return None
+
+
+def lack_of(edit, stamps):
+    """Why an edit has no verdict of today's texts, or None."""
     words = stamps.get(edit.name)
     if not words:
         return "it has no verdict"
@@ -271,7 +285,7 @@ def fault_of(edit, stamps):
 
 
 def check():
-    faults, count = [], 0
+    faults, count, known, still = [], 0, owed(), 0
     for crate in crates():
         stamps, edits = stamps_of(crate), edits_of(crate)
         names = [edit.name for edit in edits]
@@ -279,18 +293,33 @@ def check():
         faults += [f"crates/{crate}: two edits have the name {name}" for name in sorted(set(names)) if names.count(name) > 1]
         faults += [f"crates/{crate}/edits.stamp: there is no edit {name}" for name in sorted(set(stamps) - set(names))]
         for edit in edits:
-            why = fault_of(edit, stamps)
-            faults += [f"{edit.file.relative_to(ROOT)}: {why}"] * bool(why)
+            misfit, lack = misfit_of(edit), lack_of(edit, stamps)
+            is_owed = (crate, edit.name) in known
+            still += bool(lack) and is_owed
+            if lack and is_owed:
+                lack = None
+            elif is_owed:
+                lack = f"it has a verdict, and stands in {OWED.relative_to(ROOT)}: tools/edits.py owe takes it out"
+            faults += [f"{edit.file.relative_to(ROOT)}: {why}" for why in (misfit, lack) if why]
+            known.discard((crate, edit.name))
+    faults += [f"{OWED.relative_to(ROOT)}: there is no edit {name} of {crate}" for crate, name in sorted(known)]
     for fault in faults:
         print(f"edits: {fault}")
     if faults:
         print(f"edits: {len(faults)} faults in {count} edits. tools/try_edits.sh CRATE.. tries those of a crate that have no good stamp")
     else:
-        print(f"edits: each of {count} edits has a verdict of today's texts")
+        print(f"edits: {count - still} of {count} edits have a verdict of today's texts; {still} are owed ({OWED.relative_to(ROOT)})")
     return 1 if faults else 0
 
 
+def owe():
+    lacking = [(crate, edit.name) for crate in crates() for edit in edits_of(crate) if lack_of(edit, stamps_of(crate))]
+    OWED.write_text(OWED_HEADER + "".join(f"{crate} {name}\n" for crate, name in sorted(lacking)))
+
+
 if __name__ == "__main__":
+    if sys.argv[1:] == ["owe"]:
+        sys.exit(owe())
     if sys.argv[1:] != ["check"]:
         sys.exit(__doc__)
     sys.exit(check())
