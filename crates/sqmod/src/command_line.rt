@@ -224,11 +224,9 @@ fn bind_command<'a>(alloc: Global, name: &'a str, about: &'a str) -> Result<Comm
     ensures app { IfOk result (λ command. app_of command ≡ spec.bind name.entry.now) }
     ensures local { IfOk result (λ command. (fields_of command).has_globals ≡ false) }
 {
-    Command::new(alloc, name).about(about).arg(files_option(
-        alloc,
-        "module",
-        "A file with a module",
-    ).required(true))
+    Command::new(alloc, name)
+        .about(about)
+        .arg(modules_option(alloc))
 }
 
 /// The command with the subcommands that read files.
@@ -362,6 +360,14 @@ fn files_option<'a>(alloc: Global, name: &'a str, help: &'a str) -> Arg<'a>
     ensures local { result.global ≡ false }
 {
     value_option(alloc, name, "F", help).action(ArgAction::Append)
+}
+
+/// The option for modules of which one must be given.
+fn modules_option<'a>(alloc: Global) -> Arg<'a>
+    ensures rule { rule_of result ≡ spec.modules_rule }
+    ensures local { result.global ≡ false }
+{
+    files_option(alloc, "module", "A file with a module").required(true)
 }
 
 fn script_option<'a>(alloc: Global) -> Arg<'a>
