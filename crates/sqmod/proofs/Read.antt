@@ -1,13 +1,16 @@
 -- What the getters read of the rows that a parse left.
 use Rattle.std.proofs.Common.{◌≡◌, ◌∙◌, ◌≤◌, ℕ, refl, sym, ap, arith, List, [], map, Option, Some, None, Result, Ok}
-use Rattle.std.proofs.Common.{Err, true}
+use Rattle.std.proofs.Common.{Err, subst, true}
 use Rattle.std.specs.Prelude.{IfSome, codes, option_map, unwrap_or}
 use Rattle.std.specs.Option.{option_map_or}
+use Rattle.std.specs.Result.{IsErrAnd}
 use Rattle.std.specs.Borrow.{Bor}
 use Rattle.std.specs.Str.Parse.{ParsesUnsigned}
 use Rattle.clap.specs.Matches.{ReadsOne, first_value, matched_of, one_text, raw_values, subcommand_name_of}
+use Rattle.clap.specs.Kinds.{FailsBy, HasKind, Kinds}
 use Rattle.clap.specs.Words.{App, HasMatchesOf, IsUnsignedIn, Row, Text, fault_of, first_of, is_simple, is_simple_and_free, one_of, rows_of}
 use Rattle.clap.specs.Words.{subcommand_of, subcommand_rows_of}
+use Rattle.clap.specs.declared.error.Error.{Error}
 use Rattle.clap.specs.declared.parser.matches.ArgMatches.{ArgMatches, out-ArgMatches}
 use Rattle.clap.specs.declared.parser.matches.Found.{Found as Entries}
 use Rattle.clap.proofs.WalkLemmas.{first_value-rows, one_text-rows, raw_values-rows}
@@ -68,6 +71,15 @@ one_found a words m app none matches =
       met = met;
       entered = (matches (ap is_simple app ∙ is_simple_command)).1 ∙ (ap (λ x. subcommand_of x words) app ∙ met.is);
     }
+
+-- An error of the parse is of a kind that the words' fault has.
+pub kind_found : (a : App) (words : List Text) (e : Error) → a ≡ sqmod
+    → (is_simple_and_free a ≡ true → HasKind (fault_of a words) e) → HasKind (fault_of sqmod words) e
+kind_found a words e app kinds = subst (λ x. HasKind (fault_of x words) e) app (kinds (ap is_simple_and_free app ∙ is_free_command))
+
+pub fails_by : {T : Type 0} (kinds : Kinds) (r : Result T Error) (e : Error) → IsErrAnd r (λ x. x ≡ e) → HasKind kinds e → FailsBy kinds r
+fails_by kinds (Ok x) e is kind = absurd is
+fails_by kinds (Err x) e is kind = subst (HasKind kinds) (sym is) kind
 
 -- the getter of the subcommand gives its rows
 pub rows_found : {P : Type 0} (words : List Text) (m : ArgMatches) (found : Found words m) (rows_at : P → List Row) (o : Option P) (p : P)

@@ -1,8 +1,8 @@
 use Rattle.std.proofs.Common.{List, map, string_bytes, subst, sym}
-use Rattle.clap.specs.Words.{Row, Text, app_of, found_of, rows_of}
-use Rattle.sqmod.specs.CommandLine.{IsGiven, MakesTask}
+use Rattle.clap.specs.Words.{Row, Text, app_of, fault_of, found_of, rows_of}
+use Rattle.sqmod.specs.CommandLine.{IsGiven, MakesTask, sqmod}
 use Rattle.sqmod.proofs.Given.{rows_in_range, script_there}
-use Rattle.sqmod.proofs.Read.{name_found, one_found, rows_found}
+use Rattle.sqmod.proofs.Read.{fails_by, kind_found, name_found, one_found, rows_found}
 use Rattle.sqmod.proofs.command_line.read_task.Goals as goal
 
 pub task_of-requires : goal.task_of-requires
@@ -41,3 +41,9 @@ returns-clause-asked c =
     let task = c.in_ok-task_of.field-0 in
     let made = subst (λ n. MakesTask n met.rows task) (sym name) (subst (λ (given : List Row). MakesTask c.unwrap.result.0.now given task) (sym rows) c.in_ok-task_of.ensures.made) in
     (met.name, met.rows, met.is, made)
+
+pub returns-in_err-matches-clause-refused : goal.returns-in_err-matches-clause-refused
+returns-in_err-matches-clause-refused c =
+    let words : List Text = map string_bytes c.args.words.now in
+    let kind = kind_found (app_of c.in_ok-command.command) words c.in_err-matches.field-0.0 c.in_ok-command.ensures.app c.in_err-matches.ensures.kinds in
+    fails_by (fault_of sqmod words) c.from_residual-in_err-matches.result c.in_err-matches.field-0.0 c.from_residual-in_err-matches.ensures.1 kind
