@@ -103,7 +103,7 @@ WORDS = (
     ("run --script c --script d",
      "error: the argument '--script <F>' cannot be used multiple times\n\nUsage: sqmod run [OPTIONS] --script <F>\n" + SEE_HELP),
     ("walk", "error: unrecognized subcommand 'walk'\n\nUsage: sqmod <COMMAND>\n" + SEE_HELP),
-    ("", "error: 'sqmod' requires a subcommand but one was not provided\n  [subcommands: run, check, explain, help]\n\n"
+    ("", "error: 'sqmod' requires a subcommand but one was not provided\n  [subcommands: run, check, explain, test, bind-c, bind-cobol, help]\n\n"
          "Usage: sqmod <COMMAND>\n" + SEE_HELP),
     ("--help", """\
 Processes SQL-92 schemas and modules, and runs a script of procedure calls
@@ -111,13 +111,17 @@ Processes SQL-92 schemas and modules, and runs a script of procedure calls
 Usage: sqmod <COMMAND>
 
 Commands:
-  run      Runs a script
-  check    Says which calls answer 42000 and why, and which cursors and views are updatable
-  explain  Explains a status, a refusal or a fault, or lists their names
-  help     Print this message or the help of the given subcommand(s)
+  run         Runs a script
+  check       Says which calls answer 42000 and why, and which cursors and views are updatable
+  explain     Explains a status, a refusal or a fault, or lists their names
+  test        Runs the cases below folders, and says which come to what they want
+  bind-c      Prints a header for C with a function for each procedure
+  bind-cobol  Prints a copybook for COBOL with a paragraph for each procedure
+  help        Print this message or the help of the given subcommand(s)
 
 Options:
-  -h, --help  Print help
+  -h, --help     Print help
+  -V, --version  Print version
 """),
     ("run --help", "Runs a script\n\nUsage: sqmod run [OPTIONS] --script <F>\n\n" + RUN_OPTIONS),
     ("check --help", "Says which calls answer 42000 and why, and which cursors and views are updatable\n\n"
