@@ -10,8 +10,8 @@ use Rattle.sq_lex.specs.declared.name.Name.{Name}
 use Rattle.sq_bindings.specs.Names.{c_ends, c_function, c_parameter, cobol_code, cobol_name, ends_with_any, escaped, is_among, is_used_in_c, is_used_in_cobol, lower}
 use Rattle.sq_bindings.specs.Template.{Text}
 use Rattle.sq_bindings.specs.declared.names.TheConstants.{C_ESCAPE, COBOL_ESCAPE}
-use Rattle.sq_bindings.specs.declared.c_words.TheConstants.{C_WORDS}
-use Rattle.sq_bindings.specs.declared.cobol_words.TheConstants.{COBOL_WORDS}
+use Rattle.sq_bindings.specs.declared.c_words.TheConstants.{FROM_ALIGNAS, FROM_ERRNO, FROM_NOEXCEPT, FROM_THIS}
+use Rattle.sq_bindings.specs.declared.cobol_words.TheConstants as cobol
 
 -- a text ends with what stands at its end
 ends_so : (text escape : Text) → ends_with nat_eq (text ++ escape) escape ≡ true
@@ -51,10 +51,13 @@ left_false false b e = refl
 
 -- the words of C and C++, and those of COBOL
 abbrev pub c_words : List Text
-c_words = map (λ word. word.now) C_WORDS
+c_words = map (λ word. word.now) (FROM_ALIGNAS ++ FROM_ERRNO ++ FROM_NOEXCEPT ++ FROM_THIS)
 
 abbrev pub cobol_words : List Text
-cobol_words = map (λ word. word.now) COBOL_WORDS
+cobol_words = map (λ word. word.now)
+    (cobol.FROM_ABSENT ++ cobol.FROM_BINARY_LONG ++ cobol.FROM_COMPUTATIONAL_6 ++ cobol.FROM_DOWN
+    ++ cobol.FROM_EXCEPTION_OBJECT ++ cobol.FROM_HIGH_VALUE ++ cobol.FROM_LINE ++ cobol.FROM_OR
+    ++ cobol.FROM_RELATIVE ++ cobol.FROM_SKIP2 ++ cobol.FROM_TOP)
 
 no_word_ends_so : none_ends C_ESCAPE.now c_words ≡ true
 no_word_ends_so = refl

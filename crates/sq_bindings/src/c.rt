@@ -1,7 +1,7 @@
 //! The templates of a header for C.
 
-use crate::c_words::C_WORDS;
-use crate::language::{Host, Language, NOTHING, Naming, Part, Pass, Uses};
+use crate::language::{NOTHING, Part, Pass, Uses};
+use std::alloc::{AllocError, Global};
 
 /// What stands once at the start of a header.
 const START: &str = "/* Made by `sqmod bind-c`: one function for each procedure.
@@ -276,20 +276,28 @@ const SET: Part<'static> = Part {
 };
 
 /// The header: a guard for each module, and one function for each of its procedures.
-pub const C: Language<'static> = Language {
-    naming: Naming {
-        host: Host::C,
-        words: &C_WORDS,
-    },
-    start: START,
-    passes: &[Pass {
+pub(crate) fn passes_in_c(alloc: Global) -> Result<Vec<Pass<'static>>, AllocError> {
+    let mut passes = Vec::new(alloc);
+    passes.push(Pass {
         start: "
 #ifndef SQMOD_BOUND_~
 #define SQMOD_BOUND_~
 ",
-        parts: &[NAMED, DECLARED, STATUS, TESTED, ADDED, SET],
-    }],
-    end: "
+        parts: header(),
+    })?;
+    Ok(passes)
+}
+
+static HEADER: [Part<'static>; 6] = [NAMED, DECLARED, STATUS, TESTED, ADDED, SET];
+
+fn header() -> &'static [Part<'static>] {
+    HEADER.as_slice()
+}
+
+pub(crate) fn start_in_c() -> &'static str {
+    START
+}
+
+pub(crate) const C_END: &str = "
 #endif
-",
-};
+";

@@ -1,8 +1,36 @@
 //! Names in use in C and C++, in alphabetical order.
 
+use std::alloc::{AllocError, Global};
+
 /// The reserved words of C (C99, C11, C23, and what GNU adds) and of C++ (up to C++26), names of their headers that are macros or
 /// types, and the names that a function of the header has in use.
-pub(crate) const C_WORDS: [&[u8]; 186] = [
+pub(crate) fn words_in_use_in_c(alloc: Global) -> Result<Vec<&'static [u8]>, AllocError> {
+    let mut words = Vec::new(alloc);
+    for part in [from_alignas(), from_errno(), from_noexcept(), from_this()] {
+        words.extend_from_slice(part)?;
+    }
+    Ok(words)
+}
+
+// A proof about a list of words costs the square of its length, so the words are in several.
+
+fn from_alignas() -> &'static [&'static [u8]] {
+    &FROM_ALIGNAS
+}
+
+fn from_errno() -> &'static [&'static [u8]] {
+    &FROM_ERRNO
+}
+
+fn from_noexcept() -> &'static [&'static [u8]] {
+    &FROM_NOEXCEPT
+}
+
+fn from_this() -> &'static [&'static [u8]] {
+    &FROM_THIS
+}
+
+const FROM_ALIGNAS: [&[u8]; 47] = [
     b"alignas",
     b"alignof",
     b"and",
@@ -50,6 +78,9 @@ pub(crate) const C_WORDS: [&[u8]; 186] = [
     b"dynamic_cast",
     b"else",
     b"enum",
+];
+
+const FROM_ERRNO: [&[u8]; 47] = [
     b"errno",
     b"explicit",
     b"export",
@@ -97,6 +128,9 @@ pub(crate) const C_WORDS: [&[u8]; 186] = [
     b"namespace",
     b"near",
     b"new",
+];
+
+const FROM_NOEXCEPT: [&[u8]; 47] = [
     b"noexcept",
     b"noreturn",
     b"not",
@@ -144,6 +178,9 @@ pub(crate) const C_WORDS: [&[u8]; 186] = [
     b"switch",
     b"synchronized",
     b"template",
+];
+
+const FROM_THIS: [&[u8]; 45] = [
     b"this",
     b"thread_local",
     b"throw",

@@ -1,8 +1,8 @@
 //! The templates of a copybook for COBOL. Each line stands within columns 8 to 72, so that it is read in the fixed and in the free
 //! format. The copybook is copied twice: the first time it gives the storage, the second time the paragraphs.
 
-use crate::cobol_words::COBOL_WORDS;
-use crate::language::{Host, Language, NOTHING, Naming, Part, Pass, Uses};
+use crate::language::{NOTHING, Part, Pass, Uses};
+use std::alloc::{AllocError, Global};
 
 /// What stands before the storage of a module: the storage that all modules share, unless it is there.
 const STORAGE_START: &str = "      *> Made by sqmod bind-cobol. Copy it in WORKING-STORAGE,
@@ -452,22 +452,30 @@ const GOT: Part<'static> = Part {
 };
 
 /// The copybook: a group for each module with one for each of its procedures, and a paragraph for each procedure.
-pub const COBOL: Language<'static> = Language {
-    naming: Naming {
-        host: Host::Cobol,
-        words: &COBOL_WORDS,
-    },
-    start: "",
-    passes: &[
-        Pass {
-            start: STORAGE_START,
-            parts: &[GROUP, STORED],
-        },
-        Pass {
-            start: PARAGRAPHS_START,
-            parts: &[BEGUN, PUT, GOT],
-        },
-    ],
-    end: "       >>END-IF
-",
-};
+pub(crate) fn passes_in_cobol(alloc: Global) -> Result<Vec<Pass<'static>>, AllocError> {
+    let mut passes = Vec::new(alloc);
+    passes.push(Pass {
+        start: STORAGE_START,
+        parts: storage(),
+    })?;
+    passes.push(Pass {
+        start: PARAGRAPHS_START,
+        parts: paragraphs(),
+    })?;
+    Ok(passes)
+}
+
+static STORAGE: [Part<'static>; 2] = [GROUP, STORED];
+
+fn storage() -> &'static [Part<'static>] {
+    STORAGE.as_slice()
+}
+
+static PARAGRAPHS: [Part<'static>; 3] = [BEGUN, PUT, GOT];
+
+fn paragraphs() -> &'static [Part<'static>] {
+    PARAGRAPHS.as_slice()
+}
+
+pub(crate) const COBOL_END: &str = "       >>END-IF
+";

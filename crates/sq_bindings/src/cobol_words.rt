@@ -1,7 +1,75 @@
 //! Names in use in COBOL, in alphabetical order.
 
+use std::alloc::{AllocError, Global};
+
 /// The reserved words of COBOL (1985 to 2023, and those of GnuCOBOL and of other compilers) that are reserved in any context.
-pub(crate) const COBOL_WORDS: [&[u8]; 623] = [
+pub(crate) fn words_in_use_in_cobol(alloc: Global) -> Result<Vec<&'static [u8]>, AllocError> {
+    let mut words = Vec::new(alloc);
+    for part in [
+        from_absent(),
+        from_binary_long(),
+        from_computational_6(),
+        from_down(),
+        from_exception_object(),
+        from_high_value(),
+        from_line(),
+        from_or(),
+        from_relative(),
+        from_skip2(),
+        from_top(),
+    ] {
+        words.extend_from_slice(part)?;
+    }
+    Ok(words)
+}
+
+// A proof about a list of words costs the square of its length, so the words are in several.
+
+fn from_absent() -> &'static [&'static [u8]] {
+    &FROM_ABSENT
+}
+
+fn from_binary_long() -> &'static [&'static [u8]] {
+    &FROM_BINARY_LONG
+}
+
+fn from_computational_6() -> &'static [&'static [u8]] {
+    &FROM_COMPUTATIONAL_6
+}
+
+fn from_down() -> &'static [&'static [u8]] {
+    &FROM_DOWN
+}
+
+fn from_exception_object() -> &'static [&'static [u8]] {
+    &FROM_EXCEPTION_OBJECT
+}
+
+fn from_high_value() -> &'static [&'static [u8]] {
+    &FROM_HIGH_VALUE
+}
+
+fn from_line() -> &'static [&'static [u8]] {
+    &FROM_LINE
+}
+
+fn from_or() -> &'static [&'static [u8]] {
+    &FROM_OR
+}
+
+fn from_relative() -> &'static [&'static [u8]] {
+    &FROM_RELATIVE
+}
+
+fn from_skip2() -> &'static [&'static [u8]] {
+    &FROM_SKIP2
+}
+
+fn from_top() -> &'static [&'static [u8]] {
+    &FROM_TOP
+}
+
+const FROM_ABSENT: [&[u8]; 57] = [
     b"ABSENT",
     b"ACCEPT",
     b"ACCESS",
@@ -59,6 +127,9 @@ pub(crate) const COBOL_WORDS: [&[u8]; 623] = [
     b"BINARY-CHAR",
     b"BINARY-DOUBLE",
     b"BINARY-INT",
+];
+
+const FROM_BINARY_LONG: [&[u8]; 57] = [
     b"BINARY-LONG",
     b"BINARY-LONG-LONG",
     b"BINARY-SHORT",
@@ -116,6 +187,9 @@ pub(crate) const COBOL_WORDS: [&[u8]; 623] = [
     b"COMPUTATIONAL-3",
     b"COMPUTATIONAL-4",
     b"COMPUTATIONAL-5",
+];
+
+const FROM_COMPUTATIONAL_6: [&[u8]; 57] = [
     b"COMPUTATIONAL-6",
     b"COMPUTATIONAL-N",
     b"COMPUTATIONAL-X",
@@ -173,6 +247,9 @@ pub(crate) const COBOL_WORDS: [&[u8]; 623] = [
     b"DIVIDE",
     b"DIVISION",
     b"DOUBLE",
+];
+
+const FROM_DOWN: [&[u8]; 57] = [
     b"DOWN",
     b"DUPLICATES",
     b"DYNAMIC",
@@ -230,6 +307,9 @@ pub(crate) const COBOL_WORDS: [&[u8]; 623] = [
     b"EVALUATE",
     b"EVENT",
     b"EXCEPTION",
+];
+
+const FROM_EXCEPTION_OBJECT: [&[u8]; 57] = [
     b"EXCEPTION-OBJECT",
     b"EXCLUSIVE",
     b"EXCLUSIVE-OR",
@@ -287,6 +367,9 @@ pub(crate) const COBOL_WORDS: [&[u8]; 623] = [
     b"GROUP-USAGE",
     b"HANDLE",
     b"HEADING",
+];
+
+const FROM_HIGH_VALUE: [&[u8]; 57] = [
     b"HIGH-VALUE",
     b"HIGH-VALUES",
     b"I-O",
@@ -344,6 +427,9 @@ pub(crate) const COBOL_WORDS: [&[u8]; 623] = [
     b"LIMITS",
     b"LINAGE",
     b"LINAGE-COUNTER",
+];
+
+const FROM_LINE: [&[u8]; 57] = [
     b"LINE",
     b"LINE-COUNTER",
     b"LINES",
@@ -401,6 +487,9 @@ pub(crate) const COBOL_WORDS: [&[u8]; 623] = [
     b"OPEN",
     b"OPTIONAL",
     b"OPTIONS",
+];
+
+const FROM_OR: [&[u8]; 57] = [
     b"OR",
     b"ORDER",
     b"ORGANISATION",
@@ -458,6 +547,9 @@ pub(crate) const COBOL_WORDS: [&[u8]; 623] = [
     b"REEL",
     b"REFERENCE",
     b"REFERENCES",
+];
+
+const FROM_RELATIVE: [&[u8]; 57] = [
     b"RELATIVE",
     b"RELEASE",
     b"REMAINDER",
@@ -515,6 +607,9 @@ pub(crate) const COBOL_WORDS: [&[u8]; 623] = [
     b"SIGNED-SHORT",
     b"SIZE",
     b"SKIP1",
+];
+
+const FROM_SKIP2: [&[u8]; 57] = [
     b"SKIP2",
     b"SKIP3",
     b"SMALL-FONT",
@@ -572,6 +667,9 @@ pub(crate) const COBOL_WORDS: [&[u8]; 623] = [
     b"TIMEOUT",
     b"TIMES",
     b"TO",
+];
+
+const FROM_TOP: [&[u8]; 53] = [
     b"TOP",
     b"TRACE",
     b"TRADITIONAL-FONT",

@@ -12,7 +12,7 @@ use std::alloc::{AllocError, Global};
 
 /// A host's language.
 #[derive(Clone, Copy, Debug, PartialEq, Eq)]
-pub(crate) enum Host {
+pub enum Host {
     C,
     Cobol,
 }

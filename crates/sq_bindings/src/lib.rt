@@ -10,6 +10,7 @@ mod c_words;
 mod cobol;
 mod cobol_words;
 mod language;
+mod languages;
 mod mention;
 mod names;
 mod parameter;
@@ -17,6 +18,5 @@ mod picture;
 mod template;
 
 pub use binding::bind_modules;
-pub use c::C;
-pub use cobol::COBOL;
-pub use language::Language;
+pub use language::{Host, Language, Pass};
+pub use languages::{language_of, passes_of, words_in_use};

@@ -11,7 +11,7 @@ use crate::fault::Fault;
 use crate::report_checked;
 use crate::request::fault_of;
 use crate::texts::{Sources, read_sources};
-use sq_bindings::{Language, bind_modules};
+use sq_bindings::{Host, Language, bind_modules, language_of, passes_of, words_in_use};
 use sq_lex::lex;
 use sq_parse::parse_module;
 use sq_perform::check;
@@ -23,10 +23,10 @@ use std::rt::Files;
 /// Reads the modules, prints what binds them to a host's language, and gives the status to end with.
 pub(crate) fn status_of_bind<R: Files + Print + Eprint + AllocGlobal>(
     rt: &R,
-    language: &Language<'_>,
+    host: Host,
     request: &CheckRequest<'_>,
 ) -> u8 {
-    match bound(rt, language, request) {
+    match bound(rt, host, request) {
         Ok(text) => status_of_text(rt, request, text.as_slice()),
         Err(fault) => report_checked(rt, request, fault),
     }
@@ -48,15 +48,45 @@ fn print_text<R: Print>(rt: &R, text: &[u8]) -> io::Result<()> {
 /// The text that binds the modules of a request to a host's language. They are refused as a run refuses them.
 fn bound<R: Files + AllocGlobal>(
     rt: &R,
-    language: &Language<'_>,
+    host: Host,
     request: &CheckRequest<'_>,
 ) -> Result<Vec<u8>, Fault>
     ensures { IfErr result (NamesCheckedFile request.now) }
 {
     let sources = read_sources(rt, request.schemas.as_slice(), request.modules.as_slice())?;
-    let answer = bound_sources(rt.alloc(), language, &sources);
+    let answer = bound_to(rt.alloc(), host, &sources);
     drop(sources);
     answer
+}
+
+/// The text that binds modules to a host's language, by its templates, which keep off the words that are in use there.
+fn bound_to(alloc: Global, host: Host, sources: &Sources) -> Result<Vec<u8>, Fault>
+    ensures { IfErr result
+        (NamesOneOf (length sources.now.schemas.items) (length sources.now.modules.items)) }
+{
+    match words_in_use(alloc, host) {
+        Ok(words) => {
+            let answer = bound_by(alloc, host, words.as_slice(), sources);
+            drop(words);
+            answer
+        }
+        Err(_) => Err(Fault::NoMemory(0)),
+    }
+}
+
+fn bound_by(alloc: Global, host: Host, words: &[&[u8]], sources: &Sources) -> Result<Vec<u8>, Fault>
+    ensures { IfErr result
+        (NamesOneOf (length sources.now.schemas.items) (length sources.now.modules.items)) }
+{
+    match passes_of(alloc, host) {
+        Ok(passes) => {
+            let language = language_of(host, words, passes.as_slice());
+            let answer = bound_sources(alloc, &language, sources);
+            drop(passes);
+            answer
+        }
+        Err(_) => Err(Fault::NoMemory(0)),
+    }
 }
 
 /// Refuses the modules as a run without schemas does, and binds them.

@@ -4,6 +4,7 @@
 #![tactic(auto)]
 
 ghost use Rattle.std.specs.Prelude.{◌≡◌, ◌≤◌};
+ghost use Rattle.sqmod.specs.CommandLine.{IsLimited};
 ghost use Rattle.sqmod.specs.Fault.{status_of};
 ghost use Rattle.sqmod.specs.Request.{NamesCheckedFile, NamesFile};
 
@@ -23,7 +24,7 @@ use clap::error::ErrorKind;
 use command_line::{CheckRequest, Request, Task, read_task};
 use explain::{printed, status_of_explain};
 use fault::{Fault, NO_MEMORY, REFUSED};
-use sq_bindings::{C, COBOL};
+use sq_bindings::Host;
 use sq_store::MOST_ROW_NUMBERS;
 use std::process::ExitCode;
 use std::rt::{Env, Files};
@@ -53,13 +54,28 @@ fn status_of_words<R: Files + Print + Eprint + AllocGlobal + Clone + Drop>(
     words: &[String],
 ) -> u8 {
     match read_task(rt.alloc(), words) {
-        Ok(Task::Run(request)) => status_of_request(rt, &request),
-        Ok(Task::Check(request)) => status_of_check(rt, &request),
-        Ok(Task::Explain(request)) => status_of_explain(rt, request),
-        Ok(Task::Test(request)) => status_of_test(rt, &request),
-        Ok(Task::BindC(request)) => status_of_bind(rt, &C, &request),
-        Ok(Task::BindCobol(request)) => status_of_bind(rt, &COBOL, &request),
+        Ok(task) => {
+            let status = status_of_task(rt, &task);
+            drop(task);
+            status
+        }
         Err(error) => status_of_answer(rt, words, &error),
+    }
+}
+
+fn status_of_task<R: Files + Print + Eprint + AllocGlobal + Clone + Drop>(
+    rt: &R,
+    task: &Task<'_>,
+) -> u8
+    requires { IsLimited task.now }
+{
+    match task {
+        Task::Run(request) => status_of_request(rt, request),
+        Task::Check(request) => status_of_check(rt, request),
+        Task::Explain(request) => status_of_explain(rt, *request),
+        Task::Test(request) => status_of_test(rt, request),
+        Task::BindC(request) => status_of_bind(rt, Host::C, request),
+        Task::BindCobol(request) => status_of_bind(rt, Host::Cobol, request),
     }
 }
 
