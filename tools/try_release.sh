@@ -60,9 +60,10 @@ needed=$(dpkg-deb -f "$folder/sqmod_${version}_amd64.deb" Depends)
 at=$room/tarball/usr
 readelf -d "$at/lib/libsqmod.so" | grep -q 'SONAME.*\[libsqmod\.so\.0\]' || fail "libsqmod.so has no soname"
 words=$(PKG_CONFIG_PATH=$at/lib/pkgconfig pkg-config --cflags --libs sqmod) || fail "pkg-config does not find sqmod"
+"$at/bin/sqmod" bind-c --module "$root/examples/first/module.sql" >"$room/first_bound.h" || fail "bind-c ended with $?"
 # shellcheck disable=SC2086
-cc -std=c99 "$root/examples/host/first.c" $words -o "$room/first"
-LD_LIBRARY_PATH=$at/lib "$room/first" >"$room/report" || fail "the host program ended with $?"
+cc -std=c99 -I"$room" "$root/examples/host/first.c" $words -o "$room/first"
+LD_LIBRARY_PATH=$at/lib "$room/first" "$root"/examples/first/{schema,module}.sql >"$room/report" || fail "the host program ended with $?"
 cmp "$room/report" "$root/examples/host/report.txt" || fail "the host program has another report"
 
 SQMOD_LIBRARY=$at/lib/libsqmod.so.0 python3 -B "$root/host/tests/test_sqmod.py" 2>"$room/log" || {
