@@ -4,7 +4,6 @@
 #![tactic(auto)]
 
 ghost use Rattle.std.specs.Prelude.{◌≡◌, ◌≤◌};
-ghost use Rattle.sqmod.specs.CommandLine.{IsLimited};
 ghost use Rattle.sqmod.specs.Fault.{status_of};
 ghost use Rattle.sqmod.specs.Request.{NamesCheckedFile, NamesFile};
 
@@ -54,28 +53,13 @@ fn status_of_words<R: Files + Print + Eprint + AllocGlobal + Clone + Drop>(
     words: &[String],
 ) -> u8 {
     match read_task(rt.alloc(), words) {
-        Ok(task) => {
-            let status = status_of_task(rt, &task);
-            drop(task);
-            status
-        }
+        Ok(Task::Run(request)) => status_of_request(rt, &request),
+        Ok(Task::Check(request)) => status_of_check(rt, &request),
+        Ok(Task::Explain(request)) => status_of_explain(rt, request),
+        Ok(Task::Test(request)) => status_of_test(rt, &request),
+        Ok(Task::BindC(request)) => status_of_bind(rt, Host::C, &request),
+        Ok(Task::BindCobol(request)) => status_of_bind(rt, Host::Cobol, &request),
         Err(error) => status_of_answer(rt, words, &error),
-    }
-}
-
-fn status_of_task<R: Files + Print + Eprint + AllocGlobal + Clone + Drop>(
-    rt: &R,
-    task: &Task<'_>,
-) -> u8
-    requires { IsLimited task.now }
-{
-    match task {
-        Task::Run(request) => status_of_request(rt, request),
-        Task::Check(request) => status_of_check(rt, request),
-        Task::Explain(request) => status_of_explain(rt, *request),
-        Task::Test(request) => status_of_test(rt, request),
-        Task::BindC(request) => status_of_bind(rt, Host::C, request),
-        Task::BindCobol(request) => status_of_bind(rt, Host::Cobol, request),
     }
 }
 
