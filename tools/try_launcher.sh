@@ -184,7 +184,7 @@ expect 'the version' "sqmod $(cat "$root/VERSION")"$'\nstatus 0' "$(said without
 expect 'the man page has what an installed program lacks' '' "$(grep -E '^(prove|install)' "$root/docs/sqmod.1")"
 
 if [ $# != 0 ]; then
-  for command in $(sed -n '/^\.SH SYNOPSIS/,/^\.SH DESC/p' "$root/docs/sqmod.1" | grep -A1 '^\.B sqmod' | grep -v '^\.B\|^--' | cut -d ' ' -f 1); do
+  for command in $(sed -n '/^\.SH SYNOPSIS/,/^\.SH DESC/p' "$root/docs/sqmod.1" | grep -A1 '^\.B sqmod' | grep -v '^\.B\|^--' | cut -d ' ' -f 1 | tr -d '\\'); do
     expect "the installed program has $command" '' "$("$1" "$command" --help 2>&1 | grep 'unrecognized subcommand')"
   done
 fi
