@@ -4,10 +4,10 @@ use Rattle.std.proofs.Common.{◌≡◌, ◌<◌, ℕ, zero, suc, List, length, 
 use Rattle.std.proofs.lemmas.List.{length-map}
 use Rattle.std.specs.Prelude.{IfErr, OnOk}
 use Rattle.sq_meaning.specs.Report.{Bytes}
-use Rattle.sq_laws.proofs.CallLaws.{failed_changes_nothing}
-use Rattle.sq_laws.proofs.NameLaws.{constraints_hold_in_runs}
-use Rattle.sq_laws.proofs.ExactlyBound.{accepted}
-use Rattle.sq_laws.proofs.Headline.{run_reports, run_stops_after, run_stops_inside}
+use Rattle.sq_run.proofs.CallLaws.{failed_changes_nothing}
+use Rattle.sq_run.proofs.NameLaws.{constraints_hold_in_runs}
+use Rattle.sq_run.proofs.ExactlyBound.{accepted}
+use Rattle.sq_run.proofs.Headline.{run_reports, run_stops_after, run_stops_inside}
 use Rattle.sq_perform.specs.Action.{item_of}
 use Rattle.sq_perform.specs.Run.{Run}
 use Rattle.sq_perform.specs.Stop as session

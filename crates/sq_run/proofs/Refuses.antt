@@ -7,8 +7,8 @@ use Rattle.sq_meaning.specs.Report.{Bytes}
 use Rattle.sq_binding.specs.Catalog.{Catalog}
 use Rattle.sq_binding.specs.Declaring.{catalog_of}
 use Rattle.sq_binding.proofs.Refused.{refusal_in}
-use Rattle.sq_laws.proofs.SchemasRefused.{schemas_refused}
-use Rattle.sq_laws.proofs.ExactlyBound.{accepted}
+use Rattle.sq_run.proofs.SchemasRefused.{schemas_refused}
+use Rattle.sq_run.proofs.ExactlyBound.{accepted}
 use Rattle.sq_perform.specs.Refusal.{Matter, Tokens, Grammar, Depth, Meaning, matter}
 use Rattle.sq_perform.specs.Refused as session
 use Rattle.sq_perform.specs.declared.refusal.Refusal.{Refusal}

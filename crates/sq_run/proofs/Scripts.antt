@@ -39,18 +39,18 @@ use Rattle.sq_module.specs.declared.program.ProcedureName.{ProcedureName}
 use Rattle.sq_module.proofs.Named.{bound_declared}
 use Rattle.sq_session.specs.Kind.{Procedure as SessionProcedure, fits_at}
 use Rattle.sq_session.specs.Session.{Session, is_procedure, name_of, procedure_number, procedure_of, procedures_of}
-use Rattle.sq_laws.proofs.DeclaredTables.{base_tables_named, named_tables}
-use Rattle.sq_laws.proofs.Agrees.{unmapped_at}
-use Rattle.sq_laws.proofs.ExactlyBound.{accepted}
-use Rattle.sq_laws.proofs.Found.{each_of_all, module_found, none_placed, procedure_found}
-use Rattle.sq_laws.proofs.Reports.{base_found}
+use Rattle.sq_run.proofs.DeclaredTables.{base_tables_named, named_tables}
+use Rattle.sq_run.proofs.Agrees.{unmapped_at}
+use Rattle.sq_run.proofs.ExactlyBound.{accepted}
+use Rattle.sq_run.proofs.Found.{each_of_all, module_found, none_placed, procedure_found}
+use Rattle.sq_run.proofs.Reports.{base_found}
 use Rattle.sq_perform.specs.Items.{IsTaken, call_fault, item_fault, table_fault}
 use Rattle.sq_perform.specs.Refusal.{script_fault}
 use Rattle.sq_perform.specs.Run.{IsOpened}
 use Rattle.sq_perform.specs.declared.refusal.RefusalName.{RefusalName}
 use Rattle.sq_perform.specs.declared.refusal.RefusalName.TheVariants as refusal
-use Rattle.sq_laws.proofs.SiteLaws.{all_parts}
-use Rattle.sq_laws.proofs.Numbers.{none_there}
+use Rattle.sq_run.proofs.SiteLaws.{all_parts}
+use Rattle.sq_run.proofs.Numbers.{none_there}
 
 -- The code and the definitions find no fault, or the code a name and the definitions
 -- the fault that it is for.

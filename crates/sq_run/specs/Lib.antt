@@ -1,4 +1,5 @@
 pub mod Accepted
 pub mod Kept
+pub mod Keyed
 pub mod Refused
 pub mod Written
