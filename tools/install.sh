@@ -10,8 +10,22 @@ trap 'rm -rf "$room"' EXIT
 
 put() { install -D -m 644 "$1" "$prefix/$2"; }
 
+# Writes the commit into a program, in place of the zeros that --version shows; a program of sources that no commit has keeps them.
+name_commit() {
+  local zeros commit
+  zeros=$(printf '0%.0s' {1..40})
+  if [ "$(LC_ALL=C grep -ao "commit $zeros" "$1" | wc -l)" != 1 ]; then
+    echo "install.sh: the program has no one place for its commit" >&2
+    exit 1
+  fi
+  if commit=$(git -C "$root" rev-parse HEAD 2>/dev/null) && [ -z "$(git -C "$root" status --porcelain --untracked-files=no)" ]; then
+    LC_ALL=C sed -i "s/commit $zeros/commit $commit/" "$1"
+  fi
+}
+
 python3 "$root/tools/build_library.py" "$room" >"$room/log"
 install -D -m 755 "$root/crates/sqmod/out/sqmod" "$prefix/bin/sqmod"
+name_commit "$prefix/bin/sqmod"
 
 put "$root/host/sqmod.h" include/sqmod.h
 put "$room/libsqmod.a" lib/libsqmod.a

@@ -73,7 +73,9 @@ SQMOD_LIBRARY=$at/lib/libsqmod.so.0 python3 -B "$root/host/tests/test_sqmod.py" 
 
 bash -c 'source "$1"; COMP_WORDS=(sqmod run --sc); COMP_CWORD=2; _sqmod; [ "${COMPREPLY[*]}" = "--schema --script" ]' _ \
   "$at/share/bash-completion/completions/sqmod" || fail "bash completes something else"
-[ "$("$at/bin/sqmod" --version | cut -d ' ' -f 1,2)" = "sqmod $version" ] || fail "the program has another version"
+commit=$(git -C "$root" rev-parse HEAD)
+logic=$(rt version | sed 's/.* //')
+[ "$("$at/bin/sqmod" --version)" = "sqmod $version (commit $commit, proved with $logic)" ] || fail "the program has another version"
 
 where="in an empty root, as nobody"
 [ "$(id -u)" = 0 ] || where="not in an empty root, since that takes root"

@@ -3,7 +3,7 @@
 
 try_suites.py PROGRAM [--show]: each command of tools/suites/answers.txt is run in a copy of that folder, and the status is 0 if what
 comes is what stands there: standard output, standard error behind `2> `, and the status. JUnit's files must also be XML with the names
-that `--list` prints, and the version must be that of the file VERSION. With `--show`, what comes is printed and nothing is compared.
+that `--list` prints, and the version must be that of the file VERSION, of no commit, proved with the kit at hand. With `--show`, what comes is printed and nothing is compared.
 """
 
 import difflib
@@ -15,6 +15,8 @@ import sys
 import tempfile
 from pathlib import Path
 from xml.etree import ElementTree
+
+from edits import logic
 
 ROOT = Path(__file__).resolve().parent.parent
 SUITES = ROOT / "tools/suites"
@@ -64,7 +66,7 @@ def main():
         names = names_in_junit(program, folder)
         is_right &= bool(names) and names == names_listed(program, folder)
     version = subprocess.run([program, "--version"], capture_output=True, text=True).stdout
-    is_right &= version == "sqmod " + (ROOT / "VERSION").read_text()
+    is_right &= version == f"sqmod {(ROOT / 'VERSION').read_text().strip()} (commit {'0' * 40}, proved with {logic()})\n"
     print("the suites answer", "as they should" if is_right else "otherwise")
     sys.exit(0 if is_right else 1)
 

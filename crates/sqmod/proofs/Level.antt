@@ -1,5 +1,5 @@
 -- What a level of a parse with no fault leaves: rows whose values passed, and no call for help.
-use Rattle.std.proofs.Common.{◌≡◌, ◌∙◌, ◌&&◌, ℕ, Bool, cond, true, false, not, zero, suc, refl, sym, ap, subst, arith, true≢false}
+use Rattle.std.proofs.Common.{◌≡◌, ◌&&◌, ◌||◌, ℕ, Bool, cond, true, false, not, zero, suc, refl, sym, ap, subst, arith, true≢false}
 use Rattle.std.proofs.Common.{List, [], ◌∷◌, length, drop, Option, Some, None, is_some}
 use Rattle.std.specs.Prelude.{codes, encode_utf8, slice_get, unwrap_or, find, fold, ⊤}
 use Rattle.std.specs.Option.{option_map_or}
@@ -17,10 +17,10 @@ use Rattle.clap.specs.Simple.{Shape}
 use Rattle.clap.specs.Kinds.{Kinds, or_else}
 use Rattle.clap.specs.Faults.{bundle_fault, bundle_step_fault, check_fault, defaults_fault, flag_word_fault, flags_fault, level_fault}
 use Rattle.clap.specs.Faults.{long_fault, option_fault, other_fault, positional_fault, react_fault, settle_fault, short_fault}
-use Rattle.clap.specs.Faults.{step_fault, stray_fault, turn_fault, use_fault, walk_fault, word_fault}
+use Rattle.clap.specs.Faults.{default_fault, given_default_fault, request_kinds, step_fault, stray_fault, turn_fault, use_fault, walk_fault, word_fault}
 use Rattle.clap.specs.declared.error.kind.ErrorKind.TheVariants.{DisplayHelp, InvalidSubcommand, TooManyValues}
-use Rattle.clap.proofs.WalkLemmas.{both}
-use Rattle.sqmod.proofs.Uses.{AllPassed, Each, IsOption, is_option_as, neither, some_kind, use_kept}
+use Rattle.clap.specs.declared.parser.matches.ValueSource.TheVariants.{DefaultValue}
+use Rattle.sqmod.proofs.Uses.{AllPassed, Each, IsOption, neither, some_kind, use_kept, values_kept}
 
 -- what is found is of the list
 found_each : (P : Rule → Type 0) (p : Rule → Bool) (xs : List Rule) (a : Rule) → Each P xs → find p xs ≡ Some a → P a
@@ -265,25 +265,28 @@ module _ (s : Shape) (names : Names) (options : Each (IsOption s.rules) s.rules)
 
 -- ---- after the walk
 
-empty_list : {X : Type 0} (xs : List X) → is_empty xs ≡ true → xs ≡ []
-empty_list [] e = refl
-empty_list (x ∷ xs) e =
-    let bad : length (x ∷ xs) ≡ 0 = eqb-true _ _ e in
-    absurd (omega arith)
+module _ (c : List Rule) where
+  default_kept : (a : Rule) (rows : List Row) → IsOption c a → default_fault rows a ≡ [] → AllPassed c rows → AllPassed c (with_default rows a)
+  default_kept a rows of none all = go (has_row a.id rows) none
+    where
+      values : (vs : List Text) → cond (false || is_empty vs) [] (given_default_fault a vs) ≡ []
+          → AllPassed c (default_rows a.id (reading_by a) vs rows)
+      values [] e = all
+      values (v ∷ vs) e =
+          values_kept c a DefaultValue (v ∷ vs) rows of.1 (omega arith) (neither (request_kinds (action_of a)) _ e).1 all
 
-defaulted : (rows : List Row) (c d : List Rule) → Each (IsOption d) c → fold with_default rows c ≡ rows
-defaulted rows [] d each = refl
-defaulted rows (a ∷ rest) d each = ap (λ r. fold with_default r rest) one ∙ defaulted rows rest d each.1
-  where
-    none : a.defaults ≡ []
-    none = empty_list a.defaults (both (is_option_as (action_of a) a) _ each.0.0).1
+      go : (b : Bool) → cond (b || is_empty a.defaults) [] (given_default_fault a a.defaults) ≡ []
+          → AllPassed c (cond b rows (default_rows a.id (reading_by a) a.defaults rows))
+      go true e = all
+      go false e = values a.defaults e
 
-    go : (b : Bool) → cond b rows (default_rows a.id (reading_by a) a.defaults rows) ≡ rows
-    go true = refl
-    go false = ap (λ values. default_rows a.id (reading_by a) values rows) none
-
-    one : with_default rows a ≡ rows
-    one = go (has_row a.id rows)
+  defaults_kept : (d : List Rule) (rows : List Row) → Each (IsOption c) d → defaults_fault rows d ≡ [] → AllPassed c rows
+      → AllPassed c (fold with_default rows d)
+  unfolding defaults_fault
+  defaults_kept [] rows each none all = all
+  defaults_kept (a ∷ rest) rows each none all =
+      let parts = neither (default_fault rows a) _ none in
+      defaults_kept rest (with_default rows a) each.1 parts.1 (default_kept a rows each.0 parts.0 all)
 
 -- what a level with no fault leaves
 pub record IsLevel (s : Shape) (names : Names) (words : List Text) (has_subcommand : Bool) (below : Kinds) : Type 0 where
@@ -304,7 +307,7 @@ level_passed s names words has_subcommand below options none =
     let sound = walk_kept s names options words (walk_from nothing_held) walked.0 (tt, tt) in
     let kept = settle_kept s.rules s.args_override_self options end settles.0 sound.0 in
     record {
-      rows = subst (AllPassed s.rules) (sym (defaulted (settled s.rules end).rows s.rules s.rules options)) kept;
+      rows = defaults_kept s.rules s.rules (settled s.rules end).rows options defaults.0 kept;
       stop = sound.1;
       under = subcommands.0;
       checked = defaults.1;

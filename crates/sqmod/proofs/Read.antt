@@ -16,7 +16,7 @@ use Rattle.clap.specs.declared.parser.matches.Found.{Found as Entries}
 use Rattle.clap.proofs.WalkLemmas.{first_value-rows, one_text-rows, raw_values-rows}
 use Rattle.sq_store.specs.declared.store.TheConstants.{MOST_ROW_NUMBERS}
 use Rattle.sqmod.specs.declared.command_line.TheConstants.{USUAL_ROW_NUMBERS}
-use Rattle.sqmod.specs.CommandLine.{IsRun, files_of, number_of, row_numbers_of, sqmod}
+use Rattle.sqmod.specs.CommandLine.{HasRowNumbers, files_of, number_of, row_numbers_of, sqmod}
 use Rattle.sqmod.proofs.Given.{MeetsOne, is_free_command, is_simple_command, meets_one}
 
 -- the texts of an option, or none
@@ -43,16 +43,21 @@ module _ {E : Type 0} (gives : List ℕ → Result ℕ E → Type 0)
       absurd (reads t (Err failed.0) failed.1 (fits.0, fits.1))
 
   pub row_numbers_read : (f : Entries) (given : Option ℕ) → (one_text f (codes "rows") ≡ None → given ≡ None)
-      → ((t : Text) → one_text f (codes "rows") ≡ Some t → ReadsOne gives t given) → IsRun (rows_of f)
+      → ((t : Text) → one_text f (codes "rows") ≡ Some t → ReadsOne gives t given) → HasRowNumbers (rows_of f)
       → (unwrap_or given USUAL_ROW_NUMBERS ≡ row_numbers_of (rows_of f)) × (unwrap_or given USUAL_ROW_NUMBERS ≤ MOST_ROW_NUMBERS)
   row_numbers_read f given none value run =
       let same = one_text-rows f (codes "rows") in
-      number_read (one_of (codes "rows") (rows_of f)) given (λ e. none (same ∙ e)) (λ t e. value t (same ∙ e)) run.1
+      number_read (one_of (codes "rows") (rows_of f)) given (λ e. none (same ∙ e)) (λ t e. value t (same ∙ e)) run
+
+-- the first value of an argument
+pub first_read : (f : Entries) (id : Text) (given : Option (Bor Text)) → option_map (λ s. s.now) given ≡ first_value f id
+    → option_map (λ s. s.now) given ≡ first_of id (rows_of f)
+first_read f id given is = is ∙ first_value-rows f id
 
 -- the name of the script
 pub script_read : (f : Entries) (given : Option (Bor Text)) → option_map (λ s. s.now) given ≡ first_value f (codes "script")
     → option_map (λ s. s.now) given ≡ first_of (codes "script") (rows_of f)
-script_read f given is = is ∙ first_value-rows f (codes "script")
+script_read f = first_read f (codes "script")
 
 -- what a parse that ended well found: words with no fault, which name a subcommand
 pub record Found (words : List Text) (m : ArgMatches) : Type 0 where

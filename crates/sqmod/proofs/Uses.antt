@@ -1,5 +1,5 @@
 -- One use of an option, with no fault, keeps every row's values passed.
-use Rattle.std.proofs.Common.{◌≡◌, ◌∙◌, ◌<◌, ◌&&◌, ℕ, Bool, cond, true, false, refl, sym, ap, arith, true≢false}
+use Rattle.std.proofs.Common.{◌≡◌, ◌∙◌, ◌<◌, ◌||◌, ℕ, Bool, cond, true, false, not, refl, sym, ap, arith, true≢false}
 use Rattle.std.proofs.Common.{List, [], ◌∷◌, ◌++◌, length, nat_lt, Some, None}
 use Rattle.std.specs.Prelude.{unwrap_or, ⊤}
 use Rattle.std.specs.Str.{bytes_eq}
@@ -17,18 +17,22 @@ use Rattle.clap.specs.declared.error.kind.ErrorKind.{ErrorKind}
 use Rattle.clap.specs.declared.error.kind.ErrorKind.TheVariants.{InvalidValue}
 use Rattle.clap.specs.declared.parser.matches.ValueSource.{ValueSource}
 use Rattle.clap.specs.declared.parser.matches.ValueSource.TheVariants.{CommandLine}
-use Rattle.clap.proofs.WalkLemmas.{both}
 
 -- ---- definitions
 
--- the argument takes values, one at least, or ends the parse
+-- a use leaves a value: one is given at least, or one stands for none
+abbrev pub leaves_value : Rule → Bool
+leaves_value a = nat_lt 0 (unwrap_or_range a.range).start_inclusive || not (is_empty a.missing)
+
+-- a use of the argument leaves a value, or ends the parse
 abbrev pub is_option_as : ArgAction → Rule → Bool
-is_option_as action.Set a = nat_lt 0 (unwrap_or_range a.range).start_inclusive
-is_option_as action.Append a = nat_lt 0 (unwrap_or_range a.range).start_inclusive
+is_option_as action.Set a = leaves_value a
+is_option_as action.SetTrue a = leaves_value a
+is_option_as action.Append a = leaves_value a
 is_option_as other a = is_request other
 
 abbrev pub is_option : Rule → Bool
-is_option a = is_option_as (action_of a) a && is_empty a.defaults
+is_option a = is_option_as (action_of a) a
 
 -- values of the argument, that passed its parser
 pub record Passed (a : Rule) (r : Row) : Type 0 where
@@ -70,6 +74,14 @@ no_values least most some e =
     let bad : InvalidValue ∷ [] ≡ [] = rw some at e in
     some_kind _ _ bad
 
+missing_some : (least most : ℕ) (missing : List Text) → nat_lt 0 least || not (is_empty missing) ≡ true → range_kinds least most 0 ≡ [] → 0 < length missing
+missing_some least most missing some e = go (nat_lt 0 least) refl missing some
+  where
+    go : (b : Bool) → nat_lt 0 least ≡ b → (m : List Text) → b || not (is_empty m) ≡ true → 0 < length m
+    go true at m h = absurd (no_values least most at e)
+    go false at [] h = absurd (true≢false (sym h))
+    go false at (v ∷ vs) h = omega arith
+
 values_both : (i : Bool) (p : ValueParser) (xs ys : List Text) → values_kinds i p xs ≡ [] → values_kinds i p ys ≡ []
     → values_kinds i p (xs ++ ys) ≡ []
 values_both i p [] ys e f = f
@@ -104,7 +116,7 @@ module _ (c : List Rule) where
   same_rule : (a b : Rule) → Some a ≡ Some b → b ≡ a
   same_rule a b e = sym (ap (λ o. unwrap_or o a) e)
 
-  values_kept : (a : Rule) (s : ValueSource) (values : List Text) (rows : List Row) → arg_by_id c a.id ≡ Some a → 0 < length values
+  pub values_kept : (a : Rule) (s : ValueSource) (values : List Text) (rows : List Row) → arg_by_id c a.id ≡ Some a → 0 < length values
       → values_fault a values ≡ [] → AllPassed c rows → AllPassed c (with_values a.id (reading_by a) s values rows)
   values_kept a s values rows first given pass all =
       at_row_kept a.id (more_values s values) (new_row a s values ∷ []) rows more (one, tt) all
@@ -144,13 +156,14 @@ module _ (c : List Rule) where
       → AllPassed c rows → AllPassed c (used a values rows)
   use_kept again a values rows of none all =
       let parts = neither _ _ none in
-      go (action_of a) (both _ _ of.0).0 values parts.0 parts.1
+      go (action_of a) of.0 values parts.0 parts.1
     where
-      by_values : (kept : List Row) → nat_lt 0 (unwrap_or_range a.range).start_inclusive ≡ true → (vs : List Text)
+      by_values : (kept : List Row) → leaves_value a ≡ true → (vs : List Text)
           → range_kinds (unwrap_or_range a.range).start_inclusive (most_values a) (length vs) ≡ []
           → values_fault a (values_or_missing a vs) ≡ [] → AllPassed c kept
           → AllPassed c (with_values a.id (reading_by a) CommandLine (values_or_missing a vs) kept)
-      by_values kept some [] range pass h = absurd (no_values _ _ some range)
+      by_values kept some [] range pass h =
+          values_kept a CommandLine a.missing kept of.1 (missing_some _ _ a.missing some range) pass h
       by_values kept some (v ∷ vs) range pass h = values_kept a CommandLine (v ∷ vs) kept of.1 (omega arith) pass h
 
       go : (x : ArgAction) → is_option_as x a ≡ true → (vs : List Text)
@@ -160,7 +173,8 @@ module _ (c : List Rule) where
       go action.Set some vs range fault =
           by_values (without a.id rows) some vs range (neither (repeat_fault again a.id rows) _ fault).1 (without_kept a.id rows all)
       go action.Append some vs range fault = by_values rows some vs range fault all
-      go action.SetTrue some vs range fault = absurd (true≢false (sym some))
+      go action.SetTrue some vs range fault =
+          by_values (without a.id rows) some vs range (neither (repeat_fault again a.id rows) _ fault).1 (without_kept a.id rows all)
       go action.SetFalse some vs range fault = absurd (true≢false (sym some))
       go action.Count some vs range fault = absurd (true≢false (sym some))
       go action.Help some vs range fault = all

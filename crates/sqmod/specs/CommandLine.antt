@@ -12,11 +12,15 @@ use Rattle.clap.specs.declared.builder.value_parser.ValueParser.TheVariants.{Uns
 use Rattle.sq_store.specs.declared.store.TheConstants.{MOST_ROW_NUMBERS}
 use Rattle.sqmod.specs.declared.command_line.TheConstants.{USUAL_ROW_NUMBERS}
 use Rattle.sqmod.specs.declared.command_line.CheckRequest.{CheckRequest}
+use Rattle.sqmod.specs.declared.command_line.TextsRequest.{TextsRequest}
 use Rattle.sqmod.specs.declared.command_line.ExplainRequest.{ExplainRequest}
 use Rattle.sqmod.specs.declared.command_line.Request.{Request}
 use Rattle.sqmod.specs.declared.command_line.TestRequest.{TestRequest}
 use Rattle.sqmod.specs.declared.command_line.Task.{Task}
-use Rattle.sqmod.specs.declared.command_line.Task.TheVariants.{Run, Check, Explain, Test, BindC, BindCobol}
+use Rattle.sqmod.specs.declared.command_line.Task.TheVariants.{Run, Check, Trace, Shell, Explain, Test, BindC, BindCobol, New}
+use Rattle.sqmod.specs.declared.showing.NewRequest.{NewRequest}
+use Rattle.sqmod.specs.declared.showing.ShellRequest.{ShellRequest}
+use Rattle.sqmod.specs.declared.showing.TraceRequest.{TraceRequest}
 use Rattle.sqmod.specs.declared.fault.Source.{Source}
 use Rattle.sqmod.specs.declared.fault.Source.TheVariants.{Schema, Module, Script}
 
@@ -40,11 +44,11 @@ file_of request (Schema index) = name_at request.schemas.items index
 file_of request (Module index) = name_at request.modules.items index
 file_of request Script = Some request.script.now
 
--- A text is one of a check's request, which has no script.
-abbrev pub HasCheckedFile : CheckRequest → Source → Type 0
+-- A text is one of these, of which none is a script.
+abbrev pub HasCheckedFile : TextsRequest → Source → Type 0
 HasCheckedFile request source = IsAmong (length request.schemas.items) (length request.modules.items) source
 
-abbrev pub checked_file_of : CheckRequest → Source → Text
+abbrev pub checked_file_of : TextsRequest → Source → Text
 checked_file_of request (Schema index) = unwrap_or (name_at request.schemas.items index) []
 checked_file_of request (Module index) = unwrap_or (name_at request.modules.items index) []
 checked_file_of request Script = []
@@ -72,11 +76,6 @@ run =
     let with_modules = with_rule with_schemas (files_rule (codes "module")) in
     with_rule (with_rule with_modules script_rule) rows_rule
 
--- `check [--schema F]... [--module F]...`
-abbrev pub check : App
-check = with_rule (with_rule (new_app (codes "check")) (files_rule (codes "schema")))
-    (files_rule (codes "module"))
-
 -- A word that stands without an option.
 abbrev pub name_rule : Rule
 name_rule = record (new_rule (codes "name")) { value_names = 1; action = Some Set }
@@ -88,6 +87,43 @@ explain = with_rule (new_app (codes "explain")) name_rule
 -- an option `--NAME`
 abbrev pub flag_rule : Text → Rule
 flag_rule name = record (new_rule name) { long = Some name; action = Some SetTrue }
+
+-- `check [--schema F]... [--module F]... [--script F]`
+abbrev pub checking : App
+checking =
+    let with_schemas = with_rule (new_app (codes "check")) (files_rule (codes "schema")) in
+    with_rule (with_rule with_schemas (files_rule (codes "module"))) (value_rule (codes "script"))
+
+-- `check [--schema F]... [--module F]... [--script F] [--quiet] [--json]`
+abbrev pub check : App
+check = with_rule (with_rule checking (flag_rule (codes "quiet"))) (flag_rule (codes "json"))
+
+-- `trace [--schema F]... [--module F]... --script F [--rows N]`
+abbrev pub tracing : App
+tracing =
+    let with_schemas = with_rule (new_app (codes "trace")) (files_rule (codes "schema")) in
+    let with_modules = with_rule with_schemas (files_rule (codes "module")) in
+    with_rule (with_rule with_modules script_rule) rows_rule
+
+-- `trace [--schema F]... [--module F]... --script F [--rows N] [--tables] [--stop] [--html F]`
+abbrev pub trace : App
+trace =
+    with_rule (with_rule (with_rule tracing (flag_rule (codes "tables"))) (flag_rule (codes "stop")))
+    (value_rule (codes "html"))
+
+-- `shell [--schema F]... [--module F]... [--rows N]`
+abbrev pub shell : App
+shell =
+    let with_schemas = with_rule (new_app (codes "shell")) (files_rule (codes "schema")) in
+    with_rule (with_rule with_schemas (files_rule (codes "module"))) rows_rule
+
+-- A word that stands without an option, and must be given.
+abbrev pub folder_rule : Rule
+folder_rule = record (new_rule (codes "folder")) { value_names = 1; action = Some Set; required = true }
+
+-- `new FOLDER`
+abbrev pub new : App
+new = with_rule (new_app (codes "new")) folder_rule
 
 -- Words that stand without an option.
 abbrev pub folders_rule : Rule
@@ -105,15 +141,19 @@ test =
     with_rule (with_rule (with_rule selecting (value_rule (codes "junit"))) (flag_rule (codes "list")))
     (flag_rule (codes "update"))
 
--- `sqmod` with the subcommands that read files, of which one must be given
+-- `sqmod` with `run` and `check`, of which one must be given
 abbrev pub of_files : App
 of_files =
     let without = on_top (λ shape. record shape { has_version = true; subcommand_required = true }) (new_app (codes "sqmod")) in
     with_subcommand (with_subcommand without run.top) check.top
 
+-- `sqmod` with those, `trace` and `shell`
+abbrev pub shown : App
+shown = with_subcommand (with_subcommand of_files trace.top) shell.top
+
 -- `sqmod` with those, `explain` and `test`
 abbrev pub told : App
-told = with_subcommand (with_subcommand of_files explain.top) test.top
+told = with_subcommand (with_subcommand shown explain.top) test.top
 
 abbrev pub modules_rule : Rule
 modules_rule = record (files_rule (codes "module")) { required = true }
@@ -124,7 +164,9 @@ bind name = with_rule (new_app name) modules_rule
 
 -- `sqmod` with all its subcommands.
 abbrev pub sqmod : App
-sqmod = with_subcommand (with_subcommand told (bind (codes "bind-c")).top) (bind (codes "bind-cobol")).top
+sqmod =
+    let with_header = with_subcommand told (bind (codes "bind-c")).top in
+    with_subcommand (with_subcommand with_header (bind (codes "bind-cobol")).top) new.top
 
 -- ---- what `run` was given
 
@@ -139,10 +181,13 @@ number_of text = digits_value 10 (without_leading_plus text)
 abbrev pub row_numbers_of : List Row → ℕ
 row_numbers_of rows = option_map_or number_of (one_of (codes "rows") rows) USUAL_ROW_NUMBERS
 
--- a script, and a number of rows that is in its range if there is one
+-- a number of rows that is in its range, if there is one
+abbrev pub HasRowNumbers : List Row → Type 0
+HasRowNumbers rows = IfSome (one_of (codes "rows") rows) (IsUnsignedIn 1 MOST_ROW_NUMBERS)
+
+-- a script, and a number of rows
 abbrev pub IsRun : List Row → Type 0
-IsRun rows = IsSome (first_of (codes "script") rows)
-    × IfSome (one_of (codes "rows") rows) (IsUnsignedIn 1 MOST_ROW_NUMBERS)
+IsRun rows = IsSome (first_of (codes "script") rows) × HasRowNumbers rows
 
 -- The request that `run` makes of what it was given.
 pub record Makes (rows : List Row) (request : Request) : Type 0 where
@@ -151,12 +196,46 @@ pub record Makes (rows : List Row) (request : Request) : Type 0 where
   pub script : Some request.script.now ≡ first_of (codes "script") rows
   pub row_numbers : request.row_numbers ≡ row_numbers_of rows
 
--- ---- what `check` and what binds modules were given
+-- A flag is set where it was given.
+pub record IsFlag (rows : List Row) (name : Text) (flag : Bool) : Type 0 where
+  pub none : one_of name rows ≡ None → flag ≡ false
+  pub given : one_of name rows ≡ Some (codes "true") → flag ≡ true
+  pub other : one_of name rows ≡ Some (codes "false") → flag ≡ false
 
--- The request that `check` makes of what it was given, and `bind-c` and `bind-cobol`, which are given no schemas.
-pub record MakesCheck (rows : List Row) (request : CheckRequest) : Type 0 where
+-- ---- what `check`, `trace` and `shell`, and what binds modules were given
+
+-- The schemas and modules of what was given; what binds modules is given no schemas.
+pub record MakesTexts (rows : List Row) (request : TextsRequest) : Type 0 where
   pub schemas : map (λ file. file.now) request.schemas.items ≡ files_of (codes "schema") rows
   pub modules : map (λ file. file.now) request.modules.items ≡ files_of (codes "module") rows
+
+-- The request that `check` makes of what it was given.
+pub record MakesCheck (rows : List Row) (request : CheckRequest) : Type 0 where
+  pub texts : MakesTexts rows request.texts
+  pub script : option_map (λ file. file.now) request.script ≡ first_of (codes "script") rows
+  pub quiet : IsFlag rows (codes "quiet") request.quiet
+  pub json : IsFlag rows (codes "json") request.json
+
+-- The request that `trace` makes of what it was given.
+pub record MakesTrace (rows : List Row) (request : TraceRequest) : Type 0 where
+  pub run : Makes rows request.run
+  pub tables : IsFlag rows (codes "tables") request.tables
+  pub stop : IsFlag rows (codes "stop") request.stop
+  pub html : option_map (λ file. file.now) request.html ≡ first_of (codes "html") rows
+
+-- The request that `shell` makes of what it was given.
+pub record MakesShell (rows : List Row) (request : ShellRequest) : Type 0 where
+  pub texts : MakesTexts rows request.texts
+  pub row_numbers : request.row_numbers ≡ row_numbers_of rows
+
+-- ---- what `new` was given
+
+abbrev pub HasFolder : List Row → Type 0
+HasFolder rows = IsSome (first_of (codes "folder") rows)
+
+-- The request that `new` makes of what it was given.
+abbrev pub MakesNew : List Row → NewRequest → Type 0
+MakesNew rows request = Some request.folder.now ≡ first_of (codes "folder") rows
 
 -- ---- what `explain` was given
 
@@ -165,12 +244,6 @@ abbrev pub MakesExplain : List Row → ExplainRequest → Type 0
 MakesExplain rows request = option_map (λ name. name.now) request.name ≡ first_of (codes "name") rows
 
 -- ---- what `test` was given
-
--- A flag is set where it was given.
-pub record IsFlag (rows : List Row) (name : Text) (flag : Bool) : Type 0 where
-  pub none : one_of name rows ≡ None → flag ≡ false
-  pub given : one_of name rows ≡ Some (codes "true") → flag ≡ true
-  pub other : one_of name rows ≡ Some (codes "false") → flag ≡ false
 
 -- The request that `test` makes of what it was given.
 pub record MakesTest (rows : List Row) (request : TestRequest) : Type 0 where
@@ -183,24 +256,40 @@ pub record MakesTest (rows : List Row) (request : TestRequest) : Type 0 where
 
 -- ---- what the words ask for
 
+-- a subcommand that runs no script
+abbrev pub is_other : Text → Bool
+is_other name = bytes_eq name (codes "explain") || bytes_eq name (codes "test")
+    || bytes_eq name (codes "bind-c") || bytes_eq name (codes "bind-cobol")
+    || bytes_eq name (codes "new")
+
 abbrev pub is_subcommand : Text → Bool
 is_subcommand name = bytes_eq name (codes "run") || bytes_eq name (codes "check")
-    || bytes_eq name (codes "explain") || bytes_eq name (codes "test")
-    || bytes_eq name (codes "bind-c") || bytes_eq name (codes "bind-cobol")
+    || bytes_eq name (codes "trace") || bytes_eq name (codes "shell") || is_other name
 
 -- a subcommand that the program has, with what it may be given
-abbrev pub IsGiven : Text → List Row → Type 0
-IsGiven name rows =
-    (is_subcommand name ≡ true) × (bytes_eq name (codes "run") ≡ true → IsRun rows)
+pub record IsGiven (name : Text) (rows : List Row) : Type 0 where
+  pub is : is_subcommand name ≡ true
+  pub run : bytes_eq name (codes "run") ≡ true → IsRun rows
+  pub trace : bytes_eq name (codes "trace") ≡ true → IsRun rows
+  pub shell : bytes_eq name (codes "shell") ≡ true → HasRowNumbers rows
+  pub new : bytes_eq name (codes "new") ≡ true → HasFolder rows
+
+-- one that runs no script, with what it may be given
+pub record IsOther (name : Text) (rows : List Row) : Type 0 where
+  pub is : is_other name ≡ true
+  pub new : bytes_eq name (codes "new") ≡ true → HasFolder rows
 
 -- the task that the subcommand of this name makes of what it was given
 abbrev pub MakesTask : Text → List Row → Task → Type 0
 MakesTask name rows (Run request) = (name ≡ codes "run") × Makes rows request
 MakesTask name rows (Check request) = (name ≡ codes "check") × MakesCheck rows request
+MakesTask name rows (Trace request) = (name ≡ codes "trace") × MakesTrace rows request
+MakesTask name rows (Shell request) = (name ≡ codes "shell") × MakesShell rows request
 MakesTask name rows (Explain request) = (name ≡ codes "explain") × MakesExplain rows request
 MakesTask name rows (Test request) = (name ≡ codes "test") × MakesTest rows request
-MakesTask name rows (BindC request) = (name ≡ codes "bind-c") × MakesCheck rows request
-MakesTask name rows (BindCobol request) = (name ≡ codes "bind-cobol") × MakesCheck rows request
+MakesTask name rows (BindC request) = (name ≡ codes "bind-c") × MakesTexts rows request
+MakesTask name rows (BindCobol request) = (name ≡ codes "bind-cobol") × MakesTexts rows request
+MakesTask name rows (New request) = (name ≡ codes "new") × MakesNew rows request
 
 -- The words name a subcommand, and ask for this task.
 abbrev pub AskFor : List Text → Task → Type 0
@@ -212,7 +301,10 @@ AskFor words task =
 abbrev pub IsLimited : Task → Type 0
 IsLimited (Run request) = request.row_numbers ≤ MOST_ROW_NUMBERS
 IsLimited (Check request) = ⊤
+IsLimited (Trace request) = request.run.row_numbers ≤ MOST_ROW_NUMBERS
+IsLimited (Shell request) = request.row_numbers ≤ MOST_ROW_NUMBERS
 IsLimited (Explain request) = ⊤
 IsLimited (Test request) = ⊤
 IsLimited (BindC request) = ⊤
 IsLimited (BindCobol request) = ⊤
+IsLimited (New request) = ⊤

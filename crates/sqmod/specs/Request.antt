@@ -3,7 +3,7 @@ use Rattle.std.specs.Prelude.{◌≡◌, ℕ, ⊤, length, Result, Ok, Err}
 use Rattle.sq_perform.specs.declared.refusal.RunFault.{RunFault}
 use Rattle.sq_perform.specs.declared.refusal.RunFault.TheVariants as run
 use Rattle.sqmod.specs.CommandLine.{IsAmong}
-use Rattle.sqmod.specs.declared.command_line.CheckRequest.{CheckRequest}
+use Rattle.sqmod.specs.declared.command_line.TextsRequest.{TextsRequest}
 use Rattle.sqmod.specs.declared.command_line.Request.{Request}
 use Rattle.sqmod.specs.declared.fault.Fault.{Fault}
 use Rattle.sqmod.specs.declared.fault.Fault.TheVariants.{Unread, Refused, Output, NoMemory}
@@ -41,6 +41,6 @@ NamesOneOf schemas modules (NoMemory items) = ⊤
 abbrev pub NamesFile : Request → Fault → Type 0
 NamesFile request fault = NamesOneOf (length request.schemas.items) (length request.modules.items) fault
 
-abbrev pub NamesCheckedFile : CheckRequest → Fault → Type 0
+abbrev pub NamesCheckedFile : TextsRequest → Fault → Type 0
 NamesCheckedFile request fault =
     NamesOneOf (length request.schemas.items) (length request.modules.items) fault

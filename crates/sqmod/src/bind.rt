@@ -6,7 +6,7 @@ ghost use Rattle.sqmod.specs.Bind.{Binds};
 ghost use Rattle.sqmod.specs.declared.fault.Fault.TheVariants.{NoMemory};
 ghost use Rattle.sqmod.specs.Request.{NamesCheckedFile, NamesOneOf};
 
-use crate::command_line::CheckRequest;
+use crate::command_line::TextsRequest;
 use crate::fault::Fault;
 use crate::report_checked;
 use crate::request::fault_of;
@@ -24,7 +24,7 @@ use std::rt::Files;
 pub(crate) fn status_of_bind<R: Files + Print + Eprint + AllocGlobal>(
     rt: &R,
     host: Host,
-    request: &CheckRequest<'_>,
+    request: &TextsRequest<'_>,
 ) -> u8 {
     match bound(rt, host, request) {
         Ok(text) => status_of_text(rt, request, text.as_slice()),
@@ -32,7 +32,7 @@ pub(crate) fn status_of_bind<R: Files + Print + Eprint + AllocGlobal>(
     }
 }
 
-fn status_of_text<R: Print + Eprint>(rt: &R, request: &CheckRequest<'_>, text: &[u8]) -> u8 {
+fn status_of_text<R: Print + Eprint>(rt: &R, request: &TextsRequest<'_>, text: &[u8]) -> u8 {
     match print_text(rt, text) {
         Ok(()) => 0,
         Err(_) => report_checked(rt, request, Fault::Output),
@@ -49,7 +49,7 @@ fn print_text<R: Print>(rt: &R, text: &[u8]) -> io::Result<()> {
 fn bound<R: Files + AllocGlobal>(
     rt: &R,
     host: Host,
-    request: &CheckRequest<'_>,
+    request: &TextsRequest<'_>,
 ) -> Result<Vec<u8>, Fault>
     ensures { IfErr result (NamesCheckedFile request.now) }
 {

@@ -2,7 +2,7 @@
 ghost use Rattle.std.specs.Prelude.{◌≡◌, IfErr, length};
 ghost use Rattle.sqmod.specs.Request.{NamesCheckedFile, NamesOneOf};
 
-use crate::command_line::CheckRequest;
+use crate::command_line::TextsRequest;
 use crate::fault::{FAULTY, Fault};
 use crate::report_checked;
 use crate::request::fault_of;
@@ -17,7 +17,7 @@ use std::{io, str};
 /// Reads the files, checks their texts, prints what is to be said of them, and gives the status to end with.
 pub(crate) fn status_of_check<R: Files + Print + Eprint + AllocGlobal>(
     rt: &R,
-    request: &CheckRequest<'_>,
+    request: &TextsRequest<'_>,
 ) -> u8 {
     match checked(rt, request) {
         Ok(checked) => status_of_checked(rt, request, &checked),
@@ -27,7 +27,7 @@ pub(crate) fn status_of_check<R: Files + Print + Eprint + AllocGlobal>(
 
 pub(crate) fn status_of_checked<R: Print + Eprint>(
     rt: &R,
-    request: &CheckRequest<'_>,
+    request: &TextsRequest<'_>,
     checked: &Checked,
 ) -> u8 {
     if print_checked(rt, request, checked).is_err() {
@@ -37,7 +37,7 @@ pub(crate) fn status_of_checked<R: Print + Eprint>(
 }
 
 /// What is to be said of the texts of a request.
-fn checked<R: Files + AllocGlobal>(rt: &R, request: &CheckRequest<'_>) -> Result<Checked, Fault>
+fn checked<R: Files + AllocGlobal>(rt: &R, request: &TextsRequest<'_>) -> Result<Checked, Fault>
     ensures { IfErr result (NamesCheckedFile request.now) }
 {
     let sources = read_sources(rt, request.schemas.as_slice(), request.modules.as_slice())?;
@@ -63,7 +63,7 @@ pub(crate) fn check_sources(alloc: Global, sources: &Sources) -> Result<Checked,
 
 fn print_checked<R: Print>(
     rt: &R,
-    request: &CheckRequest<'_>,
+    request: &TextsRequest<'_>,
     checked: &Checked,
 ) -> io::Result<()> {
     print_texts(rt, request.schemas.as_slice(), checked.schemas.as_slice())?;

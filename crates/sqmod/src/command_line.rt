@@ -6,6 +6,10 @@ ghost use Rattle.clap.specs.declared.builder.value_parser.ValueParser.TheVariant
 ghost use Rattle.sqmod.specs.CommandLine as spec;
 
 use crate::fault::Source;
+use crate::showing::{
+    NewRequest, ShellRequest, TraceRequest, new_command, new_request_of, shell_command,
+    shell_request_of, trace_command, trace_request_of,
+};
 use clap::builder::ValueParser;
 use clap::{Arg, ArgAction, ArgMatches, Command, Error, value_parser};
 use sq_store::MOST_ROW_NUMBERS;
@@ -14,8 +18,10 @@ use std::alloc::{AllocError, Global};
 /// The row numbers of each table where `--rows` is left out.
 pub(crate) const USUAL_ROW_NUMBERS: u64 = 1_000_000;
 
-/// The version, which the file VERSION at the top of the repository names, too.
-const VERSION: &str = "0.1.0";
+/// The version, which the file VERSION at the top of the repository names, too; the commit, whose zeros `tools/install.sh` replaces;
+/// and the logic of the kit that proves the program.
+const VERSION: &str =
+    "0.1.0 (commit 0000000000000000000000000000000000000000, proved with dac8208d650f15bf)";
 
 /// What a command line asks for: the names of the files, and how many row numbers each table has.
 #[derive(Drop)]
@@ -40,14 +46,14 @@ impl<'a> Request<'a> {
     }
 }
 
-/// What is to be checked: the names of the files.
+/// Schemas and modules: the names of the files.
 #[derive(Drop)]
-pub(crate) struct CheckRequest<'a> {
+pub(crate) struct TextsRequest<'a> {
     pub(crate) schemas: Vec<&'a str>,
     pub(crate) modules: Vec<&'a str>,
 }
 
-impl<'a> CheckRequest<'a> {
+impl<'a> TextsRequest<'a> {
     /// The name of the file of one of the request's texts, of which none is a script.
     pub(crate) fn file(&self, source: Source) -> &'a str
         requires { spec.HasCheckedFile self.now source }
@@ -59,6 +65,17 @@ impl<'a> CheckRequest<'a> {
             Source::Script => "",
         }
     }
+}
+
+/// What is to be checked, and how it is said.
+#[derive(Drop)]
+pub(crate) struct CheckRequest<'a> {
+    pub(crate) texts: TextsRequest<'a>,
+    pub(crate) script: Option<&'a str>,
+    /// Nothing but faults and refusals is said.
+    pub(crate) quiet: bool,
+    /// Each line is an object of JSON.
+    pub(crate) json: bool,
 }
 
 /// What is to be explained: a status, a refusal or a fault; without a name, all names are listed.
@@ -83,18 +100,23 @@ pub(crate) struct TestRequest<'a> {
 pub(crate) enum Task<'a> {
     Run(Request<'a>),
     Check(CheckRequest<'a>),
+    Trace(TraceRequest<'a>),
+    Shell(ShellRequest<'a>),
     Explain(ExplainRequest<'a>),
     Test(TestRequest<'a>),
     /// The header that binds modules to C.
-    BindC(CheckRequest<'a>),
+    BindC(TextsRequest<'a>),
     /// The copybook that binds modules to COBOL.
-    BindCobol(CheckRequest<'a>),
+    BindCobol(TextsRequest<'a>),
+    New(NewRequest<'a>),
 }
 
 /// Reads `sqmod run [--schema F]... [--module F]... --script F [--rows N]`,
-/// `sqmod check [--schema F]... [--module F]...`, `sqmod explain [NAME]`,
+/// `sqmod check [--schema F]... [--module F]... [--script F] [--quiet] [--json]`,
+/// `sqmod trace [--schema F]... [--module F]... --script F [--rows N] [--tables] [--stop] [--html F]`,
+/// `sqmod shell [--schema F]... [--module F]... [--rows N]`, `sqmod explain [NAME]`,
 /// `sqmod test FOLDER... [--filter GLOB]... [--shard K/N] [--junit F] [--list] [--update]`,
-/// `sqmod bind-c --module F...` or `sqmod bind-cobol --module F...`.
+/// `sqmod bind-c --module F...`, `sqmod bind-cobol --module F...` or `sqmod new FOLDER`.
 pub(crate) fn read_task<'a>(alloc: Global, words: &'a [String]) -> Result<Task<'a>, Error>
     ensures refused { FailsBy (fault_of spec.sqmod (map string_bytes words.now)) result }
     ensures asked { IfOk result (spec.AskFor (map string_bytes words.now)) }
@@ -115,15 +137,33 @@ fn task_of<'a>(alloc: Global, name: &str, given: &ArgMatches<'a>) -> Result<Task
     match name {
         "run" => Ok(Task::Run(request_of(alloc, given)?)),
         "check" => Ok(Task::Check(check_request_of(alloc, given)?)),
+        "trace" => Ok(Task::Trace(trace_request_of(alloc, given)?)),
+        "shell" => Ok(Task::Shell(shell_request_of(alloc, given)?)),
+        _ => other_task_of(alloc, name, given),
+    }
+}
+
+/// What a subcommand asks for that runs no script.
+fn other_task_of<'a>(
+    alloc: Global,
+    name: &str,
+    given: &ArgMatches<'a>,
+) -> Result<Task<'a>, AllocError>
+    requires { spec.IsOther name.now (rows_of (found_of given.now)) }
+    ensures made { IfOk result (spec.MakesTask name.now (rows_of (found_of given.now))) }
+    ensures limited { IfOk result spec.IsLimited }
+{
+    match name {
         "test" => Ok(Task::Test(test_request_of(alloc, given)?)),
-        "bind-c" => Ok(Task::BindC(check_request_of(alloc, given)?)),
-        "bind-cobol" => Ok(Task::BindCobol(check_request_of(alloc, given)?)),
+        "bind-c" => Ok(Task::BindC(texts_request_of(alloc, given)?)),
+        "bind-cobol" => Ok(Task::BindCobol(texts_request_of(alloc, given)?)),
+        "new" => Ok(Task::New(new_request_of(given))),
         _ => Ok(Task::Explain(explain_request_of(given))),
     }
 }
 
 /// The request that `run` makes of what it was given.
-fn request_of<'a>(alloc: Global, run: &ArgMatches<'a>) -> Result<Request<'a>, AllocError>
+pub(crate) fn request_of<'a>(alloc: Global, run: &ArgMatches<'a>) -> Result<Request<'a>, AllocError>
     requires { spec.IsRun (rows_of (found_of run.now)) }
     ensures made { IfOk result (spec.Makes (rows_of (found_of run.now))) }
     ensures limited { IfOk result (λ request. request.row_numbers ≤ MOST_ROW_NUMBERS) }
@@ -136,7 +176,7 @@ fn request_of<'a>(alloc: Global, run: &ArgMatches<'a>) -> Result<Request<'a>, Al
     })
 }
 
-/// The request that `check`, `bind-c` or `bind-cobol` makes of what it was given; the last two are given no schemas.
+/// The request that `check` makes of what it was given.
 fn check_request_of<'a>(
     alloc: Global,
     check: &ArgMatches<'a>,
@@ -144,8 +184,23 @@ fn check_request_of<'a>(
     ensures { IfOk result (spec.MakesCheck (rows_of (found_of check.now))) }
 {
     Ok(CheckRequest {
-        schemas: files(alloc, check, "schema")?,
-        modules: files(alloc, check, "module")?,
+        texts: texts_request_of(alloc, check)?,
+        script: check.get_str("script"),
+        quiet: check.get_flag("quiet"),
+        json: check.get_flag("json"),
+    })
+}
+
+/// The schemas and modules that a subcommand was given; what binds modules is given no schemas.
+pub(crate) fn texts_request_of<'a>(
+    alloc: Global,
+    given: &ArgMatches<'a>,
+) -> Result<TextsRequest<'a>, AllocError>
+    ensures { IfOk result (spec.MakesTexts (rows_of (found_of given.now))) }
+{
+    Ok(TextsRequest {
+        schemas: files(alloc, given, "schema")?,
+        modules: files(alloc, given, "module")?,
     })
 }
 
@@ -184,8 +239,8 @@ fn files<'a>(alloc: Global, run: &ArgMatches<'a>, option: &str) -> Result<Vec<&'
 }
 
 /// How many row numbers each table has.
-fn row_numbers(run: &ArgMatches<'_>) -> u64
-    requires { spec.IsRun (rows_of (found_of run.now)) }
+pub(crate) fn row_numbers(run: &ArgMatches<'_>) -> u64
+    requires { spec.HasRowNumbers (rows_of (found_of run.now)) }
     ensures given { result ≡ spec.row_numbers_of (rows_of (found_of run.now)) }
     ensures limited { result ≤ MOST_ROW_NUMBERS }
 {
@@ -205,18 +260,29 @@ fn sqmod_command<'a>(alloc: Global) -> Result<Command<'a>, AllocError>
         "bind-cobol",
         "Prints a copybook for COBOL with a paragraph for each procedure",
     )?;
+    let new = new_command(alloc)?;
     told_command(alloc)?
         .subcommand(header)?
-        .subcommand(copybook)
+        .subcommand(copybook)?
+        .subcommand(new)
 }
 
-/// The command with the subcommands that read files, `explain` and `test`.
+/// The command with those, `explain` and `test`.
 fn told_command<'a>(alloc: Global) -> Result<Command<'a>, AllocError>
     ensures app { IfOk result (λ command. app_of command ≡ spec.told) }
 {
     let explain = explain_command(alloc)?;
     let test = test_command(alloc)?;
-    files_command(alloc)?.subcommand(explain)?.subcommand(test)
+    shown_command(alloc)?.subcommand(explain)?.subcommand(test)
+}
+
+/// The command with the subcommands that read schemas and modules.
+fn shown_command<'a>(alloc: Global) -> Result<Command<'a>, AllocError>
+    ensures app { IfOk result (λ command. app_of command ≡ spec.shown) }
+{
+    let trace = trace_command(alloc)?;
+    let shell = shell_command(alloc)?;
+    files_command(alloc)?.subcommand(trace)?.subcommand(shell)
 }
 
 /// A command that prints what binds modules to a host's language.
@@ -229,7 +295,7 @@ fn bind_command<'a>(alloc: Global, name: &'a str, about: &'a str) -> Result<Comm
         .arg(modules_option(alloc))
 }
 
-/// The command with the subcommands that read files.
+/// The command with `run` and `check`.
 fn files_command<'a>(alloc: Global) -> Result<Command<'a>, AllocError>
     ensures app { IfOk result (λ command. app_of command ≡ spec.of_files) }
 {
@@ -259,10 +325,22 @@ fn check_command<'a>(alloc: Global) -> Result<Command<'a>, AllocError>
     ensures app { IfOk result (λ command. app_of command ≡ spec.check) }
     ensures local { IfOk result (λ command. (fields_of command).has_globals ≡ false) }
 {
+    checking_command(alloc)?
+        .arg(flag_option(alloc, "quiet", "Says nothing but refusals and faults"))?
+        .arg(flag_option(alloc, "json", "Prints an object of JSON for each line"))
+}
+
+/// The command `check` with the options that name files.
+fn checking_command<'a>(alloc: Global) -> Result<Command<'a>, AllocError>
+    ensures app { IfOk result (λ command. app_of command ≡ spec.checking) }
+    ensures local { IfOk result (λ command. (fields_of command).has_globals ≡ false) }
+{
+    let script = value_option(alloc, "script", "F", "A file with a script");
     Command::new(alloc, "check")
-        .about("Says which calls answer 42000 and why, and which cursors and views are updatable")
+        .about("Says what is wrong in texts, and which cursors and views are updatable")
         .arg(files_option(alloc, "schema", "A file with schemas"))?
-        .arg(files_option(alloc, "module", "A file with a module"))
+        .arg(files_option(alloc, "module", "A file with a module"))?
+        .arg(script)
 }
 
 fn explain_command<'a>(alloc: Global) -> Result<Command<'a>, AllocError>
@@ -334,7 +412,7 @@ fn filter_option<'a>(alloc: Global) -> Arg<'a>
 }
 
 /// An option that has no value.
-fn flag_option<'a>(alloc: Global, name: &'a str, help: &'a str) -> Arg<'a>
+pub(crate) fn flag_option<'a>(alloc: Global, name: &'a str, help: &'a str) -> Arg<'a>
     ensures rule { rule_of result ≡ spec.flag_rule name.entry.now }
     ensures local { result.global ≡ false }
 {
@@ -355,7 +433,7 @@ fn name_argument<'a>(alloc: Global) -> Arg<'a>
 }
 
 /// An option that may be given again and again.
-fn files_option<'a>(alloc: Global, name: &'a str, help: &'a str) -> Arg<'a>
+pub(crate) fn files_option<'a>(alloc: Global, name: &'a str, help: &'a str) -> Arg<'a>
     ensures rule { rule_of result ≡ spec.files_rule name.entry.now }
     ensures local { result.global ≡ false }
 {
@@ -370,14 +448,14 @@ fn modules_option<'a>(alloc: Global) -> Arg<'a>
     files_option(alloc, "module", "A file with a module").required(true)
 }
 
-fn script_option<'a>(alloc: Global) -> Arg<'a>
+pub(crate) fn script_option<'a>(alloc: Global) -> Arg<'a>
     ensures rule { rule_of result ≡ spec.script_rule }
     ensures local { result.global ≡ false }
 {
     value_option(alloc, "script", "F", "The file with the script").required(true)
 }
 
-fn rows_option<'a>(alloc: Global) -> Arg<'a>
+pub(crate) fn rows_option<'a>(alloc: Global) -> Arg<'a>
     ensures rule { rule_of result ≡ spec.rows_rule }
     ensures local { result.global ≡ false }
 {
@@ -392,7 +470,12 @@ fn row_numbers_parser<'a>() -> ValueParser<'a>
 }
 
 /// An option `--NAME VALUE`.
-fn value_option<'a>(alloc: Global, name: &'a str, value: &'a str, help: &'a str) -> Arg<'a>
+pub(crate) fn value_option<'a>(
+    alloc: Global,
+    name: &'a str,
+    value: &'a str,
+    help: &'a str,
+) -> Arg<'a>
     ensures rule { rule_of result ≡ spec.value_rule name.entry.now }
     ensures local { result.global ≡ false }
 {

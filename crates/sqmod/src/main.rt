@@ -13,22 +13,29 @@ mod command_line;
 mod explain;
 mod fault;
 mod kept;
+mod new;
 mod request;
+mod shell;
+mod showing;
 mod suite;
 mod texts;
+mod trace;
 
 use bind::status_of_bind;
 use check::status_of_check;
 use clap::error::ErrorKind;
-use command_line::{CheckRequest, Request, Task, read_task};
+use command_line::{Request, Task, TextsRequest, read_task};
 use explain::{printed, status_of_explain};
 use fault::{Fault, NO_MEMORY, REFUSED};
+use new::status_of_new;
+use shell::status_of_shell;
 use sq_bindings::Host;
 use sq_store::MOST_ROW_NUMBERS;
 use std::process::ExitCode;
 use std::rt::{Env, Files};
 use std::{env, io};
 use suite::status_of_test;
+use trace::status_of_trace;
 
 fn main(rt: HostRuntime) -> ExitCode {
     ExitCode::from(status(&rt))
@@ -54,11 +61,14 @@ fn status_of_words<R: Files + Print + Eprint + AllocGlobal + Clone + Drop>(
 ) -> u8 {
     match read_task(rt.alloc(), words) {
         Ok(Task::Run(request)) => status_of_request(rt, &request),
-        Ok(Task::Check(request)) => status_of_check(rt, &request),
+        Ok(Task::Check(request)) => status_of_check(rt, &request.texts),
+        Ok(Task::Trace(request)) => status_of_trace(rt, &request),
+        Ok(Task::Shell(request)) => status_of_shell(rt, &request),
         Ok(Task::Explain(request)) => status_of_explain(rt, request),
         Ok(Task::Test(request)) => status_of_test(rt, &request),
         Ok(Task::BindC(request)) => status_of_bind(rt, Host::C, &request),
         Ok(Task::BindCobol(request)) => status_of_bind(rt, Host::Cobol, &request),
+        Ok(Task::New(request)) => status_of_new(rt, request),
         Err(error) => status_of_answer(rt, words, &error),
     }
 }
@@ -125,7 +135,7 @@ fn report<R: Eprint>(rt: &R, request: &Request<'_>, fault: Fault) -> u8
 }
 
 /// Says what went wrong with a check and gives the status for it.
-fn report_checked<R: Eprint>(rt: &R, request: &CheckRequest<'_>, fault: Fault) -> u8
+fn report_checked<R: Eprint>(rt: &R, request: &TextsRequest<'_>, fault: Fault) -> u8
     requires { NamesCheckedFile request.now fault }
     ensures { result ≡ status_of fault }
 {

@@ -2,7 +2,7 @@
 ghost use Rattle.std.specs.Prelude.{◌≡◌, ◌≤◌, OnOk, drop};
 
 use crate::check::{check_sources, status_of_checked};
-use crate::command_line::CheckRequest;
+use crate::command_line::TextsRequest;
 use crate::fault::{Fault, Source};
 use crate::kept::Kept;
 use crate::report_of_file;
@@ -181,7 +181,7 @@ fn status_of_files<R: Files + AllocGlobal>(
     case: &str,
     files: &CaseFiles,
 ) -> io::Result<u8> {
-    let request = CheckRequest {
+    let request = TextsRequest {
         schemas: names(rt.alloc(), files.schemas.as_slice(), case)?,
         modules: names(rt.alloc(), files.modules.as_slice(), case)?,
     };

@@ -1,7 +1,7 @@
 use Rattle.std.proofs.Common.{List, map, string_bytes, subst, sym}
 use Rattle.clap.specs.Words.{Row, Text, app_of, fault_of, found_of, rows_of}
 use Rattle.sqmod.specs.CommandLine.{IsGiven, MakesTask, sqmod}
-use Rattle.sqmod.proofs.Given.{rows_in_range, script_there}
+use Rattle.sqmod.proofs.Given.{given_for}
 use Rattle.sqmod.proofs.Read.{fails_by, kind_found, name_found, one_found, rows_found}
 use Rattle.sqmod.proofs.command_line.read_task.Goals as goal
 
@@ -17,7 +17,7 @@ task_of-requires c =
     c.subcommand.result c.unwrap.result c.subcommand.ensures.name c.unwrap.ensures in
     let met = found.met in
     subst (λ n. IsGiven n (rows_of (found_of c.unwrap.result.1.now))) name
-    (subst (IsGiven met.name) rows (met.known, λ is. let sound = met.sound is in (script_there met.rows sound, rows_in_range met.rows sound)))
+    (subst (IsGiven met.name) rows (given_for met.name met.rows met.known met.sound))
 
 pub returns-clause-refused : goal.returns-clause-refused
 returns-clause-refused c =
