@@ -1,5 +1,5 @@
 #!/usr/bin/env python3
-"""Tries the wrong bodies of docs/EDITS.md and writes their stamps.
+"""Tries the wrong bodies of docs/inside/EDITS.md and writes their stamps.
 
 edit_trials.py [--all] [CRATE..]    tries the edits with no stamp of today's texts, or all; of these crates, or of each
 

@@ -1,5 +1,5 @@
 #!/usr/bin/env python3
-"""The wrong bodies of docs/EDITS.md, and what the checker said of each.
+"""The wrong bodies of docs/inside/EDITS.md, and what the checker said of each.
 
 edits.py check    names each edit that has no stamp, or one of other texts than today's, and then fails; but for those that are owed
 edits.py owe      writes the list of those that are owed, tools/edits_owed.txt: each edit that has no stamp of today's texts
@@ -7,7 +7,7 @@ edits.py owe      writes the list of those that are owed, tools/edits_owed.txt: 
 An edit is a file NAME.edit in crates/CRATE/must-fail or crates/CRATE/more-edits. crates/CRATE/edits.stamp has a line for each
 edit that was tried: its name, the day, the kit's logic, a sum of the texts that its verdict stands on, and the function whose
 proof failed, or `names` if only a proof that names what the edit took away failed. tools/edit_trials.py writes it.
-docs/EDITS.md says what is in the sum.
+docs/inside/EDITS.md says what is in the sum.
 """
 
 import functools

@@ -17,7 +17,7 @@ from itertools import zip_longest
 from pathlib import Path
 
 ROOT = Path(__file__).resolve().parent.parent
-PAGES = ("README.md", "docs/*.md", "crates/*/*.md")
+PAGES = ("README.md", "docs/*.md", "docs/inside/*.md", "crates/*/*.md")
 MARK = re.compile(r"<!-- (shows|runs) (.+) -->")
 FENCE = "```"
 GAP = 3
