@@ -3,6 +3,7 @@
 
     print_runs.py texts                          the texts of the kit, for specs/Texts.antt
     print_runs.py runs DATA "WHAT THEY SHOW" NAME..   the runs of these names of a file of data
+    print_runs.py check                          fails where a file of crates/sq_worked is not what is printed of its runs today
 
 Texts are printed byte for byte, a line at a time; a run is the equation that its texts come to its report, or to
 its refusal.
@@ -12,12 +13,15 @@ import os
 import re
 import sys
 
-DATA = os.path.join(os.path.dirname(os.path.abspath(__file__)), "..", "crates", "sq_cases", "data")
+CRATES = os.path.join(os.path.dirname(os.path.abspath(__file__)), "..", "crates")
+DATA = os.path.join(CRATES, "sq_cases", "data")
+WORKED = os.path.join(CRATES, "sq_worked")
+HEAD = re.compile(r"-- (.*)\. Printed by tools/print_runs\.py from sq_cases/data/(.*)\.\n")
 KIT = (("schema", "schema.sql"), ("first_module", "module.sql"), ("second_module", "second-module.sql"),
        ("scrolling_module", "scrolling-module.sql"))
 USUAL_ROW_NUMBERS = "1000000"
 FAULTS = (("lexical", "sq_lex.specs.declared.fault.LexFaultKind"), ("schema_fault", "sq_meaning.specs.declared.refusal.SchemaFault"),
-          ("module_fault", "sq_meaning.specs.declared.refusal.ModuleFault"), ("script_fault", "sq_rules.specs.declared.refusal.ScriptFault"))
+          ("module_fault", "sq_meaning.specs.declared.refusal.ModuleFault"), ("script_fault", "sq_meaning.specs.declared.refusal.ScriptFault"))
 
 
 def repeated(line):
@@ -86,10 +90,10 @@ def kit_texts():
     return found
 
 
-def print_texts():
-    print("-- The texts of the kit: a schema and its modules. Printed by tools/print_runs.py.")
-    print("use Rattle.std.specs.Prelude.{◌++◌, codes}\nuse Rattle.sq_meaning.specs.Report.{Bytes}\n")
-    print("\n".join(defined(name, text).replace("abbrev ", "abbrev pub ", 1) for name, text in kit_texts().items()), end="")
+def printed_texts():
+    texts = "\n".join(defined(name, text).replace("abbrev ", "abbrev pub ", 1) for name, text in kit_texts().items())
+    return ("-- The texts of the kit: a schema and its modules. Printed by tools/print_runs.py.\n"
+            "use Rattle.std.specs.Prelude.{◌++◌, codes}\nuse Rattle.sq_meaning.specs.Report.{Bytes}\n\n" + texts)
 
 
 LEXICAL = {"BadByte", "OpenText", "LongName", "NumberThenLetter", "LongNumber", "LongText"}
@@ -136,33 +140,50 @@ def print_run(run, kit):
     return "-- ---- %s\n\n%s" % (run.name.replace("_", " "), "\n".join(defs)), used
 
 
-def print_runs(path, shows, names):
+def printed_runs(path, shows, names):
     runs = {run.name: run for run in runs_of(os.path.join(DATA, path))}
     kit, used, bodies = kit_texts(), set(), []
     for name in names:
         body, these = print_run(runs[name], kit)
         bodies.append(body)
         used |= these
-    print("-- %s. Printed by tools/print_runs.py from sq_cases/data/%s." % (shows, path))
     text = "\n".join(bodies)
-    print("use Rattle.std.specs.Prelude.{◌≡◌, [], ◌∷◌, %scodes, refl}" % ("◌++◌, " if " ++ " in text else ""))
-    for alias, module in FAULTS:
-        if alias + "." in text:
-            print("use Rattle.%s.TheVariants as %s" % (module, alias))
-    print("use Rattle.sq_meaning.specs.Report.{Bytes}")
-    print("use Rattle.sq_worked.specs.Answer.{Answer, %sanswered}" % ("Cause, " if "Cause." in text else ""))
+    lines = ["-- %s. Printed by tools/print_runs.py from sq_cases/data/%s." % (shows, path),
+             "use Rattle.std.specs.Prelude.{◌≡◌, [], ◌∷◌, %scodes, refl}" % ("◌++◌, " if " ++ " in text else "")]
+    lines += ["use Rattle.%s.TheVariants as %s" % (module, alias) for alias, module in FAULTS if alias + "." in text]
+    lines += ["use Rattle.sq_meaning.specs.Report.{Bytes}",
+              "use Rattle.sq_worked.specs.Answer.{Answer, %sanswered}" % ("Cause, " if "Cause." in text else "")]
     if used:
-        print("use Rattle.sq_worked.specs.Texts.{%s}" % ", ".join(name for name, _ in KIT if name in used))
-    print("use Rattle.sq_worked.proofs.Computed.{computed}\n")
-    print(text, end="")
+        lines.append("use Rattle.sq_worked.specs.Texts.{%s}" % ", ".join(name for name, _ in KIT if name in used))
+    return "\n".join([*lines, "use Rattle.sq_worked.proofs.Computed.{computed}\n", text])
+
+
+def check():
+    """Compares each printed file with what is printed of its runs today."""
+    stale, count = [], 0
+    for folder, _, files in os.walk(WORKED):
+        for file in sorted(files) if "/out" not in folder[len(WORKED):] else ():
+            with open(os.path.join(folder, file), newline="") as opened:
+                text = opened.read()
+            head = HEAD.match(text)
+            names = [name.replace(" ", "_") for name in re.findall(r"^-- ---- (.*)$", text, re.M)]
+            wanted = printed_runs(head[2], head[1], names) if head else printed_texts() if file == "Texts.antt" else text
+            count += wanted is not text
+            if wanted != text:
+                stale.append(file)
+    print("%d printed files of sq_worked, %d differ %s" % (count, len(stale), " ".join(stale)))
+    if stale or not count:
+        raise SystemExit(1)
 
 
 def main():
     words = sys.argv[1:]
-    if words[:1] == ["texts"]:
-        print_texts()
+    if words == ["texts"]:
+        print(printed_texts(), end="")
+    elif words == ["check"]:
+        check()
     elif words[:1] == ["runs"] and len(words) > 3:
-        print_runs(words[1], words[2], words[3:])
+        print(printed_runs(words[1], words[2], words[3:]), end="")
     else:
         raise SystemExit(__doc__)
 
