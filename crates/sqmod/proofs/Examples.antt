@@ -84,9 +84,17 @@ checks : checked (codes "sqmod" ∷ codes "check" ∷ codes "--schema" ∷ codes
 unfolding clap_on_literals checked
 checks = refl
 
-no_script : fault_of sqmod (codes "sqmod" ∷ codes "check" ∷ codes "--script" ∷ codes "c" ∷ []) ≡ UnknownArgument ∷ []
+no_rows : fault_of sqmod (codes "sqmod" ∷ codes "check" ∷ codes "--rows" ∷ codes "3" ∷ []) ≡ UnknownArgument ∷ []
 unfolding clap_on_literals
-no_script = refl
+no_rows = refl
+
+traced_without_script : fault_of sqmod (codes "sqmod" ∷ codes "trace" ∷ codes "--tables" ∷ []) ≡ MissingRequiredArgument ∷ []
+unfolding clap_on_literals
+traced_without_script = refl
+
+shell_without_files : fault_of sqmod (codes "sqmod" ∷ codes "shell" ∷ []) ≡ []
+unfolding clap_on_literals
+shell_without_files = refl
 
 explained : List Text → Option (Text × Option Text)
 explained words = option_map (λ s. (s.0, first_of (codes "name") s.1)) (subcommand_of sqmod words)

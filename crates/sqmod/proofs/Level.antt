@@ -14,10 +14,10 @@ use Rattle.clap.specs.Walk.{refused, rows_after, settled, settled_rows, short_me
 use Rattle.clap.specs.Walk.{subcommand_met, subcommand_or_other, takes_several, takes_values, to_positional, trailing, used_by_id}
 use Rattle.clap.specs.Walk.{value, waits, walk, walk_from, walked, walked_from, with_default, word_met}
 use Rattle.clap.specs.Simple.{Shape}
-use Rattle.clap.specs.Kinds.{Kinds, or_else}
+use Rattle.clap.specs.Kinds.{Kinds, or_else, request_kinds}
 use Rattle.clap.specs.Faults.{bundle_fault, bundle_step_fault, check_fault, defaults_fault, flag_word_fault, flags_fault, level_fault}
 use Rattle.clap.specs.Faults.{long_fault, option_fault, other_fault, positional_fault, react_fault, settle_fault, short_fault}
-use Rattle.clap.specs.Faults.{default_fault, given_default_fault, request_kinds, step_fault, stray_fault, turn_fault, use_fault, walk_fault, word_fault}
+use Rattle.clap.specs.Faults.{default_fault, given_default_fault, step_fault, stray_fault, turn_fault, use_fault, walk_fault, word_fault}
 use Rattle.clap.specs.declared.error.kind.ErrorKind.TheVariants.{DisplayHelp, InvalidSubcommand, TooManyValues}
 use Rattle.clap.specs.declared.parser.matches.ValueSource.TheVariants.{DefaultValue}
 use Rattle.sqmod.proofs.Uses.{AllPassed, Each, IsOption, neither, some_kind, use_kept, values_kept}
