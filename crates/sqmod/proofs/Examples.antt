@@ -84,9 +84,9 @@ checks : checked (codes "sqmod" ∷ codes "check" ∷ codes "--schema" ∷ codes
 unfolding clap_on_literals checked
 checks = refl
 
-no_rows : fault_of sqmod (codes "sqmod" ∷ codes "check" ∷ codes "--rows" ∷ codes "3" ∷ []) ≡ UnknownArgument ∷ []
+checked_without_rows : fault_of sqmod (codes "sqmod" ∷ codes "check" ∷ codes "--rows" ∷ codes "3" ∷ []) ≡ UnknownArgument ∷ []
 unfolding clap_on_literals
-no_rows = refl
+checked_without_rows = refl
 
 traced_without_script : fault_of sqmod (codes "sqmod" ∷ codes "trace" ∷ codes "--tables" ∷ []) ≡ MissingRequiredArgument ∷ []
 unfolding clap_on_literals

@@ -269,16 +269,19 @@ module _ (c : List Rule) where
   default_kept : (a : Rule) (rows : List Row) → IsOption c a → default_fault rows a ≡ [] → AllPassed c rows → AllPassed c (with_default rows a)
   default_kept a rows of none all = go (has_row a.id rows) none
     where
-      values : (vs : List Text) → cond (false || is_empty vs) [] (given_default_fault a vs) ≡ []
+      values : (vs : List Text) (b : Bool) → is_empty vs ≡ b → cond (false || b) [] (given_default_fault a vs) ≡ []
           → AllPassed c (default_rows a.id (reading_by a) vs rows)
-      values [] e = all
-      values (v ∷ vs) e =
+      values [] b at e = all
+      values (v ∷ vs) true at e =
+          let bad : length (v ∷ vs) ≡ 0 = eqb-true _ _ at in
+          absurd (omega arith)
+      values (v ∷ vs) false at e =
           values_kept c a DefaultValue (v ∷ vs) rows of.1 (omega arith) (neither (request_kinds (action_of a)) _ e).1 all
 
       go : (b : Bool) → cond (b || is_empty a.defaults) [] (given_default_fault a a.defaults) ≡ []
           → AllPassed c (cond b rows (default_rows a.id (reading_by a) a.defaults rows))
       go true e = all
-      go false e = values a.defaults e
+      go false e = values a.defaults (is_empty a.defaults) refl e
 
   defaults_kept : (d : List Rule) (rows : List Row) → Each (IsOption c) d → defaults_fault rows d ≡ [] → AllPassed c rows
       → AllPassed c (fold with_default rows d)
