@@ -22,9 +22,9 @@ use Rattle.sq_meaning.specs.Schema.{Elements}
 use Rattle.sq_meaning.specs.SchemaRefusal.{elements_of, first_schema_refusal}
 use Rattle.sq_meaning.specs.Script.{first_script_refusal}
 use Rattle.sq_meaning.specs.Report.{Bytes}
-use Rattle.sq_meaning.specs.Run.{after, item_of_script, program_of}
+use Rattle.sq_meaning.specs.Run.{after}
 use Rattle.sq_meaning.specs.Machine.{first_state}
-use Rattle.sq_run.specs.Answer.{Task, accepted_modules, accepted_schemas, accepted_script, accepted_unless, and_then, answered, module_refusal, read_texts, refused_as, schema_refusal, script_refusal, trees_of}
+use Rattle.sq_run.specs.Answer.{Task, accepted_modules, accepted_schemas, accepted_script, accepted_unless, and_then, answered, module_refusal, read_texts, refused_as, schema_refusal, script_refusal, task_of, trees_of}
 use Rattle.sq_perform.specs.Read.{ReadText, module_rule, of_outcome, of_tokens, read_text, schema_rule, script_rule}
 use Rattle.sq_perform.specs.Texts.{AllSpell, Spells, SpellsTree}
 use Rattle.sq_perform.specs.declared.refusal.Refusal.{Refusal}
@@ -116,7 +116,7 @@ script_is elements modules script tree e =
 
 module _ (row_numbers : ℕ) (schemas modules : List Bytes) (script : Bytes) where
   abbrev script_step : List SchemaText → List ModuleText → ScriptText → Result Task RunFault
-  script_step schema_trees module_trees tree = Ok (record { machine = program_of schema_trees module_trees row_numbers; items = map item_of_script tree.items })
+  script_step schema_trees module_trees tree = Ok (task_of schema_trees module_trees tree row_numbers)
 
   abbrev modules_step : List SchemaText → List ModuleText → Result Task RunFault
   modules_step schema_trees module_trees =
@@ -133,8 +133,7 @@ module _ (row_numbers : ℕ) (schemas modules : List Bytes) (script : Bytes) whe
       let s = schemas_are schemas first.0 (named SchemaRefused (accepted_schemas schemas) first.0 first.1) in
       let m = modules_are modules second.0 (named ModuleRefused (accepted_modules modules) second.0 second.1) in
       let t = script_is (elements_of first.0) second.0 script third.0 (named ScriptRefused (accepted_script (elements_of first.0) second.0 script) third.0 third.1) in
-      let built : Task = record { machine = program_of first.0 second.0 row_numbers; items = map item_of_script third.0.items } in
-      let is : built ≡ task = same_ok built task third.2 in
+      let is : task_of first.0 second.0 third.0 row_numbers ≡ task = same_ok (task_of first.0 second.0 third.0 row_numbers) task third.2 in
       record {
         schema_trees = first.0;
         schemas_spell = s.0;
@@ -145,8 +144,7 @@ module _ (row_numbers : ℕ) (schemas modules : List Bytes) (script : Bytes) whe
         tree = third.0;
         script_spells = t.0;
         script_accepted = t.1;
-        machine = ap (λ (k : Task). k.machine) (sym is);
-        items = ap (λ (k : Task). k.items) (sym is);
+        task_is = sym is;
       }
 
   -- ---- laws
@@ -159,8 +157,8 @@ module _ (row_numbers : ℕ) (schemas modules : List Bytes) (script : Bytes) whe
   unfolding ConstraintsAreKept
   constraints_kept task count e =
       let a = accepted_are task e in
-      subst (λ p. StateHolds p.elements (after p (first_state p) (take count task.items))) (sym a.machine)
-      (constraints_hold_in_runs a.schema_trees a.module_trees row_numbers (take count task.items) a.schemas_accepted)
+      subst (λ k. StateHolds k.machine.elements (after k.machine (first_state k.machine) (take count k.items))) (sym a.task_is)
+      (constraints_hold_in_runs a.schema_trees a.module_trees row_numbers (take count (task_of a.schema_trees a.module_trees a.tree row_numbers).items) a.schemas_accepted)
 
   pub failures_change_nothing : FailuresChangeNothing row_numbers schemas modules script
   unfolding FailuresChangeNothing

@@ -5,7 +5,7 @@ use Rattle.std.proofs.lemmas.List.{length-map}
 use Rattle.std.specs.Prelude.{IfErr, OnOk}
 use Rattle.sq_tree.specs.Script.{script_tokens, script_depth}
 use Rattle.sq_meaning.specs.Report.{Bytes}
-use Rattle.sq_run.proofs.Answered.{modules_answered, schemas_answered, script_answered, task_answered, task_of}
+use Rattle.sq_run.proofs.Answered.{modules_answered, schemas_answered, script_answered, asked_by, task_answered}
 use Rattle.sq_run.proofs.Headline.{run_reports, run_stops_after, run_stops_inside}
 use Rattle.sq_perform.specs.Action.{item_of}
 use Rattle.sq_run.specs.Answer.{answered}
@@ -22,13 +22,13 @@ use Rattle.sq_run.specs.Answers.{Answers}
 use Rattle.sq_run.specs.Refused.{RefusedText}
 
 module _ (row_numbers : ℕ) (schemas modules : List Bytes) (script : Bytes) where
-  as_many : (r : Run row_numbers schemas modules script) → length r.actions ≡ length (task_of row_numbers schemas modules script r).items
+  as_many : (r : Run row_numbers schemas modules script) → length r.actions ≡ length (asked_by row_numbers schemas modules script r).items
   as_many r = sym (length-map r.actions item_of) ∙ ap (λ l. length l) r.are_items
 
   module _ (old new : Option Bytes) where
     done : session_stop.WroteAll row_numbers schemas modules script old new → Answers (answered schemas modules script row_numbers) old new (Ok tt)
     unfolding Answers session_stop.WroteAll
-    done h = (task_of row_numbers schemas modules script h.0, task_answered row_numbers schemas modules script h.0, run_reports row_numbers schemas modules script h.0 old new h.1)
+    done h = (asked_by row_numbers schemas modules script h.0, task_answered row_numbers schemas modules script h.0, run_reports row_numbers schemas modules script h.0 old new h.1)
 
     stopped : (fault : RunFault) → session_stop.Wrote row_numbers schemas modules script old new fault → session.RefusedText row_numbers schemas modules script fault
         → Answers (answered schemas modules script row_numbers) old new (Err fault)
@@ -38,10 +38,10 @@ module _ (row_numbers : ℕ) (schemas modules : List Bytes) (script : Bytes) whe
     stopped (ScriptRefused refusal) h is = (script_answered row_numbers schemas modules script refusal is, h)
     stopped (Write bytes) h is =
         let inside = run_stops_inside row_numbers schemas modules script h.0 old new bytes h.1 in
-        (task_of row_numbers schemas modules script h.0, task_answered row_numbers schemas modules script h.0, inside.0, inside.1)
+        (asked_by row_numbers schemas modules script h.0, task_answered row_numbers schemas modules script h.0, inside.0, inside.1)
     stopped (NoMemory zero) h is = h
     stopped (NoMemory (suc count)) h is = (
-      task_of row_numbers schemas modules script h.0,
+      asked_by row_numbers schemas modules script h.0,
       task_answered row_numbers schemas modules script h.0,
       subst (λ n. suc count < n) (as_many h.0) h.1,
       run_stops_after row_numbers schemas modules script h.0 old new (suc count) h.2,

@@ -17,7 +17,6 @@ use Rattle.sq_meaning.specs.Schema.{Elements}
 use Rattle.sq_meaning.specs.SchemaRefusal.{SchemaRefusal, elements_of, first_schema_refusal}
 use Rattle.sq_meaning.specs.Script.{ScriptRefusal, first_script_refusal}
 use Rattle.sq_meaning.specs.Report.{Bytes}
-use Rattle.sq_meaning.specs.Run.{item_of_script, program_of}
 use Rattle.sq_meaning.specs.declared.refusal.ModuleFault.{ModuleFault}
 use Rattle.sq_meaning.specs.declared.refusal.SchemaFault.{SchemaFault}
 use Rattle.sq_meaning.specs.declared.refusal.ScriptFault.{ScriptFault}
@@ -26,7 +25,7 @@ use Rattle.sq_binding.specs.Catalog.{Catalog}
 use Rattle.sq_binding.specs.Declaring.{catalog_of}
 use Rattle.sq_binding.proofs.Refused.{refusal_in}
 use Rattle.sq_perform.specs.Action.{item_of}
-use Rattle.sq_run.specs.Answer.{Task, accepted_modules, accepted_schemas, accepted_script, accepted_unless, and_then, answered, module_refusal, refused_as, refused_text, schema_refusal, script_fault_name, script_refusal, trees_of, read_texts}
+use Rattle.sq_run.specs.Answer.{Task, accepted_modules, accepted_schemas, accepted_script, accepted_unless, and_then, answered, module_refusal, refused_as, refused_text, schema_refusal, script_fault_name, script_refusal, task_of, trees_of, read_texts}
 use Rattle.sq_perform.specs.Read.{ReadText, module_rule, read_text, refusal_of, schema_rule, script_rule}
 use Rattle.sq_perform.specs.Refusal.{IsOfModules, IsOfSchema, IsFirstModule, IsTokenOf, Matter, Tokens, Grammar, Depth, Meaning, OneRefused, StandsAt, matter, module_fault, refused_part, refused_start, schema_fault, script_fault}
 use Rattle.sq_perform.specs.Refused as session
@@ -205,7 +204,7 @@ module _ (elements : Elements) (modules : List ModuleText) (script : Bytes) wher
 
 module _ (row_numbers : ℕ) (schemas modules : List Bytes) (script : Bytes) where
   abbrev script_step : List SchemaText → List ModuleText → Result ScriptText RunFault → Result Task RunFault
-  script_step schema_trees module_trees r = and_then r (λ tree. Ok (record { machine = program_of schema_trees module_trees row_numbers; items = map item_of_script tree.items }))
+  script_step schema_trees module_trees r = and_then r (λ tree. Ok (task_of schema_trees module_trees tree row_numbers))
 
   abbrev modules_step : List SchemaText → Result (List ModuleText) RunFault → Result Task RunFault
   modules_step schema_trees r = and_then r (λ module_trees. script_step schema_trees module_trees (refused_as ScriptRefused (accepted_script (elements_of schema_trees) module_trees script)))
@@ -224,10 +223,10 @@ module _ (row_numbers : ℕ) (schemas modules : List Bytes) (script : Bytes) whe
       behind_schemas trees spelled none ∙ ap (λ r. modules_step trees (refused_as ModuleRefused r)) (modules_taken modules module_trees modules_spelled modules_none)
 
   -- the task of a run over a session
-  abbrev pub task_of : Run row_numbers schemas modules script → Task
-  task_of r = record { machine = program_of r.schema_trees r.module_trees row_numbers; items = map item_of_script r.script_tree.items }
+  abbrev pub asked_by : Run row_numbers schemas modules script → Task
+  asked_by r = task_of r.schema_trees r.module_trees r.script_tree row_numbers
 
-  pub task_answered : (r : Run row_numbers schemas modules script) → answered schemas modules script row_numbers ≡ Ok (task_of r)
+  pub task_answered : (r : Run row_numbers schemas modules script) → answered schemas modules script row_numbers ≡ Ok (asked_by r)
   task_answered r =
       behind_modules r.schema_trees r.module_trees r.schemas_spell
       (accepted r.schema_trees r.module_trees r.is_opened.admitted r.is_opened.catalog r.is_opened.is_catalog) r.modules_spell r.is_opened.admitted

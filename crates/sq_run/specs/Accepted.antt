@@ -1,6 +1,6 @@
 -- Texts that are accepted: they spell trees, with at most MAX_DEPTH round brackets open at once, none of
 -- which is refused, and the table machine is that of the trees.
-use Rattle.std.specs.Prelude.{◌≡◌, ℕ, List, map, None, Ok}
+use Rattle.std.specs.Prelude.{◌≡◌, ℕ, List, None, Ok}
 use Rattle.sq_tree.specs.Schema.{schema_tokens, schema_depth}
 use Rattle.sq_tree.specs.Module.{module_tokens, module_depth}
 use Rattle.sq_tree.specs.Script.{script_tokens, script_depth}
@@ -11,8 +11,7 @@ use Rattle.sq_meaning.specs.ModuleRefusal.{first_module_refusal}
 use Rattle.sq_meaning.specs.SchemaRefusal.{elements_of, first_schema_refusal}
 use Rattle.sq_meaning.specs.Script.{first_script_refusal}
 use Rattle.sq_meaning.specs.Report.{Bytes}
-use Rattle.sq_meaning.specs.Run.{item_of_script, program_of}
-use Rattle.sq_run.specs.Answer.{Task, answered}
+use Rattle.sq_run.specs.Answer.{Task, answered, task_of}
 use Rattle.sq_perform.specs.Texts.{AllSpell, Spells, SpellsTree}
 
 -- the trees of accepted texts
@@ -26,8 +25,7 @@ pub record Accepted (row_numbers : ℕ) (schemas modules : List Bytes) (script :
   pub tree : ScriptText
   pub script_spells : SpellsTree script_tokens script_depth script tree
   pub script_accepted : first_script_refusal (elements_of schema_trees) module_trees tree ≡ None
-  pub machine : task.machine ≡ program_of schema_trees module_trees row_numbers
-  pub items : task.items ≡ map item_of_script tree.items
+  pub task_is : task ≡ task_of schema_trees module_trees tree row_numbers
 
 -- accepted texts spell the trees of the machine and of its items
 unfoldable pub AcceptedSpellTrees : ℕ → List Bytes → List Bytes → Bytes → Type 0

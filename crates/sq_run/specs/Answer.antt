@@ -31,6 +31,13 @@ pub record Task : Type 0 where
   pub machine : Program
   pub items : List Item
 
+-- what trees ask for, whose tables have row numbers up to this one
+abbrev pub task_of : List SchemaText → List ModuleText → ScriptText → ℕ → Task
+task_of schemas modules script row_numbers = record {
+  machine = program_of schemas modules row_numbers;
+  items = map item_of_script script.items;
+}
+
 -- the lines of these items, from the machine's first state on
 abbrev pub lines : Task → List Item → Bytes
 lines task items = report task.machine (first_state task.machine) items
@@ -125,7 +132,4 @@ answered schemas modules script row_numbers = do
   schema_trees ← refused_as SchemaRefused (accepted_schemas schemas)
   module_trees ← refused_as ModuleRefused (accepted_modules modules)
   tree ← refused_as ScriptRefused (accepted_script (elements_of schema_trees) module_trees script)
-  Ok (record {
-    machine = program_of schema_trees module_trees row_numbers;
-    items = map item_of_script tree.items;
-  })
+  Ok (task_of schema_trees module_trees tree row_numbers)
