@@ -21,7 +21,8 @@ KIT = (("schema", "schema.sql"), ("first_module", "module.sql"), ("second_module
        ("scrolling_module", "scrolling-module.sql"))
 USUAL_ROW_NUMBERS = "1000000"
 FAULTS = (("lexical", "sq_lex.specs.declared.fault.LexFaultKind"), ("schema_fault", "sq_meaning.specs.declared.refusal.SchemaFault"),
-          ("module_fault", "sq_meaning.specs.declared.refusal.ModuleFault"), ("script_fault", "sq_meaning.specs.declared.refusal.ScriptFault"))
+          ("module_fault", "sq_meaning.specs.declared.refusal.ModuleFault"), ("what", "sq_perform.specs.declared.refusal.RefusalName"))
+KINDS = {"schema": "SchemaRefused", "module": "ModuleRefused", "script": "ScriptRefused"}
 
 
 def repeated(line):
@@ -97,25 +98,25 @@ def printed_texts():
 
 
 LEXICAL = {"BadByte", "OpenText", "LongName", "NumberThenLetter", "LongNumber", "LongText"}
-GRAMMAR = {"Unexpected": "unexpected", "TooDeep": "too_deep", "EndOfText": "end_of_text"}
+GRAMMAR = {"Unexpected", "TooDeep", "EndOfText"}
 
 
-def cause_term(kind, name):
+def name_term(kind, name):
     if name in LEXICAL:
-        return "(Cause.lexical lexical.%s)" % name
-    return "Cause.%s" % GRAMMAR[name] if name in GRAMMAR else "(Cause.of_%s %s_fault.%s)" % (kind, kind, name)
+        return "what.Lexical lexical.%s" % name
+    if name in GRAMMAR or kind == "script":
+        return "what.%s" % name
+    return "what.Schema (record { fault = schema_fault.%s })" % name if kind == "schema" else "what.Module module_fault.%s" % name
 
 
 def answer_term(run):
-    """The answer that is wanted: a report, or a refusal's text, place and name."""
+    """What is wanted: a report, or a refusal's text, place and name."""
     if not run.refused:
-        return "Answer.reported (\n    %s)" % text_term(run.report)
+        return "Ok (\n    %s)" % text_term(run.report)
     kind, text, place, name = run.refused
     line, column = place.split(":")
-    fault = "record { line = %s; column = %s; cause = %s }" % (line, column, cause_term(kind, name))
-    if kind == "script":
-        return "Answer.script_refused (%s)" % fault
-    return "Answer.%s_refused (record { text = %d; fault = %s })" % (kind, int(text) - 1, fault)
+    number = 0 if kind == "script" else int(text) - 1
+    return "Err (%s (record { text = %d; line = %s; column = %s; what = %s }))" % (KINDS[kind], number, line, column, name_term(kind, name))
 
 
 def print_run(run, kit):
@@ -135,7 +136,7 @@ def print_run(run, kit):
 
     schemas, modules = named("schema", run.schemas), named("module", run.modules)
     defs.append(defined(run.name + "-script", run.script))
-    defs.append("%s : answered (%s) (%s) %s-script %s ≡ %s\nunfolding computed\n%s = refl\n"
+    defs.append("%s : reported (answered (%s) (%s) %s-script %s) ≡ %s\nunfolding computed\n%s = refl\n"
                 % (run.name, schemas, modules, run.name, run.rows, answer_term(run), run.name))
     return "-- ---- %s\n\n%s" % (run.name.replace("_", " "), "\n".join(defs)), used
 
@@ -148,11 +149,15 @@ def printed_runs(path, shows, names):
         bodies.append(body)
         used |= these
     text = "\n".join(bodies)
+    results = [word for word in ("Ok", "Err") if "≡ %s (" % word in text]
     lines = ["-- %s. Printed by tools/print_runs.py from sq_cases/data/%s." % (shows, path),
-             "use Rattle.std.specs.Prelude.{◌≡◌, [], ◌∷◌, %scodes, refl}" % ("◌++◌, " if " ++ " in text else "")]
+             "use Rattle.std.specs.Prelude.{◌≡◌, [], ◌∷◌, %scodes, %s, refl}" % ("◌++◌, " if " ++ " in text else "", ", ".join(results))]
     lines += ["use Rattle.%s.TheVariants as %s" % (module, alias) for alias, module in FAULTS if alias + "." in text]
-    lines += ["use Rattle.sq_meaning.specs.Report.{Bytes}",
-              "use Rattle.sq_worked.specs.Answer.{Answer, %sanswered}" % ("Cause, " if "Cause." in text else "")]
+    lines.append("use Rattle.sq_meaning.specs.Report.{Bytes}")
+    kinds = [kind for kind in KINDS.values() if "Err (%s " % kind in text]
+    if kinds:
+        lines.append("use Rattle.sq_perform.specs.declared.refusal.RunFault.TheVariants.{%s}" % ", ".join(kinds))
+    lines += ["use Rattle.sq_run.specs.Answer.{answered}", "use Rattle.sq_worked.specs.Reported.{reported}"]
     if used:
         lines.append("use Rattle.sq_worked.specs.Texts.{%s}" % ", ".join(name for name, _ in KIT if name in used))
     return "\n".join([*lines, "use Rattle.sq_worked.proofs.Computed.{computed}\n", text])

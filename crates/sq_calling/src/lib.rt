@@ -1,10 +1,10 @@
 //! A caller of `run`: it runs a script in memory and answers the report.
 #![tactic(auto)]
 
-ghost use Rattle.std.specs.Prelude.{Some, [], IfErr, IfOk};
+ghost use Rattle.std.specs.Prelude.{ℕ, List, [], Option, Some, Ok, Err, IfErr, IfOk};
 ghost use Rattle.sq_perform.specs.Texts.{texts};
-ghost use Rattle.sq_run.specs.Refused.{RefusedText};
-ghost use Rattle.sq_run.specs.Written.{IsReported};
+ghost use Rattle.sq_run.specs.Answer.{answered};
+ghost use Rattle.sq_run.specs.Answers.{Answers};
 
 use sq_heap::HeapStore;
 use sq_run::{Limits, OutOf, RunFault, run};
@@ -18,11 +18,13 @@ pub fn report_of(
     modules: &[Vec<u8>],
     script: &[u8],
 ) -> Result<Vec<u8>, RunFault>
-    // What is answered is the table machine's report, run on the trees that the texts spell.
-    ensures report { IfOk result
-        (λ report. IsReported 1000000 (texts schemas.now) (texts modules.now) script.now
-        (Some []) (Some report.items)) }
-    ensures refused { IfErr result (RefusedText (texts schemas.now) (texts modules.now) script.now) }
+    // What is answered is what the texts come to: the table machine's report, or the first refusal.
+    ensures report { IfOk result (λ report. Answers
+        (answered (texts schemas.now) (texts modules.now) script.now 1000000)
+        (Some []) (Some report.items) (Ok tt)) }
+    ensures fault { IfErr result (λ fault. (taken : Option (List ℕ)) × Answers
+        (answered (texts schemas.now) (texts modules.now) script.now 1000000)
+        (Some []) taken (Err fault)) }
 {
     let mut out = OutOf::new(Vec::new(alloc));
     let limits = Limits {

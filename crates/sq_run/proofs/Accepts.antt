@@ -1,70 +1,88 @@
--- A run over a session is one that the definitions describe: the texts are accepted, and what is written is
--- the table machine's report.
-use Rattle.std.proofs.Common.{◌≡◌, ◌<◌, ℕ, zero, suc, List, length, take, Option, Result, Ok, Err, ap, sym, subst, ◌∙◌}
+-- A run over a session is one that the definitions describe: what is written is the report of what the texts come to, or the
+-- run stops for their first refusal.
+use Rattle.std.proofs.Common.{◌≡◌, ◌<◌, ℕ, zero, suc, List, [], ◌∷◌, length, take, slice_get, Option, Some, Result, Ok, Err, refl, ap, sym, subst, ◌∙◌}
 use Rattle.std.proofs.lemmas.List.{length-map}
 use Rattle.std.specs.Prelude.{IfErr, OnOk}
+use Rattle.sq_tree.specs.Script.{script_tokens, script_depth}
 use Rattle.sq_meaning.specs.Report.{Bytes}
-use Rattle.sq_run.proofs.CallLaws.{failed_changes_nothing}
-use Rattle.sq_run.proofs.NameLaws.{constraints_hold_in_runs}
-use Rattle.sq_run.proofs.ExactlyBound.{accepted}
+use Rattle.sq_run.proofs.Answered.{modules_answered, schemas_answered, script_answered, asked_by, task_answered}
 use Rattle.sq_run.proofs.Headline.{run_reports, run_stops_after, run_stops_inside}
 use Rattle.sq_perform.specs.Action.{item_of}
+use Rattle.sq_run.specs.Answer.{answered}
+use Rattle.sq_perform.specs.Read.{script_rule}
+use Rattle.sq_perform.specs.Refusal.{IsRefused, Matter, Tokens, Grammar, Depth, Meaning, OneRefused, matter, read_before}
+use Rattle.sq_perform.specs.Refused as session
 use Rattle.sq_perform.specs.Run.{Run}
-use Rattle.sq_perform.specs.Stop as session
+use Rattle.sq_perform.specs.Stop as session_stop
+use Rattle.sq_perform.specs.Texts.{SomeTrees, SpellsTree}
+use Rattle.sq_perform.specs.declared.refusal.Refusal.{Refusal}
 use Rattle.sq_perform.specs.declared.refusal.RunFault.{RunFault}
 use Rattle.sq_perform.specs.declared.refusal.RunFault.TheVariants.{SchemaRefused, ModuleRefused, ScriptRefused, Write, NoMemory}
-use Rattle.sq_run.specs.Accepted.{Accepted, items, machine}
-use Rattle.sq_run.specs.Kept.{ConstraintsAreKept, FailuresChangeNothing}
-use Rattle.sq_run.specs.Written.{IsReported, Wrote}
-use Rattle.sq_run.proofs.Scripts.{script_accepted}
+use Rattle.sq_run.specs.Answers.{Answers}
+use Rattle.sq_run.specs.Refused.{RefusedText}
 
 module _ (row_numbers : ℕ) (schemas modules : List Bytes) (script : Bytes) where
-  -- The texts of a run are accepted.
-  abbrev texts_of : Run row_numbers schemas modules script → Accepted schemas modules script
-  texts_of r = record {
-    schemas_are = record {
-      trees = r.schema_trees;
-      spelled = r.schemas_spell;
-      accepted = accepted r.schema_trees r.module_trees r.is_opened.admitted r.is_opened.catalog r.is_opened.is_catalog;
-    };
-    modules_are = record { trees = r.module_trees; spelled = r.modules_spell; accepted = r.is_opened.admitted };
-    tree = r.script_tree;
-    spelled = r.script_spells;
-    accepted = script_accepted row_numbers r.schema_trees r.module_trees r.start r.is_opened r.script_tree r.taken;
-  }
-
-  as_many : (r : Run row_numbers schemas modules script) → length r.actions ≡ length (items (texts_of r))
+  as_many : (r : Run row_numbers schemas modules script) → length r.actions ≡ length (asked_by row_numbers schemas modules script r).items
   as_many r = sym (length-map r.actions item_of) ∙ ap (λ l. length l) r.are_items
 
   module _ (old new : Option Bytes) where
-    pub reports : (answer : Result (Unit {0}) RunFault) → OnOk answer (session.WroteAll row_numbers schemas modules script old new)
-        → OnOk answer (IsReported row_numbers schemas modules script old new)
-    unfolding IsReported session.WroteAll
-    reports (Ok u) h = (texts_of h.0, run_reports row_numbers schemas modules script h.0 old new h.1)
-    reports (Err fault) h = h
+    done : session_stop.WroteAll row_numbers schemas modules script old new → Answers (answered schemas modules script row_numbers) old new (Ok tt)
+    unfolding Answers session_stop.WroteAll
+    done h = (asked_by row_numbers schemas modules script h.0, task_answered row_numbers schemas modules script h.0, run_reports row_numbers schemas modules script h.0 old new h.1)
 
-    wrote : (fault : RunFault) → session.Wrote row_numbers schemas modules script old new fault → Wrote row_numbers schemas modules script old new fault
-    unfolding Wrote session.Wrote
-    wrote (SchemaRefused refusal) h = h
-    wrote (ModuleRefused refusal) h = h
-    wrote (ScriptRefused refusal) h = h
-    wrote (Write bytes) h =
-        let inside = run_stops_inside row_numbers schemas modules script h.0 old new bytes h.1 in (texts_of h.0, inside.0, inside.1)
-    wrote (NoMemory zero) h = h
-    wrote (NoMemory (suc count)) h =
-        (texts_of h.0, subst (λ n. suc count < n) (as_many h.0) h.1, run_stops_after row_numbers schemas modules script h.0 old new (suc count) h.2)
+    stopped : (fault : RunFault) → session_stop.Wrote row_numbers schemas modules script old new fault → session.RefusedText row_numbers schemas modules script fault
+        → Answers (answered schemas modules script row_numbers) old new (Err fault)
+    unfolding Answers session_stop.Wrote
+    stopped (SchemaRefused refusal) h is = (schemas_answered row_numbers schemas modules script refusal is, h)
+    stopped (ModuleRefused refusal) h is = (modules_answered row_numbers schemas modules script refusal is, h)
+    stopped (ScriptRefused refusal) h is = (script_answered row_numbers schemas modules script refusal is, h)
+    stopped (Write bytes) h is =
+        let inside = run_stops_inside row_numbers schemas modules script h.0 old new bytes h.1 in
+        (asked_by row_numbers schemas modules script h.0, task_answered row_numbers schemas modules script h.0, inside.0, inside.1)
+    stopped (NoMemory zero) h is = h
+    stopped (NoMemory (suc count)) h is = (
+      asked_by row_numbers schemas modules script h.0,
+      task_answered row_numbers schemas modules script h.0,
+      subst (λ n. suc count < n) (as_many h.0) h.1,
+      run_stops_after row_numbers schemas modules script h.0 old new (suc count) h.2,
+    )
 
-    pub stops : (answer : Result (Unit {0}) RunFault) → IfErr answer (session.Wrote row_numbers schemas modules script old new)
-        → IfErr answer (Wrote row_numbers schemas modules script old new)
-    stops (Ok u) h = h
-    stops (Err fault) h = wrote fault h
+    pub answers : (result : Result (Unit {0}) RunFault) → OnOk result (session_stop.WroteAll row_numbers schemas modules script old new)
+        → IfErr result (session_stop.Wrote row_numbers schemas modules script old new) → IfErr result (session.RefusedText row_numbers schemas modules script)
+        → Answers (answered schemas modules script row_numbers) old new result
+    answers (Ok tt) report wrote is = done report
+    answers (Err fault) report wrote is = stopped fault wrote is
 
-  -- What the laws of the machine say of the texts.
-  pub constraints_kept : ConstraintsAreKept row_numbers schemas modules script
-  unfolding ConstraintsAreKept
-  constraints_kept a count =
-      constraints_hold_in_runs a.schemas_are.trees a.modules_are.trees row_numbers (take count (items a)) a.schemas_are.accepted
+  -- ---- what a refusal says of trees
 
-  pub failures_change_nothing : FailuresChangeNothing row_numbers schemas modules script
-  unfolding FailuresChangeNothing
-  failures_change_nothing a count c failed = failed_changes_nothing (machine row_numbers a) _ c failed
+  none_before : (refusal : Refusal) → refusal.text ≡ 0 → SomeTrees script_tokens script_depth (take refusal.text (script ∷ []))
+  none_before refusal number = subst (λ n. SomeTrees script_tokens script_depth (take n (script ∷ []))) (sym number) ([], tt)
+
+  script_one : (refusal : Refusal) (m : Matter) → refusal.text ≡ 0 → matter refusal.what ≡ m → IsRefused script_rule script_tokens script_depth script refusal m
+      → SomeTrees script_tokens script_depth (read_before m refusal.text (script ∷ [])) → OneRefused script_rule script_tokens script_depth (script ∷ []) refusal
+  script_one refusal m number e is before = record {
+    text = script;
+    there = ap (slice_get (script ∷ [])) number;
+    refused = subst (IsRefused script_rule script_tokens script_depth script refusal) (sym e) is;
+    before = subst (λ k. SomeTrees script_tokens script_depth (read_before k refusal.text (script ∷ []))) (sym e) before;
+  }
+
+  script_said : (refusal : Refusal) (m : Matter) → matter refusal.what ≡ m → (h : session.ScriptIsRefused row_numbers schemas modules script refusal)
+      → session.IsRefusedScript h.start script refusal m → OneRefused script_rule script_tokens script_depth (script ∷ []) refusal
+  script_said refusal Tokens e h is = script_one refusal Tokens h.text e is (none_before refusal h.text)
+  script_said refusal Grammar e h is = script_one refusal Grammar h.text e is (none_before refusal h.text)
+  script_said refusal Depth e h is = script_one refusal Depth h.text e is (none_before refusal h.text)
+  script_said refusal Meaning e h is = script_one refusal Meaning h.text e tt (is.tree ∷ [], (is.spells, tt))
+
+  refused : (fault : RunFault) → session.RefusedText row_numbers schemas modules script fault → RefusedText schemas modules script fault
+  unfolding RefusedText session.RefusedText
+  refused (SchemaRefused refusal) h = h.0
+  refused (ModuleRefused refusal) h = h.1
+  refused (ScriptRefused refusal) h = script_said refusal (matter refusal.what) refl h h.refused
+  refused (Write bytes) h = tt
+  refused (NoMemory items) h = tt
+
+  pub refuses : (result : Result (Unit {0}) RunFault) → IfErr result (session.RefusedText row_numbers schemas modules script)
+      → IfErr result (RefusedText schemas modules script)
+  refuses (Ok u) h = h
+  refuses (Err fault) h = refused fault h

@@ -150,7 +150,8 @@ pub mod KeyedCalls
 pub mod KeyedFetches
 pub mod KeyedSelects
 pub mod Quiet
-pub mod Accepts
-pub mod NeverBoth
-pub mod Refuses
 pub mod Scripts
+pub mod ReadTexts
+pub mod Answered
+pub mod AcceptedTexts
+pub mod Accepts

@@ -1,6 +1,6 @@
--- Texts that the definitions accept: trees that they spell, with at most MAX_DEPTH round brackets open at
--- once, none of which is refused; and what the table machine of the trees reports.
-use Rattle.std.specs.Prelude.{◌≡◌, ℕ, List, map, None}
+-- Texts that are accepted: they spell trees, with at most MAX_DEPTH round brackets open at once, none of
+-- which is refused, and the table machine is that of the trees.
+use Rattle.std.specs.Prelude.{◌≡◌, ℕ, List, None, Ok}
 use Rattle.sq_tree.specs.Schema.{schema_tokens, schema_depth}
 use Rattle.sq_tree.specs.Module.{module_tokens, module_depth}
 use Rattle.sq_tree.specs.Script.{script_tokens, script_depth}
@@ -10,44 +10,32 @@ use Rattle.sq_tree.specs.declared.script.ScriptText.{ScriptText}
 use Rattle.sq_meaning.specs.ModuleRefusal.{first_module_refusal}
 use Rattle.sq_meaning.specs.SchemaRefusal.{elements_of, first_schema_refusal}
 use Rattle.sq_meaning.specs.Script.{first_script_refusal}
-use Rattle.sq_meaning.specs.Machine.{Program, State, first_state}
-use Rattle.sq_meaning.specs.Report.{Bytes, report}
-use Rattle.sq_meaning.specs.Run.{Item, after, item_of_script, program_of}
-use Rattle.sq_perform.specs.Texts.{AllSpell, SpellsTree}
+use Rattle.sq_meaning.specs.Report.{Bytes}
+use Rattle.sq_run.specs.Answer.{Task, answered, task_of}
+use Rattle.sq_perform.specs.Texts.{AllSpell, Spells, SpellsTree}
 
-pub record AcceptedSchemas (texts : List Bytes) : Type 0 where
-  pub trees : List SchemaText
-  pub spelled : AllSpell schema_tokens schema_depth texts trees
-  pub accepted : first_schema_refusal trees ≡ None
-
-pub record AcceptedModules (texts : List Bytes) : Type 0 where
-  pub trees : List ModuleText
-  pub spelled : AllSpell module_tokens module_depth texts trees
-  pub accepted : first_module_refusal trees ≡ None
-
--- the texts of a run
-pub record Accepted (schemas modules : List Bytes) (script : Bytes) : Type 0 where
-  pub schemas_are : AcceptedSchemas schemas
-  pub modules_are : AcceptedModules modules
+-- the trees of accepted texts
+pub record Accepted (row_numbers : ℕ) (schemas modules : List Bytes) (script : Bytes) (task : Task) : Type 0 where
+  pub schema_trees : List SchemaText
+  pub schemas_spell : AllSpell schema_tokens schema_depth schemas schema_trees
+  pub schemas_accepted : first_schema_refusal schema_trees ≡ None
+  pub module_trees : List ModuleText
+  pub modules_spell : AllSpell module_tokens module_depth modules module_trees
+  pub modules_accepted : first_module_refusal module_trees ≡ None
   pub tree : ScriptText
-  pub spelled : SpellsTree script_tokens script_depth script tree
-  pub accepted : first_script_refusal (elements_of schemas_are.trees) modules_are.trees tree ≡ None
+  pub script_spells : SpellsTree script_tokens script_depth script tree
+  pub script_accepted : first_script_refusal (elements_of schema_trees) module_trees tree ≡ None
+  pub task_is : task ≡ task_of schema_trees module_trees tree row_numbers
 
--- what the script asks for
-abbrev pub items : {schemas modules : List Bytes} {script : Bytes} → Accepted schemas modules script
-    → List Item
-items a = map item_of_script a.tree.items
+-- accepted texts spell the trees of the machine and of its items
+unfoldable pub AcceptedSpellTrees : ℕ → List Bytes → List Bytes → Bytes → Type 0
+AcceptedSpellTrees row_numbers schemas modules script =
+    (task : Task) → answered schemas modules script row_numbers ≡ Ok task
+    → Accepted row_numbers schemas modules script task
 
--- The table machine of the schemas and modules, whose rows may have numbers up to this one.
-abbrev pub machine : {schemas modules : List Bytes} {script : Bytes} → ℕ → Accepted schemas modules script
-    → Program
-machine row_numbers a = program_of a.schemas_are.trees a.modules_are.trees row_numbers
-
--- What the table machine reports of some items, from the first state on.
-abbrev pub lines : {schemas modules : List Bytes} {script : Bytes} → ℕ → Accepted schemas modules script
-    → List Item → Bytes
-lines row_numbers a some = report (machine row_numbers a) (first_state (machine row_numbers a)) some
-
-abbrev pub behind : {schemas modules : List Bytes} {script : Bytes} → ℕ → Accepted schemas modules script
-    → List Item → State
-behind row_numbers a some = after (machine row_numbers a) (first_state (machine row_numbers a)) some
+-- no text spells two trees
+unfoldable pub TextsHaveOneTree : Type 0
+TextsHaveOneTree =
+    ((text : Bytes) (a b : SchemaText) → Spells text (schema_tokens a) → Spells text (schema_tokens b) → a ≡ b)
+    × ((text : Bytes) (a b : ModuleText) → Spells text (module_tokens a) → Spells text (module_tokens b) → a ≡ b)
+    × ((text : Bytes) (a b : ScriptText) → Spells text (script_tokens a) → Spells text (script_tokens b) → a ≡ b)

@@ -2,11 +2,13 @@
 //! definitions of the language alone.
 
 ghost use Rattle.std.specs.Prelude.{◌≡◌, ◌≤◌, false, IfErr, OnOk};
+ghost use Rattle.sq_run.specs.Answer.{answered};
 ghost use Rattle.sq_perform.specs.Stop.{is_write};
 ghost use Rattle.sq_perform.specs.Texts.{texts};
+ghost use Rattle.sq_run.specs.Accepted.{AcceptedSpellTrees, TextsHaveOneTree};
+ghost use Rattle.sq_run.specs.Answers.{Answers};
 ghost use Rattle.sq_run.specs.Kept.{ConstraintsAreKept, FailuresChangeNothing};
 ghost use Rattle.sq_run.specs.Refused.{RefusedText};
-ghost use Rattle.sq_run.specs.Written.{IsReported, Wrote};
 
 use sq_perform::{Limits, Out, RunFault};
 use sq_store::{MOST_ROW_NUMBERS, Store};
@@ -28,23 +30,22 @@ pub fn run<S: Store, W: Out>(
     requires numbers { limits.row_numbers ≤ MOST_ROW_NUMBERS }
     requires open_out { W.failed out.old ≡ false }
 
-    // The definitions accept the texts, and what is written is the report of the table machine, run call by
-    // call on the trees that the texts spell.
-    ensures report { OnOk result
-        (IsReported limits.row_numbers (texts schemas.now) (texts modules.now) script.now
-        (W.taken out.old) (W.taken out.new)) }
+    // What is answered and written is what the definitions say of the texts: `Ok` wrote the report, a refusal is the first
+    // refusal, by its name, at its line and column, and wrote nothing. Where the output failed it had taken the first
+    // bytes of the report; where memory ran out, the report of the first items was written.
+    ensures answers { Answers
+        (answered (texts schemas.now) (texts modules.now) script.now limits.row_numbers)
+        (W.taken out.old) (W.taken out.new) result }
 
-    // After a refusal nothing was written; after running out of memory the report of the first
-    // items; after an output fault the first bytes of the report. The output has failed exactly
-    // where there is an output fault.
-    ensures stopped { IfErr result
-        (Wrote limits.row_numbers (texts schemas.now) (texts modules.now) script.now
-        (W.taken out.old) (W.taken out.new)) }
+    // The output has failed exactly where there is an output fault.
     ensures still { OnOk result (W.failed out.new ≡ false) }
     ensures failed { IfErr result (λ fault. W.failed out.new ≡ is_write fault) }
 
-    // A text is refused only where the definitions refuse it, for the first refusal that they
-    // find, by its name, at its first token; without a tree at the token where reading is stuck.
+    // Accepted texts spell the trees of the machine, a text spells one tree at most, and a refused one none, or only
+    // deeper ones, unless it is refused for what it means.
+    ensures spelled { AcceptedSpellTrees
+        limits.row_numbers (texts schemas.now) (texts modules.now) script.now }
+    ensures one_tree { TextsHaveOneTree }
     ensures refused { IfErr result (RefusedText (texts schemas.now) (texts modules.now) script.now) }
 
     // Behind each item each declared constraint holds, and a call that is not successful changes no table.

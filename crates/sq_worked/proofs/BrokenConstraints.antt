@@ -1,8 +1,9 @@
 -- Constraints that would be broken (23000). Printed by tools/print_runs.py from
 -- sq_cases/data/runs-accepted.txt.
-use Rattle.std.specs.Prelude.{◌≡◌, [], ◌∷◌, ◌++◌, codes, refl}
+use Rattle.std.specs.Prelude.{◌≡◌, [], ◌∷◌, ◌++◌, codes, Ok, refl}
 use Rattle.sq_meaning.specs.Report.{Bytes}
-use Rattle.sq_worked.specs.Answer.{Answer, answered}
+use Rattle.sq_run.specs.Answer.{answered}
+use Rattle.sq_worked.specs.Reported.{reported}
 use Rattle.sq_worked.proofs.Computed.{computed}
 
 -- ---- accepted 71
@@ -104,7 +105,7 @@ accepted_71-script =
     ++ codes "; Table\n"
     ++ codes "U1 . e ; TABLE u2 . g ; table U3 . n ; "
 
-accepted_71 : answered (accepted_71-schema-0 ∷ accepted_71-schema-1 ∷ accepted_71-schema-2 ∷ []) (accepted_71-module-0 ∷ []) accepted_71-script 1000000000 ≡ Answer.reported (
+accepted_71 : reported (answered (accepted_71-schema-0 ∷ accepted_71-schema-1 ∷ accepted_71-schema-2 ∷ []) (accepted_71-module-0 ∷ []) accepted_71-script 1000000000) ≡ Ok (
     codes "M0.CH3 02000 100\n"
     ++ codes "M0.SEL1 02000 100\n"
     ++ codes "M0.SEL0 00000 0 R0=0\n"
@@ -189,7 +190,7 @@ accepted_124-script =
     ++ codes ". -- note 'x' ~\t\n"
     ++ codes "E; "
 
-accepted_124 : answered (accepted_124-schema-0 ∷ accepted_124-schema-1 ∷ []) (accepted_124-module-0 ∷ accepted_124-module-1 ∷ []) accepted_124-script 1000000000 ≡ Answer.reported (
+accepted_124 : reported (answered (accepted_124-schema-0 ∷ accepted_124-schema-1 ∷ []) (accepted_124-module-0 ∷ accepted_124-module-1 ∷ []) accepted_124-script 1000000000) ≡ Ok (
     codes "M0.INS0 00000 0\n"
     ++ codes "M0.INS1 23000 -2300\n"
     ++ codes "M0.INS1 23000 -2300\n"

@@ -1,8 +1,9 @@
 -- Check options that are not met (44000). Printed by tools/print_runs.py from
 -- sq_cases/data/runs-accepted.txt.
-use Rattle.std.specs.Prelude.{◌≡◌, [], ◌∷◌, ◌++◌, codes, refl}
+use Rattle.std.specs.Prelude.{◌≡◌, [], ◌∷◌, ◌++◌, codes, Ok, refl}
 use Rattle.sq_meaning.specs.Report.{Bytes}
-use Rattle.sq_worked.specs.Answer.{Answer, answered}
+use Rattle.sq_run.specs.Answer.{answered}
+use Rattle.sq_worked.specs.Reported.{reported}
 use Rattle.sq_worked.proofs.Computed.{computed}
 
 -- ---- accepted 10
@@ -53,7 +54,7 @@ accepted_10-script =
     ++ codes "TABLE U1.D;\n"
     ++ codes "TABLE U2.H; TABLE U3.G;\n"
 
-accepted_10 : answered (accepted_10-schema-0 ∷ []) (accepted_10-module-0 ∷ []) accepted_10-script 8 ≡ Answer.reported (
+accepted_10 : reported (answered (accepted_10-schema-0 ∷ []) (accepted_10-module-0 ∷ []) accepted_10-script 8) ≡ Ok (
     codes "M0.INS0 44000 -4400\n"
     ++ codes "M0.INS1 00000 0\n"
     ++ codes "M0.INS1 00000 0\n"
@@ -139,7 +140,7 @@ accepted_38-script =
     ++ codes "TABLE U1.G; TABLE U2.N;\n"
     ++ codes "TABLE U3.H; TABLE U3.G; "
 
-accepted_38 : answered (accepted_38-schema-0 ∷ accepted_38-schema-1 ∷ accepted_38-schema-2 ∷ []) (accepted_38-module-0 ∷ []) accepted_38-script 1000000 ≡ Answer.reported (
+accepted_38 : reported (answered (accepted_38-schema-0 ∷ accepted_38-schema-1 ∷ accepted_38-schema-2 ∷ []) (accepted_38-module-0 ∷ []) accepted_38-script 1000000) ≡ Ok (
     codes "M0.INS2 00000 0\n"
     ++ codes "M0.INS2 22001 -2201\n"
     ++ codes "M0.INS0 00000 0\n"

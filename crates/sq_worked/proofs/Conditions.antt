@@ -1,7 +1,8 @@
 -- Search conditions and subqueries. Printed by tools/print_runs.py from sq_cases/data/runs-worked.txt.
-use Rattle.std.specs.Prelude.{◌≡◌, [], ◌∷◌, ◌++◌, codes, refl}
+use Rattle.std.specs.Prelude.{◌≡◌, [], ◌∷◌, ◌++◌, codes, Ok, refl}
 use Rattle.sq_meaning.specs.Report.{Bytes}
-use Rattle.sq_worked.specs.Answer.{Answer, answered}
+use Rattle.sq_run.specs.Answer.{answered}
+use Rattle.sq_worked.specs.Reported.{reported}
 use Rattle.sq_worked.specs.Texts.{schema, first_module, second_module}
 use Rattle.sq_worked.proofs.Computed.{computed}
 
@@ -14,7 +15,7 @@ other_conditions_see_chosen_rows_only-script =
     ++ codes "CALL M1.DDV (5,0);\n"
     ++ codes "TABLE U1.T;\n"
 
-other_conditions_see_chosen_rows_only : answered (schema ∷ []) (first_module ∷ second_module ∷ []) other_conditions_see_chosen_rows_only-script 1000000 ≡ Answer.reported (
+other_conditions_see_chosen_rows_only : reported (answered (schema ∷ []) (first_module ∷ second_module ∷ []) other_conditions_see_chosen_rows_only-script 1000000) ≡ Ok (
     codes "M1.INS 00000 0\n"
     ++ codes "M1.INS 00000 0\n"
     ++ codes "M1.DDV 00000 0\n"
@@ -32,7 +33,7 @@ null_key_tests_every_row-script =
     ++ codes "CALL M1.DDV (5,-1);\n"
     ++ codes "TABLE U1.T;\n"
 
-null_key_tests_every_row : answered (schema ∷ []) (first_module ∷ second_module ∷ []) null_key_tests_every_row-script 1000000 ≡ Answer.reported (
+null_key_tests_every_row : reported (answered (schema ∷ []) (first_module ∷ second_module ∷ []) null_key_tests_every_row-script 1000000) ≡ Ok (
     codes "M1.INS 00000 0\n"
     ++ codes "M1.INS 00000 0\n"
     ++ codes "M1.DDV 22012 -2212\n"
@@ -50,7 +51,7 @@ not_in_a_list_with_null-script =
     ++ codes "CALL M1.INS (2,5,0,'B');\n"
     ++ codes "CALL M1.NIN;\n"
 
-not_in_a_list_with_null : answered (schema ∷ []) (first_module ∷ second_module ∷ []) not_in_a_list_with_null-script 1000000 ≡ Answer.reported (
+not_in_a_list_with_null : reported (answered (schema ∷ []) (first_module ∷ second_module ∷ []) not_in_a_list_with_null-script 1000000) ≡ Ok (
     codes "M1.INS 00000 0\n"
     ++ codes "M1.INS 00000 0\n"
     ++ codes "M1.NIN 02000 100\n")
@@ -76,7 +77,7 @@ not_in_an_empty_subquery-script =
     ++ codes "CALL Q.F (*,*);\n"
     ++ codes "CALL Q.F (*,*);\n"
 
-not_in_an_empty_subquery : answered (schema ∷ []) (first_module ∷ not_in_an_empty_subquery-module-1 ∷ []) not_in_an_empty_subquery-script 1000000 ≡ Answer.reported (
+not_in_an_empty_subquery : reported (answered (schema ∷ []) (first_module ∷ not_in_an_empty_subquery-module-1 ∷ []) not_in_an_empty_subquery-script 1000000) ≡ Ok (
     codes "M1.INS 00000 0\n"
     ++ codes "M1.INS 00000 0\n"
     ++ codes "M1.INS 00000 0\n"
@@ -106,7 +107,7 @@ correlated_exists-script =
     ++ codes "CALL Q.F (*,*);\n"
     ++ codes "CALL Q.F (*,*);\n"
 
-correlated_exists : answered (schema ∷ []) (first_module ∷ correlated_exists-module-1 ∷ []) correlated_exists-script 1000000 ≡ Answer.reported (
+correlated_exists : reported (answered (schema ∷ []) (first_module ∷ correlated_exists-module-1 ∷ []) correlated_exists-script 1000000) ≡ Ok (
     codes "M1.INS 00000 0\n"
     ++ codes "M1.INS 00000 0\n"
     ++ codes "M1.INS 00000 0\n"
@@ -136,7 +137,7 @@ pairs_of_one_table-script =
     ++ codes "CALL Q.F (*,*,*,*);\n"
     ++ codes "CALL Q.F (*,*,*,*);\n"
 
-pairs_of_one_table : answered (schema ∷ []) (first_module ∷ pairs_of_one_table-module-1 ∷ []) pairs_of_one_table-script 1000000 ≡ Answer.reported (
+pairs_of_one_table : reported (answered (schema ∷ []) (first_module ∷ pairs_of_one_table-module-1 ∷ []) pairs_of_one_table-script 1000000) ≡ Ok (
     codes "M1.INS 00000 0\n"
     ++ codes "M1.INS 00000 0\n"
     ++ codes "M1.INS 00000 0\n"

@@ -1,7 +1,8 @@
 -- Cursors in the wrong state (24000). Printed by tools/print_runs.py from sq_cases/data/runs-accepted.txt.
-use Rattle.std.specs.Prelude.{◌≡◌, [], ◌∷◌, ◌++◌, codes, refl}
+use Rattle.std.specs.Prelude.{◌≡◌, [], ◌∷◌, ◌++◌, codes, Ok, refl}
 use Rattle.sq_meaning.specs.Report.{Bytes}
-use Rattle.sq_worked.specs.Answer.{Answer, answered}
+use Rattle.sq_run.specs.Answer.{answered}
+use Rattle.sq_worked.specs.Reported.{reported}
 use Rattle.sq_worked.proofs.Computed.{computed}
 
 -- ---- accepted 149
@@ -46,7 +47,7 @@ accepted_149-script =
     codes "CALL M0.F00 (10); CALL M0.Z01; CALL M0.F00 (3); CALL M0.INS1 (2);\n"
     ++ codes "CALL M0.SEL1 ('!', -5, '_', 2, 'A!%', 2.9, -9999999999999999); TABLE U1.G; TABLE U1.E;\n"
 
-accepted_149 : answered (accepted_149-schema-0 ∷ accepted_149-schema-1 ∷ []) (accepted_149-module-0 ∷ []) accepted_149-script 1000000000 ≡ Answer.reported (
+accepted_149 : reported (answered (accepted_149-schema-0 ∷ accepted_149-schema-1 ∷ []) (accepted_149-module-0 ∷ []) accepted_149-script 1000000000) ≡ Ok (
     codes "M0.F00 24000 -2400\n"
     ++ codes "M0.Z01 24000 -2400\n"
     ++ codes "M0.F00 24000 -2400\n"
@@ -122,7 +123,7 @@ accepted_102-script =
     ++ codes "TABLE U1.G;\n"
     ++ codes "TABLE U1.H; TABLE U2.N; "
 
-accepted_102 : answered (accepted_102-schema-0 ∷ []) (accepted_102-module-0 ∷ []) accepted_102-script 1000000 ≡ Answer.reported (
+accepted_102 : reported (answered (accepted_102-schema-0 ∷ []) (accepted_102-module-0 ∷ []) accepted_102-script 1000000) ≡ Ok (
     codes "M0.INS0 44000 -4400\n"
     ++ codes "M0.INS0 00000 0\n"
     ++ codes "M0.INS0 44000 -4400\n"

@@ -1,7 +1,8 @@
 -- Cursors over rows that change. Printed by tools/print_runs.py from sq_cases/data/runs-worked.txt.
-use Rattle.std.specs.Prelude.{◌≡◌, [], ◌∷◌, ◌++◌, codes, refl}
+use Rattle.std.specs.Prelude.{◌≡◌, [], ◌∷◌, ◌++◌, codes, Ok, refl}
 use Rattle.sq_meaning.specs.Report.{Bytes}
-use Rattle.sq_worked.specs.Answer.{Answer, answered}
+use Rattle.sq_run.specs.Answer.{answered}
+use Rattle.sq_worked.specs.Reported.{reported}
 use Rattle.sq_worked.specs.Texts.{schema, first_module, second_module}
 use Rattle.sq_worked.proofs.Computed.{computed}
 
@@ -23,7 +24,7 @@ changes_below_open_cursors-script =
     ++ codes "CALL M1.FEA (*,*);\n"
     ++ codes "TABLE U1.T;\n"
 
-changes_below_open_cursors : answered (schema ∷ []) (first_module ∷ second_module ∷ []) changes_below_open_cursors-script 1000000 ≡ Answer.reported (
+changes_below_open_cursors : reported (answered (schema ∷ []) (first_module ∷ second_module ∷ []) changes_below_open_cursors-script 1000000) ≡ Ok (
     codes "M1.INS 00000 0\n"
     ++ codes "M1.INS 00000 0\n"
     ++ codes "M1.INS 00000 0\n"
@@ -54,7 +55,7 @@ fetch_after_a_change-script =
     ++ codes "CALL M1.FEA (*,*);\n"
     ++ codes "CALL M1.FEA (*,*);\n"
 
-fetch_after_a_change : answered (schema ∷ []) (first_module ∷ second_module ∷ []) fetch_after_a_change-script 1000000 ≡ Answer.reported (
+fetch_after_a_change : reported (answered (schema ∷ []) (first_module ∷ second_module ∷ []) fetch_after_a_change-script 1000000) ≡ Ok (
     codes "M1.INS 00000 0\n"
     ++ codes "M1.INS 00000 0\n"
     ++ codes "M1.OPA 00000 0\n"
@@ -77,7 +78,7 @@ rows_are_fixed_at_open-script =
     ++ codes "CALL M1.FEA (*,*);\n"
     ++ codes "CALL M1.FEA (*,*);\n"
 
-rows_are_fixed_at_open : answered (schema ∷ []) (first_module ∷ second_module ∷ []) rows_are_fixed_at_open-script 1000000 ≡ Answer.reported (
+rows_are_fixed_at_open : reported (answered (schema ∷ []) (first_module ∷ second_module ∷ []) rows_are_fixed_at_open-script 1000000) ≡ Ok (
     codes "M1.INS 00000 0\n"
     ++ codes "M1.INS 00000 0\n"
     ++ codes "M1.OPA 00000 0\n"
@@ -104,7 +105,7 @@ walking_cursor_under_changes-script =
     ++ codes "CALL M1.FEA (*,*);\n"
     ++ codes "CALL M1.FEA (*,*);\n"
 
-walking_cursor_under_changes : answered (schema ∷ []) (first_module ∷ second_module ∷ []) walking_cursor_under_changes-script 1000000 ≡ Answer.reported (
+walking_cursor_under_changes : reported (answered (schema ∷ []) (first_module ∷ second_module ∷ []) walking_cursor_under_changes-script 1000000) ≡ Ok (
     codes "M1.INS 00000 0\n"
     ++ codes "M1.INS 00000 0\n"
     ++ codes "M1.INS 00000 0\n"

@@ -1,7 +1,8 @@
 -- Texts cut at retrieving (01004). Printed by tools/print_runs.py from sq_cases/data/runs-accepted.txt.
-use Rattle.std.specs.Prelude.{◌≡◌, [], ◌∷◌, ◌++◌, codes, refl}
+use Rattle.std.specs.Prelude.{◌≡◌, [], ◌∷◌, ◌++◌, codes, Ok, refl}
 use Rattle.sq_meaning.specs.Report.{Bytes}
-use Rattle.sq_worked.specs.Answer.{Answer, answered}
+use Rattle.sq_run.specs.Answer.{answered}
+use Rattle.sq_worked.specs.Reported.{reported}
 use Rattle.sq_worked.proofs.Computed.{computed}
 
 -- ---- accepted 69
@@ -94,7 +95,7 @@ accepted_69-script =
     ++ codes "TABLE U1 . G  ; TABLE U2\n"
     ++ codes ". N; "
 
-accepted_69 : answered (accepted_69-schema-0 ∷ accepted_69-schema-1 ∷ []) (accepted_69-module-0 ∷ []) accepted_69-script 1 ≡ Answer.reported (
+accepted_69 : reported (answered (accepted_69-schema-0 ∷ accepted_69-schema-1 ∷ []) (accepted_69-module-0 ∷ []) accepted_69-script 1) ≡ Ok (
     codes "M0.INS2 00000 0\n"
     ++ codes "M0.INS2 S1L00 -9001\n"
     ++ codes "M0.INS2 S1L00 -9001\n"
@@ -213,7 +214,7 @@ accepted_6-script =
     ++ codes "CALL M1.F01 ('B', 3, 3, 2); CALL M1.CH0 (' '); CALL M1.INS0 (*, 'it''s', 2);\n"
     ++ codes "TABLE U1.D;\n"
 
-accepted_6 : answered (accepted_6-schema-0 ∷ []) (accepted_6-module-0 ∷ accepted_6-module-1 ∷ []) accepted_6-script 5 ≡ Answer.reported (
+accepted_6 : reported (answered (accepted_6-schema-0 ∷ []) (accepted_6-module-0 ∷ accepted_6-module-1 ∷ []) accepted_6-script 5) ≡ Ok (
     codes "M0.INS0 00000 0\n"
     ++ codes "M1.INS0 00000 0\n"
     ++ codes "M1.O0 00000 0\n"

@@ -1,7 +1,8 @@
 -- Statements that are done (00000). Printed by tools/print_runs.py from sq_cases/data/runs-accepted.txt.
-use Rattle.std.specs.Prelude.{◌≡◌, [], ◌∷◌, ◌++◌, codes, refl}
+use Rattle.std.specs.Prelude.{◌≡◌, [], ◌∷◌, ◌++◌, codes, Ok, refl}
 use Rattle.sq_meaning.specs.Report.{Bytes}
-use Rattle.sq_worked.specs.Answer.{Answer, answered}
+use Rattle.sq_run.specs.Answer.{answered}
+use Rattle.sq_worked.specs.Reported.{reported}
 use Rattle.sq_worked.proofs.Computed.{computed}
 
 -- ---- accepted 72
@@ -47,7 +48,7 @@ accepted_72-script =
     ++ codes ", 3,\r\n"
     ++ codes "7) ; call  M0 . O0 () ; Table U1 . T; "
 
-accepted_72 : answered (accepted_72-schema-0 ∷ []) (accepted_72-module-0 ∷ []) accepted_72-script 5 ≡ Answer.reported (
+accepted_72 : reported (answered (accepted_72-schema-0 ∷ []) (accepted_72-module-0 ∷ []) accepted_72-script 5) ≡ Ok (
     codes "M0.INS2 00000 0\n"
     ++ codes "M0.INS1 00000 0\n"
     ++ codes "M0.INS2 00000 0\n"
@@ -143,7 +144,7 @@ accepted_12-script =
     ++ codes "ins1(\n"
     ++ codes "3 )\t;  call  m2 .\tins1  ( 2 )\t;\tTABLE u1 .  e ; Table U1 . N;\r\n"
 
-accepted_12 : answered (accepted_12-schema-0 ∷ []) (accepted_12-module-0 ∷ accepted_12-module-1 ∷ accepted_12-module-2 ∷ []) accepted_12-script 3 ≡ Answer.reported (
+accepted_12 : reported (answered (accepted_12-schema-0 ∷ []) (accepted_12-module-0 ∷ accepted_12-module-1 ∷ accepted_12-module-2 ∷ []) accepted_12-script 3) ≡ Ok (
     codes "M1.INS0 00000 0\n"
     ++ codes "M1.INS1 00000 0\n"
     ++ codes "M1.INS0 00000 0\n"

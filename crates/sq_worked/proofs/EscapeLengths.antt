@@ -1,8 +1,9 @@
 -- Escapes that are not of length 1 (22019). Printed by tools/print_runs.py from
 -- sq_cases/data/runs-accepted.txt.
-use Rattle.std.specs.Prelude.{◌≡◌, [], ◌∷◌, ◌++◌, codes, refl}
+use Rattle.std.specs.Prelude.{◌≡◌, [], ◌∷◌, ◌++◌, codes, Ok, refl}
 use Rattle.sq_meaning.specs.Report.{Bytes}
-use Rattle.sq_worked.specs.Answer.{Answer, answered}
+use Rattle.sq_run.specs.Answer.{answered}
+use Rattle.sq_worked.specs.Reported.{reported}
 use Rattle.sq_worked.proofs.Computed.{computed}
 
 -- ---- accepted 153
@@ -125,7 +126,7 @@ accepted_153-script =
     ++ codes "CALL M0.L0; CALL M0.Z00; TABLE U1.E; TABLE U1.T;\n"
     ++ codes "TABLE U1.H; TABLE U2.H; "
 
-accepted_153 : answered (accepted_153-schema-0 ∷ accepted_153-schema-1 ∷ []) (accepted_153-module-0 ∷ []) accepted_153-script 1000000 ≡ Answer.reported (
+accepted_153 : reported (answered (accepted_153-schema-0 ∷ accepted_153-schema-1 ∷ []) (accepted_153-module-0 ∷ []) accepted_153-script 1000000) ≡ Ok (
     codes "M0.INS0 00000 0\n"
     ++ codes "M0.INS0 00000 0\n"
     ++ codes "M0.INS2 00000 0\n"
@@ -305,7 +306,7 @@ accepted_28-script =
     ++ codes "g;\r\n"
     ++ codes "Table u2 . N;  Table U2 . G ; "
 
-accepted_28 : answered (accepted_28-schema-0 ∷ []) (accepted_28-module-0 ∷ []) accepted_28-script 1000000 ≡ Answer.reported (
+accepted_28 : reported (answered (accepted_28-schema-0 ∷ []) (accepted_28-module-0 ∷ []) accepted_28-script 1000000) ≡ Ok (
     codes "M0.INS2 00000 0\n"
     ++ codes "M0.INS1 00000 0\n"
     ++ codes "TABLE U1.E 0\n"

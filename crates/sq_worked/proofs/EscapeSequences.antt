@@ -1,7 +1,8 @@
 -- Escape sequences (22025). Printed by tools/print_runs.py from sq_cases/data/runs-accepted.txt.
-use Rattle.std.specs.Prelude.{◌≡◌, [], ◌∷◌, ◌++◌, codes, refl}
+use Rattle.std.specs.Prelude.{◌≡◌, [], ◌∷◌, ◌++◌, codes, Ok, refl}
 use Rattle.sq_meaning.specs.Report.{Bytes}
-use Rattle.sq_worked.specs.Answer.{Answer, answered}
+use Rattle.sq_run.specs.Answer.{answered}
+use Rattle.sq_worked.specs.Reported.{reported}
 use Rattle.sq_worked.proofs.Computed.{computed}
 
 -- ---- accepted 147
@@ -100,7 +101,7 @@ accepted_147-script =
     ++ codes "CALL M0.F00 ('_%', 2147483647); CALL M0.CMT;\n"
     ++ codes "CALL M0.O1 (2); CALL M0.F11 ('!A', 2); TABLE U1.N; TABLE U1.D; TABLE U1.H;\n"
 
-accepted_147 : answered (accepted_147-schema-0 ∷ []) (accepted_147-module-0 ∷ []) accepted_147-script 1000000 ≡ Answer.reported (
+accepted_147 : reported (answered (accepted_147-schema-0 ∷ []) (accepted_147-module-0 ∷ []) accepted_147-script 1000000) ≡ Ok (
     codes "M0.INS3 00000 0\n"
     ++ codes "TABLE U1.N 1\n"
     ++ codes "  'A'\n"
@@ -295,7 +296,7 @@ accepted_60-script =
     ++ codes "D\n"
     ++ codes ";\ttable u2  . n; "
 
-accepted_60 : answered (accepted_60-schema-0 ∷ accepted_60-schema-1 ∷ []) (accepted_60-module-0 ∷ []) accepted_60-script 1000000 ≡ Answer.reported (
+accepted_60 : reported (answered (accepted_60-schema-0 ∷ accepted_60-schema-1 ∷ []) (accepted_60-module-0 ∷ []) accepted_60-script 1000000) ≡ Ok (
     codes "M0.INS1 22003 -2203\n"
     ++ codes "M0.INS1 23000 -2300\n"
     ++ codes "M0.INS2 00000 0\n"

@@ -1,7 +1,8 @@
 -- Statements that are not well formed. Printed by tools/print_runs.py from sq_cases/data/runs-worked.txt.
-use Rattle.std.specs.Prelude.{◌≡◌, [], ◌∷◌, ◌++◌, codes, refl}
+use Rattle.std.specs.Prelude.{◌≡◌, [], ◌∷◌, ◌++◌, codes, Ok, refl}
 use Rattle.sq_meaning.specs.Report.{Bytes}
-use Rattle.sq_worked.specs.Answer.{Answer, answered}
+use Rattle.sq_run.specs.Answer.{answered}
+use Rattle.sq_worked.specs.Reported.{reported}
 use Rattle.sq_worked.specs.Texts.{schema}
 use Rattle.sq_worked.proofs.Computed.{computed}
 
@@ -17,7 +18,7 @@ abbrev unknown_table-script : Bytes
 unknown_table-script =
     codes "CALL B.P;"
 
-unknown_table : answered (schema ∷ []) (unknown_table-module-0 ∷ []) unknown_table-script 1000000 ≡ Answer.reported (
+unknown_table : reported (answered (schema ∷ []) (unknown_table-module-0 ∷ []) unknown_table-script 1000000) ≡ Ok (
     codes "B.P 42000 -4200\n")
 unfolding computed
 unknown_table = refl
@@ -34,7 +35,7 @@ abbrev unknown_column-script : Bytes
 unknown_column-script =
     codes "CALL B.P;"
 
-unknown_column : answered (schema ∷ []) (unknown_column-module-0 ∷ []) unknown_column-script 1000000 ≡ Answer.reported (
+unknown_column : reported (answered (schema ∷ []) (unknown_column-module-0 ∷ []) unknown_column-script 1000000) ≡ Ok (
     codes "B.P 42000 -4200\n")
 unfolding computed
 unknown_column = refl
@@ -51,7 +52,7 @@ abbrev one_table_twice_in_from-script : Bytes
 one_table_twice_in_from-script =
     codes "CALL B.P;"
 
-one_table_twice_in_from : answered (schema ∷ []) (one_table_twice_in_from-module-0 ∷ []) one_table_twice_in_from-script 1000000 ≡ Answer.reported (
+one_table_twice_in_from : reported (answered (schema ∷ []) (one_table_twice_in_from-module-0 ∷ []) one_table_twice_in_from-script 1000000) ≡ Ok (
     codes "B.P 42000 -4200\n")
 unfolding computed
 one_table_twice_in_from = refl
@@ -68,7 +69,7 @@ abbrev text_against_number-script : Bytes
 text_against_number-script =
     codes "CALL B.P;"
 
-text_against_number : answered (schema ∷ []) (text_against_number-module-0 ∷ []) text_against_number-script 1000000 ≡ Answer.reported (
+text_against_number : reported (answered (schema ∷ []) (text_against_number-module-0 ∷ []) text_against_number-script 1000000) ≡ Ok (
     codes "B.P 42000 -4200\n")
 unfolding computed
 text_against_number = refl
@@ -85,7 +86,7 @@ abbrev scale_above_18-script : Bytes
 scale_above_18-script =
     codes "CALL B.P;"
 
-scale_above_18 : answered (schema ∷ []) (scale_above_18-module-0 ∷ []) scale_above_18-script 1000000 ≡ Answer.reported (
+scale_above_18 : reported (answered (schema ∷ []) (scale_above_18-module-0 ∷ []) scale_above_18-script 1000000) ≡ Ok (
     codes "B.P 42000 -4200\n")
 unfolding computed
 scale_above_18 = refl
@@ -102,7 +103,7 @@ abbrev set_function_in_where-script : Bytes
 set_function_in_where-script =
     codes "CALL B.P;"
 
-set_function_in_where : answered (schema ∷ []) (set_function_in_where-module-0 ∷ []) set_function_in_where-script 1000000 ≡ Answer.reported (
+set_function_in_where : reported (answered (schema ∷ []) (set_function_in_where-module-0 ∷ []) set_function_in_where-script 1000000) ≡ Ok (
     codes "B.P 42000 -4200\n")
 unfolding computed
 set_function_in_where = refl
@@ -119,7 +120,7 @@ abbrev too_few_values-script : Bytes
 too_few_values-script =
     codes "CALL B.P;"
 
-too_few_values : answered (schema ∷ []) (too_few_values-module-0 ∷ []) too_few_values-script 1000000 ≡ Answer.reported (
+too_few_values : reported (answered (schema ∷ []) (too_few_values-module-0 ∷ []) too_few_values-script 1000000) ≡ Ok (
     codes "B.P 42000 -4200\n")
 unfolding computed
 too_few_values = refl
@@ -136,7 +137,7 @@ abbrev unknown_parameter-script : Bytes
 unknown_parameter-script =
     codes "CALL B.P;"
 
-unknown_parameter : answered (schema ∷ []) (unknown_parameter-module-0 ∷ []) unknown_parameter-script 1000000 ≡ Answer.reported (
+unknown_parameter : reported (answered (schema ∷ []) (unknown_parameter-module-0 ∷ []) unknown_parameter-script 1000000) ≡ Ok (
     codes "B.P 42000 -4200\n")
 unfolding computed
 unknown_parameter = refl
@@ -153,7 +154,7 @@ abbrev column_set_twice-script : Bytes
 column_set_twice-script =
     codes "CALL B.P;"
 
-column_set_twice : answered (schema ∷ []) (column_set_twice-module-0 ∷ []) column_set_twice-script 1000000 ≡ Answer.reported (
+column_set_twice : reported (answered (schema ∷ []) (column_set_twice-module-0 ∷ []) column_set_twice-script 1000000) ≡ Ok (
     codes "B.P 42000 -4200\n")
 unfolding computed
 column_set_twice = refl
@@ -170,7 +171,7 @@ abbrev column_outside_of_groups-script : Bytes
 column_outside_of_groups-script =
     codes "CALL B.P (*,*);"
 
-column_outside_of_groups : answered (schema ∷ []) (column_outside_of_groups-module-0 ∷ []) column_outside_of_groups-script 1000000 ≡ Answer.reported (
+column_outside_of_groups : reported (answered (schema ∷ []) (column_outside_of_groups-module-0 ∷ []) column_outside_of_groups-script 1000000) ≡ Ok (
     codes "B.P 42000 -4200\n")
 unfolding computed
 column_outside_of_groups = refl

@@ -1,8 +1,9 @@
 -- Calls that are not well formed (42000). Printed by tools/print_runs.py from
 -- sq_cases/data/runs-accepted.txt.
-use Rattle.std.specs.Prelude.{◌≡◌, [], ◌∷◌, ◌++◌, codes, refl}
+use Rattle.std.specs.Prelude.{◌≡◌, [], ◌∷◌, ◌++◌, codes, Ok, refl}
 use Rattle.sq_meaning.specs.Report.{Bytes}
-use Rattle.sq_worked.specs.Answer.{Answer, answered}
+use Rattle.sq_run.specs.Answer.{answered}
+use Rattle.sq_worked.specs.Reported.{reported}
 use Rattle.sq_worked.proofs.Computed.{computed}
 
 -- ---- accepted 82
@@ -114,7 +115,7 @@ accepted_82-script =
     ++ codes "TABLE U1.D;\n"
     ++ codes "TABLE U1.T;\n"
 
-accepted_82 : answered (accepted_82-schema-0 ∷ accepted_82-schema-1 ∷ []) (accepted_82-module-0 ∷ accepted_82-module-1 ∷ []) accepted_82-script 1000000 ≡ Answer.reported (
+accepted_82 : reported (answered (accepted_82-schema-0 ∷ accepted_82-schema-1 ∷ []) (accepted_82-module-0 ∷ accepted_82-module-1 ∷ []) accepted_82-script 1000000) ≡ Ok (
     codes "M0.INS0 00000 0\n"
     ++ codes "M0.INS0 00000 0\n"
     ++ codes "M0.INS0 00000 0\n"
@@ -331,7 +332,7 @@ accepted_85-script =
     ++ codes "U1  . -- note 'x' ~\t\n"
     ++ codes "E; TABLE U2 . D ;\t"
 
-accepted_85 : answered (accepted_85-schema-0 ∷ accepted_85-schema-1 ∷ []) (accepted_85-module-0 ∷ accepted_85-module-1 ∷ accepted_85-module-2 ∷ []) accepted_85-script 1000000 ≡ Answer.reported (
+accepted_85 : reported (answered (accepted_85-schema-0 ∷ accepted_85-schema-1 ∷ []) (accepted_85-module-0 ∷ accepted_85-module-1 ∷ accepted_85-module-2 ∷ []) accepted_85-script 1000000) ≡ Ok (
     codes "M0.INS2 23000 -2300\n"
     ++ codes "M2.INS0 00000 0\n"
     ++ codes "M0.INS0 23000 -2300\n"

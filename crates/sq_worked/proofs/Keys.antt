@@ -1,7 +1,8 @@
 -- Keys and references. Printed by tools/print_runs.py from sq_cases/data/runs-worked.txt.
-use Rattle.std.specs.Prelude.{◌≡◌, [], ◌∷◌, ◌++◌, codes, refl}
+use Rattle.std.specs.Prelude.{◌≡◌, [], ◌∷◌, ◌++◌, codes, Ok, refl}
 use Rattle.sq_meaning.specs.Report.{Bytes}
-use Rattle.sq_worked.specs.Answer.{Answer, answered}
+use Rattle.sq_run.specs.Answer.{answered}
+use Rattle.sq_worked.specs.Reported.{reported}
 use Rattle.sq_worked.specs.Texts.{schema, first_module, second_module}
 use Rattle.sq_worked.proofs.Computed.{computed}
 
@@ -15,7 +16,7 @@ keys_move_together-script =
     ++ codes "CALL M1.SHK;\n"
     ++ codes "TABLE U1.T;\n"
 
-keys_move_together : answered (schema ∷ []) (first_module ∷ second_module ∷ []) keys_move_together-script 1000000 ≡ Answer.reported (
+keys_move_together : reported (answered (schema ∷ []) (first_module ∷ second_module ∷ []) keys_move_together-script 1000000) ≡ Ok (
     codes "M1.INS 00000 0\n"
     ++ codes "M1.INS 00000 0\n"
     ++ codes "M1.INS 00000 0\n"
@@ -41,7 +42,7 @@ no_row_of_a_refused_copy-script =
     ++ codes "CALL M1.INS (3,0,0,'A');\n"
     ++ codes "CALL M1.INS (4,0,0,'A');\n"
 
-no_row_of_a_refused_copy : answered (schema ∷ []) (first_module ∷ second_module ∷ []) no_row_of_a_refused_copy-script 3 ≡ Answer.reported (
+no_row_of_a_refused_copy : reported (answered (schema ∷ []) (first_module ∷ second_module ∷ []) no_row_of_a_refused_copy-script 3) ≡ Ok (
     codes "M1.INN 00000 0\n"
     ++ codes "M1.INN 00000 0\n"
     ++ codes "M1.INN 00000 0\n"
@@ -72,7 +73,7 @@ abbrev equal_keys_of_other_spelling-script : Bytes
 equal_keys_of_other_spelling-script =
     codes "CALL M.ONE; CALL M.E; CALL M.G; CALL M.H; TABLE U.G;"
 
-equal_keys_of_other_spelling : answered (equal_keys_of_other_spelling-schema-0 ∷ []) (equal_keys_of_other_spelling-module-0 ∷ []) equal_keys_of_other_spelling-script 1000000 ≡ Answer.reported (
+equal_keys_of_other_spelling : reported (answered (equal_keys_of_other_spelling-schema-0 ∷ []) (equal_keys_of_other_spelling-module-0 ∷ []) equal_keys_of_other_spelling-script 1000000) ≡ Ok (
     codes "M.ONE 00000 0\n"
     ++ codes "M.E 00000 0\n"
     ++ codes "M.G 00000 0\n"
@@ -98,7 +99,7 @@ abbrev key_of_two_columns-script : Bytes
 key_of_two_columns-script =
     codes "CALL M.I (1, 'X', 3); CALL M.I (1, 'Y', 3); CALL M.D; TABLE U.E;"
 
-key_of_two_columns : answered (key_of_two_columns-schema-0 ∷ []) (key_of_two_columns-module-0 ∷ []) key_of_two_columns-script 1000000 ≡ Answer.reported (
+key_of_two_columns : reported (answered (key_of_two_columns-schema-0 ∷ []) (key_of_two_columns-module-0 ∷ []) key_of_two_columns-script 1000000) ≡ Ok (
     codes "M.I 00000 0\n"
     ++ codes "M.I 00000 0\n"
     ++ codes "M.D 00000 0\n"
@@ -117,7 +118,7 @@ keyed_statements-script =
     ++ codes "TABLE U1.T;\n"
     ++ codes "CALL M1.UPA (9,0);\n"
 
-keyed_statements : answered (schema ∷ []) (first_module ∷ second_module ∷ []) keyed_statements-script 1000000 ≡ Answer.reported (
+keyed_statements : reported (answered (schema ∷ []) (first_module ∷ second_module ∷ []) keyed_statements-script 1000000) ≡ Ok (
     codes "M1.INS 00000 0\n"
     ++ codes "M1.INS 00000 0\n"
     ++ codes "M1.DDV 00000 0\n"
@@ -141,7 +142,7 @@ references-script =
     ++ codes "CALL M1.DPB;\n"
     ++ codes "TABLE U1.F;\n"
 
-references : answered (schema ∷ []) (first_module ∷ second_module ∷ []) references-script 1000000 ≡ Answer.reported (
+references : reported (answered (schema ∷ []) (first_module ∷ second_module ∷ []) references-script 1000000) ≡ Ok (
     codes "M1.INF 23000 -2300\n"
     ++ codes "M1.INF 00000 0\n"
     ++ codes "M1.INFN 00000 0\n"

@@ -1,7 +1,8 @@
 -- Texts too long to be stored (22001). Printed by tools/print_runs.py from sq_cases/data/runs-accepted.txt.
-use Rattle.std.specs.Prelude.{◌≡◌, [], ◌∷◌, ◌++◌, codes, refl}
+use Rattle.std.specs.Prelude.{◌≡◌, [], ◌∷◌, ◌++◌, codes, Ok, refl}
 use Rattle.sq_meaning.specs.Report.{Bytes}
-use Rattle.sq_worked.specs.Answer.{Answer, answered}
+use Rattle.sq_run.specs.Answer.{answered}
+use Rattle.sq_worked.specs.Reported.{reported}
 use Rattle.sq_worked.proofs.Computed.{computed}
 
 -- ---- accepted 84
@@ -99,7 +100,7 @@ accepted_84-script =
     ++ codes ". T\r\n"
     ++ codes "; "
 
-accepted_84 : answered (accepted_84-schema-0 ∷ accepted_84-schema-1 ∷ []) (accepted_84-module-0 ∷ []) accepted_84-script 1000000 ≡ Answer.reported (
+accepted_84 : reported (answered (accepted_84-schema-0 ∷ accepted_84-schema-1 ∷ []) (accepted_84-module-0 ∷ []) accepted_84-script 1000000) ≡ Ok (
     codes "M0.INS0 00000 0\n"
     ++ codes "M0.INS0 00000 0\n"
     ++ codes "M0.INS1 00000 0\n"
@@ -251,7 +252,7 @@ accepted_148-script =
     ++ codes "CALL M1.INS0 ('A '); CALL M1.INS0 (*);\n"
     ++ codes "CALL M1.INS0 ('!'); TABLE U1.D;\n"
 
-accepted_148 : answered (accepted_148-schema-0 ∷ []) (accepted_148-module-0 ∷ accepted_148-module-1 ∷ accepted_148-module-2 ∷ []) accepted_148-script 1000000 ≡ Answer.reported (
+accepted_148 : reported (answered (accepted_148-schema-0 ∷ []) (accepted_148-module-0 ∷ accepted_148-module-1 ∷ accepted_148-module-2 ∷ []) accepted_148-script 1000000) ≡ Ok (
     codes "M0.INS0 00000 0\n"
     ++ codes "M0.INS0 22001 -2201\n"
     ++ codes "M1.INS0 00000 0\n"

@@ -1,7 +1,8 @@
 -- No row (02000). Printed by tools/print_runs.py from sq_cases/data/runs-accepted.txt.
-use Rattle.std.specs.Prelude.{◌≡◌, [], ◌∷◌, ◌++◌, codes, refl}
+use Rattle.std.specs.Prelude.{◌≡◌, [], ◌∷◌, ◌++◌, codes, Ok, refl}
 use Rattle.sq_meaning.specs.Report.{Bytes}
-use Rattle.sq_worked.specs.Answer.{Answer, answered}
+use Rattle.sq_run.specs.Answer.{answered}
+use Rattle.sq_worked.specs.Reported.{reported}
 use Rattle.sq_worked.proofs.Computed.{computed}
 
 -- ---- accepted 79
@@ -91,7 +92,7 @@ accepted_79-script =
     ++ codes "CALL M0.CH0 (); TABLE U1.H;\n"
     ++ codes "TABLE U1.T; TABLE U3.T; "
 
-accepted_79 : answered (accepted_79-schema-0 ∷ []) (accepted_79-module-0 ∷ []) accepted_79-script 1000000 ≡ Answer.reported (
+accepted_79 : reported (answered (accepted_79-schema-0 ∷ []) (accepted_79-module-0 ∷ []) accepted_79-script 1000000) ≡ Ok (
     codes "M0.INS2 00000 0\n"
     ++ codes "TABLE U3.T 1\n"
     ++ codes "  '     '\n"
@@ -300,7 +301,7 @@ accepted_57-script =
     ++ codes ", 3 , '!A') ;\n"
     ++ codes "TABLE u1 . H\t; Table u1 . n; Table u2 . E; "
 
-accepted_57 : answered (accepted_57-schema-0 ∷ []) (accepted_57-module-0 ∷ []) accepted_57-script 1000000000 ≡ Answer.reported (
+accepted_57 : reported (answered (accepted_57-schema-0 ∷ []) (accepted_57-module-0 ∷ []) accepted_57-script 1000000000) ≡ Ok (
     codes "M0.INS2 22001 -2201\n"
     ++ codes "TABLE U2.E 0\n"
     ++ codes "M0.INS0 00000 0\n"

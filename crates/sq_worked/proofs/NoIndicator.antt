@@ -1,7 +1,8 @@
 -- Null without an indicator (22002). Printed by tools/print_runs.py from sq_cases/data/runs-accepted.txt.
-use Rattle.std.specs.Prelude.{◌≡◌, [], ◌∷◌, ◌++◌, codes, refl}
+use Rattle.std.specs.Prelude.{◌≡◌, [], ◌∷◌, ◌++◌, codes, Ok, refl}
 use Rattle.sq_meaning.specs.Report.{Bytes}
-use Rattle.sq_worked.specs.Answer.{Answer, answered}
+use Rattle.sq_run.specs.Answer.{answered}
+use Rattle.sq_worked.specs.Reported.{reported}
 use Rattle.sq_worked.proofs.Computed.{computed}
 
 -- ---- accepted 49
@@ -125,7 +126,7 @@ accepted_49-script =
     ++ codes "TABLE U1.G;\n"
     ++ codes "TABLE U1.D; TABLE U2.T;\n"
 
-accepted_49 : answered (accepted_49-schema-0 ∷ []) (accepted_49-module-0 ∷ []) accepted_49-script 3 ≡ Answer.reported (
+accepted_49 : reported (answered (accepted_49-schema-0 ∷ []) (accepted_49-module-0 ∷ []) accepted_49-script 3) ≡ Ok (
     codes "M0.INS1 44000 -4400\n"
     ++ codes "M0.INS0 23000 -2300\n"
     ++ codes "M0.INS1 22003 -2203\n"
@@ -230,7 +231,7 @@ accepted_98-script =
     ++ codes "CALL M0.CH3 (); CALL M0.INS0 ('A_'); CALL M0.INS2 ('U1', 'A!%', 3, 'AB'); TABLE U1.T;\n"
     ++ codes "TABLE U2.E;\n"
 
-accepted_98 : answered (accepted_98-schema-0 ∷ []) (accepted_98-module-0 ∷ []) accepted_98-script 1000000 ≡ Answer.reported (
+accepted_98 : reported (answered (accepted_98-schema-0 ∷ []) (accepted_98-module-0 ∷ []) accepted_98-script 1000000) ≡ Ok (
     codes "M0.INS2 00000 0\n"
     ++ codes "TABLE U2.E 0\n"
     ++ codes "M0.RBK 00000 0\n"

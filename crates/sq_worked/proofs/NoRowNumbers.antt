@@ -1,7 +1,8 @@
 -- No row number is left (S1L00). Printed by tools/print_runs.py from sq_cases/data/runs-accepted.txt.
-use Rattle.std.specs.Prelude.{◌≡◌, [], ◌∷◌, ◌++◌, codes, refl}
+use Rattle.std.specs.Prelude.{◌≡◌, [], ◌∷◌, ◌++◌, codes, Ok, refl}
 use Rattle.sq_meaning.specs.Report.{Bytes}
-use Rattle.sq_worked.specs.Answer.{Answer, answered}
+use Rattle.sq_run.specs.Answer.{answered}
+use Rattle.sq_worked.specs.Reported.{reported}
 use Rattle.sq_worked.proofs.Computed.{computed}
 
 -- ---- accepted 141
@@ -64,7 +65,7 @@ accepted_141-script =
     ++ codes "CALL M0.F00 (-5);\n"
     ++ codes "TABLE U1.D; TABLE U1.T; TABLE U2.E; TABLE U2.T; "
 
-accepted_141 : answered (accepted_141-schema-0 ∷ []) (accepted_141-module-0 ∷ []) accepted_141-script 1 ≡ Answer.reported (
+accepted_141 : reported (answered (accepted_141-schema-0 ∷ []) (accepted_141-module-0 ∷ []) accepted_141-script 1) ≡ Ok (
     codes "M0.INS0 00000 0\n"
     ++ codes "M0.INS0 S1L00 -9001\n"
     ++ codes "M0.INS1 22003 -2203\n"
@@ -190,7 +191,7 @@ accepted_58-script =
     ++ codes "TABLE U1.H;\n"
     ++ codes "TABLE U2.T; TABLE U2.N; TABLE U4.D; "
 
-accepted_58 : answered (accepted_58-schema-0 ∷ accepted_58-schema-1 ∷ []) (accepted_58-module-0 ∷ []) accepted_58-script 1 ≡ Answer.reported (
+accepted_58 : reported (answered (accepted_58-schema-0 ∷ accepted_58-schema-1 ∷ []) (accepted_58-module-0 ∷ []) accepted_58-script 1) ≡ Ok (
     codes "M0.INS2 00000 0\n"
     ++ codes "M0.INS3 00000 0\n"
     ++ codes "M0.INS3 S1L00 -9001\n"

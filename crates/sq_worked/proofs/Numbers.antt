@@ -1,7 +1,8 @@
 -- Numbers at their limits, and arithmetic. Printed by tools/print_runs.py from sq_cases/data/runs-worked.txt.
-use Rattle.std.specs.Prelude.{◌≡◌, [], ◌∷◌, ◌++◌, codes, refl}
+use Rattle.std.specs.Prelude.{◌≡◌, [], ◌∷◌, ◌++◌, codes, Ok, refl}
 use Rattle.sq_meaning.specs.Report.{Bytes}
-use Rattle.sq_worked.specs.Answer.{Answer, answered}
+use Rattle.sq_run.specs.Answer.{answered}
+use Rattle.sq_worked.specs.Reported.{reported}
 use Rattle.sq_worked.specs.Texts.{schema, first_module, second_module}
 use Rattle.sq_worked.proofs.Computed.{computed}
 
@@ -14,7 +15,7 @@ numbers_out_of_range-script =
     ++ codes "CALL M1.UPN;\n"
     ++ codes "CALL M1.QUO (*,*,*);\n"
 
-numbers_out_of_range : answered (schema ∷ []) (first_module ∷ second_module ∷ []) numbers_out_of_range-script 1000000 ≡ Answer.reported (
+numbers_out_of_range : reported (answered (schema ∷ []) (first_module ∷ second_module ∷ []) numbers_out_of_range-script 1000000) ≡ Ok (
     codes "M1.INN 00000 0\n"
     ++ codes "M1.PLUS 22003 -2203\n"
     ++ codes "M1.UPN 22003 -2203\n"
@@ -29,7 +30,7 @@ integer_out_of_range-script =
     codes "CALL M1.INN (2147483648,0);\n"
     ++ codes "CALL M1.UPN;\n"
 
-integer_out_of_range : answered (schema ∷ []) (first_module ∷ second_module ∷ []) integer_out_of_range-script 1000000 ≡ Answer.reported (
+integer_out_of_range : reported (answered (schema ∷ []) (first_module ∷ second_module ∷ []) integer_out_of_range-script 1000000) ≡ Ok (
     codes "M1.INN 00000 0\n"
     ++ codes "M1.UPN 22003 -2203\n")
 unfolding computed
@@ -43,7 +44,7 @@ integer_at_its_limit-script =
     ++ codes "CALL M1.UPN;\n"
     ++ codes "TABLE U1.N;\n"
 
-integer_at_its_limit : answered (schema ∷ []) (first_module ∷ second_module ∷ []) integer_at_its_limit-script 1000000 ≡ Answer.reported (
+integer_at_its_limit : reported (answered (schema ∷ []) (first_module ∷ second_module ∷ []) integer_at_its_limit-script 1000000) ≡ Ok (
     codes "M1.INN 00000 0\n"
     ++ codes "M1.UPN 00000 0\n"
     ++ codes "TABLE U1.N 1\n"
@@ -67,7 +68,7 @@ abbrev literals_keep_their_scale-script : Bytes
 literals_keep_their_scale-script =
     codes "CALL M.ONE; CALL M.P (*,*,*);"
 
-literals_keep_their_scale : answered (literals_keep_their_scale-schema-0 ∷ []) (literals_keep_their_scale-module-0 ∷ []) literals_keep_their_scale-script 1000000 ≡ Answer.reported (
+literals_keep_their_scale : reported (answered (literals_keep_their_scale-schema-0 ∷ []) (literals_keep_their_scale-module-0 ∷ []) literals_keep_their_scale-script 1000000) ≡ Ok (
     codes "M.ONE 00000 0\n"
     ++ codes "M.P 00000 0 A=0.50 B=0.5 C=12\n")
 unfolding computed
@@ -90,7 +91,7 @@ abbrev quotients-script : Bytes
 quotients-script =
     codes "CALL M.ONE; CALL M.P (*,*); CALL M.Z (*);"
 
-quotients : answered (quotients-schema-0 ∷ []) (quotients-module-0 ∷ []) quotients-script 1000000 ≡ Answer.reported (
+quotients : reported (answered (quotients-schema-0 ∷ []) (quotients-module-0 ∷ []) quotients-script 1000000) ≡ Ok (
     codes "M.ONE 00000 0\n"
     ++ codes "M.P 00000 0 A=-3.7 B=0\n"
     ++ codes "M.Z 22012 -2212\n")
@@ -116,7 +117,7 @@ abbrev sums-script : Bytes
 sums-script =
     codes "CALL M.ONE; CALL M.I (999999999999999999); CALL M.I (1); CALL M.S (*); CALL M.I (-1); CALL M.S (*);"
 
-sums : answered (sums-schema-0 ∷ []) (sums-module-0 ∷ []) sums-script 1000000 ≡ Answer.reported (
+sums : reported (answered (sums-schema-0 ∷ []) (sums-module-0 ∷ []) sums-script 1000000) ≡ Ok (
     codes "M.ONE 00000 0\n"
     ++ codes "M.I 00000 0\n"
     ++ codes "M.I 00000 0\n"
@@ -145,7 +146,7 @@ abbrev means-script : Bytes
 means-script =
     codes "CALL M.ONE; CALL M.I (1); CALL M.I (2); CALL M.I (2); CALL M.V (*); CALL M.D; CALL M.I (-1); CALL M.I (-2); CALL M.V (*);"
 
-means : answered (means-schema-0 ∷ []) (means-module-0 ∷ []) means-script 1000000 ≡ Answer.reported (
+means : reported (answered (means-schema-0 ∷ []) (means-module-0 ∷ []) means-script 1000000) ≡ Ok (
     codes "M.ONE 00000 0\n"
     ++ codes "M.I 00000 0\n"
     ++ codes "M.I 00000 0\n"

@@ -1,7 +1,8 @@
 -- Numbers out of range (22003). Printed by tools/print_runs.py from sq_cases/data/runs-accepted.txt.
-use Rattle.std.specs.Prelude.{◌≡◌, [], ◌∷◌, ◌++◌, codes, refl}
+use Rattle.std.specs.Prelude.{◌≡◌, [], ◌∷◌, ◌++◌, codes, Ok, refl}
 use Rattle.sq_meaning.specs.Report.{Bytes}
-use Rattle.sq_worked.specs.Answer.{Answer, answered}
+use Rattle.sq_run.specs.Answer.{answered}
+use Rattle.sq_worked.specs.Reported.{reported}
 use Rattle.sq_worked.proofs.Computed.{computed}
 
 -- ---- accepted 161
@@ -83,7 +84,7 @@ accepted_161-script =
     ++ codes "M0 .\tINS2\t( - 5 , ' ', - 5); TABLE  U1 .\n"
     ++ codes "H ; TABLE U1 . D; TABLE U1 . T ; TABLE U2 . N; "
 
-accepted_161 : answered (accepted_161-schema-0 ∷ []) (accepted_161-module-0 ∷ []) accepted_161-script 1000000 ≡ Answer.reported (
+accepted_161 : reported (answered (accepted_161-schema-0 ∷ []) (accepted_161-module-0 ∷ []) accepted_161-script 1000000) ≡ Ok (
     codes "M0.F00 24000 -2400\n"
     ++ codes "M0.INS0 22003 -2203\n"
     ++ codes "M0.INS1 00000 0\n"
@@ -169,7 +170,7 @@ accepted_11-script =
     ++ codes "CALL M0.INS1 (0, -5, 2, -5, +5, 1);\n"
     ++ codes "CALL M0.INS0 (1, +5, 999); CALL M0.L2 (); CALL M0.F10 (-10, 2.9); TABLE U1.E; TABLE U1.H; "
 
-accepted_11 : answered (accepted_11-schema-0 ∷ []) (accepted_11-module-0 ∷ []) accepted_11-script 1000000 ≡ Answer.reported (
+accepted_11 : reported (answered (accepted_11-schema-0 ∷ []) (accepted_11-module-0 ∷ []) accepted_11-script 1000000) ≡ Ok (
     codes "M0.INS1 23000 -2300\n"
     ++ codes "M0.INS1 00000 0\n"
     ++ codes "M0.INS0 22003 -2203\n"

@@ -1,9 +1,11 @@
 -- Modules and scripts that are refused. Printed by tools/print_runs.py from sq_cases/data/runs-worked.txt.
-use Rattle.std.specs.Prelude.{◌≡◌, [], ◌∷◌, ◌++◌, codes, refl}
+use Rattle.std.specs.Prelude.{◌≡◌, [], ◌∷◌, ◌++◌, codes, Err, refl}
 use Rattle.sq_meaning.specs.declared.refusal.ModuleFault.TheVariants as module_fault
-use Rattle.sq_meaning.specs.declared.refusal.ScriptFault.TheVariants as script_fault
+use Rattle.sq_perform.specs.declared.refusal.RefusalName.TheVariants as what
 use Rattle.sq_meaning.specs.Report.{Bytes}
-use Rattle.sq_worked.specs.Answer.{Answer, Cause, answered}
+use Rattle.sq_perform.specs.declared.refusal.RunFault.TheVariants.{ModuleRefused, ScriptRefused}
+use Rattle.sq_run.specs.Answer.{answered}
+use Rattle.sq_worked.specs.Reported.{reported}
 use Rattle.sq_worked.proofs.Computed.{computed}
 
 -- ---- cursor never opened
@@ -21,7 +23,7 @@ abbrev cursor_never_opened-script : Bytes
 cursor_never_opened-script =
     []
 
-cursor_never_opened : answered (cursor_never_opened-schema-0 ∷ []) (cursor_never_opened-module-0 ∷ []) cursor_never_opened-script 1000000 ≡ Answer.module_refused (record { text = 0; fault = record { line = 2; column = 1; cause = (Cause.of_module module_fault.OpenCount) } })
+cursor_never_opened : reported (answered (cursor_never_opened-schema-0 ∷ []) (cursor_never_opened-module-0 ∷ []) cursor_never_opened-script 1000000) ≡ Err (ModuleRefused (record { text = 0; line = 2; column = 1; what = what.Module module_fault.OpenCount }))
 unfolding computed
 cursor_never_opened = refl
 
@@ -40,7 +42,7 @@ abbrev no_status_parameter-script : Bytes
 no_status_parameter-script =
     []
 
-no_status_parameter : answered (no_status_parameter-schema-0 ∷ []) (no_status_parameter-module-0 ∷ []) no_status_parameter-script 1000000 ≡ Answer.module_refused (record { text = 0; fault = record { line = 2; column = 1; cause = (Cause.of_module module_fault.StatusParameter) } })
+no_status_parameter : reported (answered (no_status_parameter-schema-0 ∷ []) (no_status_parameter-module-0 ∷ []) no_status_parameter-script 1000000) ≡ Err (ModuleRefused (record { text = 0; line = 2; column = 1; what = what.Module module_fault.StatusParameter }))
 unfolding computed
 no_status_parameter = refl
 
@@ -59,7 +61,7 @@ abbrev parameter_twice-script : Bytes
 parameter_twice-script =
     []
 
-parameter_twice : answered (parameter_twice-schema-0 ∷ []) (parameter_twice-module-0 ∷ []) parameter_twice-script 1000000 ≡ Answer.module_refused (record { text = 0; fault = record { line = 2; column = 1; cause = (Cause.of_module module_fault.BadParameter) } })
+parameter_twice : reported (answered (parameter_twice-schema-0 ∷ []) (parameter_twice-module-0 ∷ []) parameter_twice-script 1000000) ≡ Err (ModuleRefused (record { text = 0; line = 2; column = 1; what = what.Module module_fault.BadParameter }))
 unfolding computed
 parameter_twice = refl
 
@@ -82,6 +84,6 @@ abbrev argument_of_another_kind-script : Bytes
 argument_of_another_kind-script =
     codes "CALL M.ADDROW (1);"
 
-argument_of_another_kind : answered (argument_of_another_kind-schema-0 ∷ []) (argument_of_another_kind-module-0 ∷ []) argument_of_another_kind-script 1000000 ≡ Answer.script_refused (record { line = 1; column = 1; cause = (Cause.of_script script_fault.BadArguments) })
+argument_of_another_kind : reported (answered (argument_of_another_kind-schema-0 ∷ []) (argument_of_another_kind-module-0 ∷ []) argument_of_another_kind-script 1000000) ≡ Err (ScriptRefused (record { text = 0; line = 1; column = 1; what = what.BadArguments }))
 unfolding computed
 argument_of_another_kind = refl

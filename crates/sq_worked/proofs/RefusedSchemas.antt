@@ -1,8 +1,11 @@
 -- Schemas that are refused. Printed by tools/print_runs.py from sq_cases/data/runs-worked.txt.
-use Rattle.std.specs.Prelude.{◌≡◌, [], ◌∷◌, ◌++◌, codes, refl}
+use Rattle.std.specs.Prelude.{◌≡◌, [], ◌∷◌, ◌++◌, codes, Err, refl}
 use Rattle.sq_meaning.specs.declared.refusal.SchemaFault.TheVariants as schema_fault
+use Rattle.sq_perform.specs.declared.refusal.RefusalName.TheVariants as what
 use Rattle.sq_meaning.specs.Report.{Bytes}
-use Rattle.sq_worked.specs.Answer.{Answer, Cause, answered}
+use Rattle.sq_perform.specs.declared.refusal.RunFault.TheVariants.{SchemaRefused}
+use Rattle.sq_run.specs.Answer.{answered}
+use Rattle.sq_worked.specs.Reported.{reported}
 use Rattle.sq_worked.specs.Texts.{schema}
 use Rattle.sq_worked.proofs.Computed.{computed}
 
@@ -16,7 +19,7 @@ abbrev key_that_may_be_null-script : Bytes
 key_that_may_be_null-script =
     []
 
-key_that_may_be_null : answered (key_that_may_be_null-schema-0 ∷ []) ([]) key_that_may_be_null-script 1000000 ≡ Answer.schema_refused (record { text = 0; fault = record { line = 1; column = 31; cause = (Cause.of_schema schema_fault.NullableKey) } })
+key_that_may_be_null : reported (answered (key_that_may_be_null-schema-0 ∷ []) ([]) key_that_may_be_null-script 1000000) ≡ Err (SchemaRefused (record { text = 0; line = 1; column = 31; what = what.Schema (record { fault = schema_fault.NullableKey }) }))
 unfolding computed
 key_that_may_be_null = refl
 
@@ -31,7 +34,7 @@ abbrev column_twice-script : Bytes
 column_twice-script =
     []
 
-column_twice : answered (schema ∷ column_twice-schema-1 ∷ []) ([]) column_twice-script 1000000 ≡ Answer.schema_refused (record { text = 1; fault = record { line = 2; column = 1; cause = (Cause.of_schema schema_fault.NameTwice) } })
+column_twice : reported (answered (schema ∷ column_twice-schema-1 ∷ []) ([]) column_twice-script 1000000) ≡ Err (SchemaRefused (record { text = 1; line = 2; column = 1; what = what.Schema (record { fault = schema_fault.NameTwice }) }))
 unfolding computed
 column_twice = refl
 
@@ -46,7 +49,7 @@ abbrev unknown_column_in_a_key-script : Bytes
 unknown_column_in_a_key-script =
     []
 
-unknown_column_in_a_key : answered (schema ∷ unknown_column_in_a_key-schema-1 ∷ []) ([]) unknown_column_in_a_key-script 1000000 ≡ Answer.schema_refused (record { text = 1; fault = record { line = 2; column = 1; cause = (Cause.of_schema schema_fault.UnknownName) } })
+unknown_column_in_a_key : reported (answered (schema ∷ unknown_column_in_a_key-schema-1 ∷ []) ([]) unknown_column_in_a_key-script 1000000) ≡ Err (SchemaRefused (record { text = 1; line = 2; column = 1; what = what.Schema (record { fault = schema_fault.UnknownName }) }))
 unfolding computed
 unknown_column_in_a_key = refl
 
@@ -61,7 +64,7 @@ abbrev scale_above_precision-script : Bytes
 scale_above_precision-script =
     []
 
-scale_above_precision : answered (schema ∷ scale_above_precision-schema-1 ∷ []) ([]) scale_above_precision-script 1000000 ≡ Answer.schema_refused (record { text = 1; fault = record { line = 2; column = 1; cause = (Cause.of_schema schema_fault.BadType) } })
+scale_above_precision : reported (answered (schema ∷ scale_above_precision-schema-1 ∷ []) ([]) scale_above_precision-script 1000000) ≡ Err (SchemaRefused (record { text = 1; line = 2; column = 1; what = what.Schema (record { fault = schema_fault.BadType }) }))
 unfolding computed
 scale_above_precision = refl
 
@@ -76,7 +79,7 @@ abbrev unique_column_that_may_be_null-script : Bytes
 unique_column_that_may_be_null-script =
     []
 
-unique_column_that_may_be_null : answered (schema ∷ unique_column_that_may_be_null-schema-1 ∷ []) ([]) unique_column_that_may_be_null-script 1000000 ≡ Answer.schema_refused (record { text = 1; fault = record { line = 2; column = 1; cause = (Cause.of_schema schema_fault.NullableKey) } })
+unique_column_that_may_be_null : reported (answered (schema ∷ unique_column_that_may_be_null-schema-1 ∷ []) ([]) unique_column_that_may_be_null-script 1000000) ≡ Err (SchemaRefused (record { text = 1; line = 2; column = 1; what = what.Schema (record { fault = schema_fault.NullableKey }) }))
 unfolding computed
 unique_column_that_may_be_null = refl
 
@@ -91,7 +94,7 @@ abbrev two_primary_keys-script : Bytes
 two_primary_keys-script =
     []
 
-two_primary_keys : answered (schema ∷ two_primary_keys-schema-1 ∷ []) ([]) two_primary_keys-script 1000000 ≡ Answer.schema_refused (record { text = 1; fault = record { line = 2; column = 1; cause = (Cause.of_schema schema_fault.BadKey) } })
+two_primary_keys : reported (answered (schema ∷ two_primary_keys-schema-1 ∷ []) ([]) two_primary_keys-script 1000000) ≡ Err (SchemaRefused (record { text = 1; line = 2; column = 1; what = what.Schema (record { fault = schema_fault.BadKey }) }))
 unfolding computed
 two_primary_keys = refl
 
@@ -106,7 +109,7 @@ abbrev reference_without_primary_key-script : Bytes
 reference_without_primary_key-script =
     []
 
-reference_without_primary_key : answered (schema ∷ reference_without_primary_key-schema-1 ∷ []) ([]) reference_without_primary_key-script 1000000 ≡ Answer.schema_refused (record { text = 1; fault = record { line = 2; column = 1; cause = (Cause.of_schema schema_fault.BadReference) } })
+reference_without_primary_key : reported (answered (schema ∷ reference_without_primary_key-schema-1 ∷ []) ([]) reference_without_primary_key-script 1000000) ≡ Err (SchemaRefused (record { text = 1; line = 2; column = 1; what = what.Schema (record { fault = schema_fault.BadReference }) }))
 unfolding computed
 reference_without_primary_key = refl
 
@@ -121,7 +124,7 @@ abbrev check_with_user-script : Bytes
 check_with_user-script =
     []
 
-check_with_user : answered (schema ∷ check_with_user-schema-1 ∷ []) ([]) check_with_user-script 1000000 ≡ Answer.schema_refused (record { text = 1; fault = record { line = 2; column = 1; cause = (Cause.of_schema schema_fault.BadCheck) } })
+check_with_user : reported (answered (schema ∷ check_with_user-schema-1 ∷ []) ([]) check_with_user-script 1000000) ≡ Err (SchemaRefused (record { text = 1; line = 2; column = 1; what = what.Schema (record { fault = schema_fault.BadCheck }) }))
 unfolding computed
 check_with_user = refl
 
@@ -136,7 +139,7 @@ abbrev default_too_long-script : Bytes
 default_too_long-script =
     []
 
-default_too_long : answered (schema ∷ default_too_long-schema-1 ∷ []) ([]) default_too_long-script 1000000 ≡ Answer.schema_refused (record { text = 1; fault = record { line = 2; column = 1; cause = (Cause.of_schema schema_fault.BadDefault) } })
+default_too_long : reported (answered (schema ∷ default_too_long-schema-1 ∷ []) ([]) default_too_long-script 1000000) ≡ Err (SchemaRefused (record { text = 1; line = 2; column = 1; what = what.Schema (record { fault = schema_fault.BadDefault }) }))
 unfolding computed
 default_too_long = refl
 
@@ -152,7 +155,7 @@ abbrev view_column_without_name-script : Bytes
 view_column_without_name-script =
     []
 
-view_column_without_name : answered (schema ∷ view_column_without_name-schema-1 ∷ []) ([]) view_column_without_name-script 1000000 ≡ Answer.schema_refused (record { text = 1; fault = record { line = 3; column = 1; cause = (Cause.of_schema schema_fault.BadView) } })
+view_column_without_name : reported (answered (schema ∷ view_column_without_name-schema-1 ∷ []) ([]) view_column_without_name-script 1000000) ≡ Err (SchemaRefused (record { text = 1; line = 3; column = 1; what = what.Schema (record { fault = schema_fault.BadView }) }))
 unfolding computed
 view_column_without_name = refl
 
@@ -168,7 +171,7 @@ abbrev check_option_on_distinct-script : Bytes
 check_option_on_distinct-script =
     []
 
-check_option_on_distinct : answered (schema ∷ check_option_on_distinct-schema-1 ∷ []) ([]) check_option_on_distinct-script 1000000 ≡ Answer.schema_refused (record { text = 1; fault = record { line = 3; column = 1; cause = (Cause.of_schema schema_fault.BadCheckOption) } })
+check_option_on_distinct : reported (answered (schema ∷ check_option_on_distinct-schema-1 ∷ []) ([]) check_option_on_distinct-script 1000000) ≡ Err (SchemaRefused (record { text = 1; line = 3; column = 1; what = what.Schema (record { fault = schema_fault.BadCheckOption }) }))
 unfolding computed
 check_option_on_distinct = refl
 
@@ -184,7 +187,7 @@ abbrev view_without_privilege-script : Bytes
 view_without_privilege-script =
     []
 
-view_without_privilege : answered (schema ∷ view_without_privilege-schema-1 ∷ []) ([]) view_without_privilege-script 1000000 ≡ Answer.schema_refused (record { text = 1; fault = record { line = 3; column = 1; cause = (Cause.of_schema schema_fault.PrivilegeMissing) } })
+view_without_privilege : reported (answered (schema ∷ view_without_privilege-schema-1 ∷ []) ([]) view_without_privilege-script 1000000) ≡ Err (SchemaRefused (record { text = 1; line = 3; column = 1; what = what.Schema (record { fault = schema_fault.PrivilegeMissing }) }))
 unfolding computed
 view_without_privilege = refl
 
@@ -200,6 +203,6 @@ abbrev table_of_another_user-script : Bytes
 table_of_another_user-script =
     []
 
-table_of_another_user : answered (schema ∷ table_of_another_user-schema-1 ∷ []) ([]) table_of_another_user-script 1000000 ≡ Answer.schema_refused (record { text = 1; fault = record { line = 3; column = 1; cause = (Cause.of_schema schema_fault.OtherSchema) } })
+table_of_another_user : reported (answered (schema ∷ table_of_another_user-schema-1 ∷ []) ([]) table_of_another_user-script 1000000) ≡ Err (SchemaRefused (record { text = 1; line = 3; column = 1; what = what.Schema (record { fault = schema_fault.OtherSchema }) }))
 unfolding computed
 table_of_another_user = refl

@@ -1,7 +1,8 @@
 -- A scrolling cursor. Printed by tools/print_runs.py from sq_cases/data/runs-worked.txt.
-use Rattle.std.specs.Prelude.{◌≡◌, [], ◌∷◌, ◌++◌, codes, refl}
+use Rattle.std.specs.Prelude.{◌≡◌, [], ◌∷◌, ◌++◌, codes, Ok, refl}
 use Rattle.sq_meaning.specs.Report.{Bytes}
-use Rattle.sq_worked.specs.Answer.{Answer, answered}
+use Rattle.sq_run.specs.Answer.{answered}
+use Rattle.sq_worked.specs.Reported.{reported}
 use Rattle.sq_worked.specs.Texts.{schema, first_module, second_module, scrolling_module}
 use Rattle.sq_worked.proofs.Computed.{computed}
 
@@ -28,7 +29,7 @@ scrolling_cursor-script =
     ++ codes "CALL M3.OPN;\n"
     ++ codes "CALL M3.FBN (*);\n"
 
-scrolling_cursor : answered (schema ∷ []) (first_module ∷ second_module ∷ scrolling_module ∷ []) scrolling_cursor-script 1000000 ≡ Answer.reported (
+scrolling_cursor : reported (answered (schema ∷ []) (first_module ∷ second_module ∷ scrolling_module ∷ []) scrolling_cursor-script 1000000) ≡ Ok (
     codes "M1.INS 00000 0\n"
     ++ codes "M1.INS 00000 0\n"
     ++ codes "M1.INS 00000 0\n"

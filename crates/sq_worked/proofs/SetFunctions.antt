@@ -1,7 +1,8 @@
 -- Set functions and groups. Printed by tools/print_runs.py from sq_cases/data/runs-worked.txt.
-use Rattle.std.specs.Prelude.{◌≡◌, [], ◌∷◌, ◌++◌, codes, refl}
+use Rattle.std.specs.Prelude.{◌≡◌, [], ◌∷◌, ◌++◌, codes, Ok, refl}
 use Rattle.sq_meaning.specs.Report.{Bytes}
-use Rattle.sq_worked.specs.Answer.{Answer, answered}
+use Rattle.sq_run.specs.Answer.{answered}
+use Rattle.sq_worked.specs.Reported.{reported}
 use Rattle.sq_worked.specs.Texts.{schema, first_module, second_module}
 use Rattle.sq_worked.proofs.Computed.{computed}
 
@@ -12,7 +13,7 @@ set_functions_of_no_rows-script =
     codes "CALL M1.AGG (*,*,*);\n"
     ++ codes "CALL M1.AGX (*,*);\n"
 
-set_functions_of_no_rows : answered (schema ∷ []) (first_module ∷ second_module ∷ []) set_functions_of_no_rows-script 1000000 ≡ Answer.reported (
+set_functions_of_no_rows : reported (answered (schema ∷ []) (first_module ∷ second_module ∷ []) set_functions_of_no_rows-script 1000000) ≡ Ok (
     codes "M1.AGG 00000 0 N=0 S=NULL S1=-1\n"
     ++ codes "M1.AGX 22002 -2202\n")
 unfolding computed
@@ -27,7 +28,7 @@ extremes_and_mean-script =
     ++ codes "CALL M1.INS (3,0,-1,'A');\n"
     ++ codes "CALL M1.STA (*,*,*);\n"
 
-extremes_and_mean : answered (schema ∷ []) (first_module ∷ second_module ∷ []) extremes_and_mean-script 1000000 ≡ Answer.reported (
+extremes_and_mean : reported (answered (schema ∷ []) (first_module ∷ second_module ∷ []) extremes_and_mean-script 1000000) ≡ Ok (
     codes "M1.INS 00000 0\n"
     ++ codes "M1.INS 00000 0\n"
     ++ codes "M1.INS 00000 0\n"
@@ -52,7 +53,7 @@ greatest_of_no_rows-script =
     ++ codes "CALL Q.F (*,*);\n"
     ++ codes "CALL Q.F (*,*);\n"
 
-greatest_of_no_rows : answered (schema ∷ []) (first_module ∷ greatest_of_no_rows-module-1 ∷ []) greatest_of_no_rows-script 1000000 ≡ Answer.reported (
+greatest_of_no_rows : reported (answered (schema ∷ []) (first_module ∷ greatest_of_no_rows-module-1 ∷ []) greatest_of_no_rows-script 1000000) ≡ Ok (
     codes "M1.INS 00000 0\n"
     ++ codes "M1.INS 00000 0\n"
     ++ codes "M1.INS 00000 0\n"
@@ -79,7 +80,7 @@ having_without_rows-script =
     ++ codes "CALL Q.O;\n"
     ++ codes "CALL Q.F (*,*);\n"
 
-having_without_rows : answered (schema ∷ []) (first_module ∷ having_without_rows-module-1 ∷ []) having_without_rows-script 1000000 ≡ Answer.reported (
+having_without_rows : reported (answered (schema ∷ []) (first_module ∷ having_without_rows-module-1 ∷ []) having_without_rows-script 1000000) ≡ Ok (
     codes "M1.INS 00000 0\n"
     ++ codes "M1.INS 00000 0\n"
     ++ codes "M1.INS 00000 0\n"
@@ -107,7 +108,7 @@ groups_in_order_of_their_first_row-script =
     ++ codes "CALL Q.F (*,*,*,*);\n"
     ++ codes "CALL Q.F (*,*,*,*);\n"
 
-groups_in_order_of_their_first_row : answered (schema ∷ []) (first_module ∷ groups_in_order_of_their_first_row-module-1 ∷ []) groups_in_order_of_their_first_row-script 1000000 ≡ Answer.reported (
+groups_in_order_of_their_first_row : reported (answered (schema ∷ []) (first_module ∷ groups_in_order_of_their_first_row-module-1 ∷ []) groups_in_order_of_their_first_row-script 1000000) ≡ Ok (
     codes "M1.INS 00000 0\n"
     ++ codes "M1.INS 00000 0\n"
     ++ codes "M1.INS 00000 0\n"

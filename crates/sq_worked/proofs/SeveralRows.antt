@@ -1,7 +1,8 @@
 -- More than one row (21000). Printed by tools/print_runs.py from sq_cases/data/runs-accepted.txt.
-use Rattle.std.specs.Prelude.{◌≡◌, [], ◌∷◌, ◌++◌, codes, refl}
+use Rattle.std.specs.Prelude.{◌≡◌, [], ◌∷◌, ◌++◌, codes, Ok, refl}
 use Rattle.sq_meaning.specs.Report.{Bytes}
-use Rattle.sq_worked.specs.Answer.{Answer, answered}
+use Rattle.sq_run.specs.Answer.{answered}
+use Rattle.sq_worked.specs.Reported.{reported}
 use Rattle.sq_worked.proofs.Computed.{computed}
 
 -- ---- accepted 116
@@ -82,7 +83,7 @@ accepted_116-script =
     ++ codes "TABLE U1.T; TABLE U2.N; TABLE U3.N;\n"
     ++ codes "TABLE U4.T; "
 
-accepted_116 : answered (accepted_116-schema-0 ∷ []) (accepted_116-module-0 ∷ []) accepted_116-script 1000000 ≡ Answer.reported (
+accepted_116 : reported (answered (accepted_116-schema-0 ∷ []) (accepted_116-module-0 ∷ []) accepted_116-script 1000000) ≡ Ok (
     codes "M0.O0 00000 0\n"
     ++ codes "M0.INS0 00000 0\n"
     ++ codes "M0.F00 02000 100\n"
@@ -274,7 +275,7 @@ accepted_80-script =
     ++ codes "2) ; table U1 . t; Table U2 -- note 'x' ~\t\n"
     ++ codes ". G; TABLE u2 . d; "
 
-accepted_80 : answered (accepted_80-schema-0 ∷ []) (accepted_80-module-0 ∷ []) accepted_80-script 1000000 ≡ Answer.reported (
+accepted_80 : reported (answered (accepted_80-schema-0 ∷ []) (accepted_80-module-0 ∷ []) accepted_80-script 1000000) ≡ Ok (
     codes "M0.INS2 00000 0\n"
     ++ codes "M0.INS1 00000 0\n"
     ++ codes "M0.INS0 00000 0\n"

@@ -1,7 +1,8 @@
 -- Scalar subqueries. Printed by tools/print_runs.py from sq_cases/data/runs-worked.txt.
-use Rattle.std.specs.Prelude.{◌≡◌, [], ◌∷◌, ◌++◌, codes, refl}
+use Rattle.std.specs.Prelude.{◌≡◌, [], ◌∷◌, ◌++◌, codes, Ok, refl}
 use Rattle.sq_meaning.specs.Report.{Bytes}
-use Rattle.sq_worked.specs.Answer.{Answer, answered}
+use Rattle.sq_run.specs.Answer.{answered}
+use Rattle.sq_worked.specs.Reported.{reported}
 use Rattle.sq_worked.specs.Texts.{schema, first_module, second_module}
 use Rattle.sq_worked.proofs.Computed.{computed}
 
@@ -13,7 +14,7 @@ subquery_of_one_row-script =
     ++ codes "CALL M1.SUB;\n"
     ++ codes "TABLE U1.T;\n"
 
-subquery_of_one_row : answered (schema ∷ []) (first_module ∷ second_module ∷ []) subquery_of_one_row-script 1000000 ≡ Answer.reported (
+subquery_of_one_row : reported (answered (schema ∷ []) (first_module ∷ second_module ∷ []) subquery_of_one_row-script 1000000) ≡ Ok (
     codes "M1.INS 00000 0\n"
     ++ codes "M1.SUB 00000 0\n"
     ++ codes "TABLE U1.T 0\n")
@@ -35,7 +36,7 @@ subquery_of_more_rows-script =
     ++ codes "CALL M1.INN (999999999999999999,0);\n"
     ++ codes "CALL Q.O;\n"
 
-subquery_of_more_rows : answered (schema ∷ []) (first_module ∷ subquery_of_more_rows-module-1 ∷ []) subquery_of_more_rows-script 1000000 ≡ Answer.reported (
+subquery_of_more_rows : reported (answered (schema ∷ []) (first_module ∷ subquery_of_more_rows-module-1 ∷ []) subquery_of_more_rows-script 1000000) ≡ Ok (
     codes "M1.INS 00000 0\n"
     ++ codes "M1.INS 00000 0\n"
     ++ codes "M1.INS 00000 0\n"

@@ -1,8 +1,9 @@
 -- Texts that are taken, with nothing to report. Printed by tools/print_runs.py from
 -- sq_cases/data/runs-worked.txt.
-use Rattle.std.specs.Prelude.{◌≡◌, [], ◌∷◌, ◌++◌, codes, refl}
+use Rattle.std.specs.Prelude.{◌≡◌, [], ◌∷◌, ◌++◌, codes, Ok, refl}
 use Rattle.sq_meaning.specs.Report.{Bytes}
-use Rattle.sq_worked.specs.Answer.{Answer, answered}
+use Rattle.sq_run.specs.Answer.{answered}
+use Rattle.sq_worked.specs.Reported.{reported}
 use Rattle.sq_worked.specs.Texts.{schema, first_module, second_module}
 use Rattle.sq_worked.proofs.Computed.{computed}
 
@@ -12,7 +13,7 @@ abbrev taken_whole-script : Bytes
 taken_whole-script =
     []
 
-taken_whole : answered (schema ∷ []) (first_module ∷ second_module ∷ []) taken_whole-script 1000000 ≡ Answer.reported (
+taken_whole : reported (answered (schema ∷ []) (first_module ∷ second_module ∷ []) taken_whole-script 1000000) ≡ Ok (
     [])
 unfolding computed
 taken_whole = refl
@@ -36,7 +37,7 @@ abbrev empty_script-script : Bytes
 empty_script-script =
     []
 
-empty_script : answered (empty_script-schema-0 ∷ []) (empty_script-module-0 ∷ []) empty_script-script 1000000 ≡ Answer.reported (
+empty_script : reported (answered (empty_script-schema-0 ∷ []) (empty_script-module-0 ∷ []) empty_script-script 1000000) ≡ Ok (
     [])
 unfolding computed
 empty_script = refl
@@ -56,7 +57,7 @@ abbrev brackets_as_deep_as_allowed-script : Bytes
 brackets_as_deep_as_allowed-script =
     []
 
-brackets_as_deep_as_allowed : answered (brackets_as_deep_as_allowed-schema-0 ∷ []) (brackets_as_deep_as_allowed-module-0 ∷ []) brackets_as_deep_as_allowed-script 1000000 ≡ Answer.reported (
+brackets_as_deep_as_allowed : reported (answered (brackets_as_deep_as_allowed-schema-0 ∷ []) (brackets_as_deep_as_allowed-module-0 ∷ []) brackets_as_deep_as_allowed-script 1000000) ≡ Ok (
     [])
 unfolding computed
 brackets_as_deep_as_allowed = refl
@@ -76,7 +77,7 @@ abbrev bracketed_expression_in_a_test-script : Bytes
 bracketed_expression_in_a_test-script =
     []
 
-bracketed_expression_in_a_test : answered (bracketed_expression_in_a_test-schema-0 ∷ []) (bracketed_expression_in_a_test-module-0 ∷ []) bracketed_expression_in_a_test-script 1000000 ≡ Answer.reported (
+bracketed_expression_in_a_test : reported (answered (bracketed_expression_in_a_test-schema-0 ∷ []) (bracketed_expression_in_a_test-module-0 ∷ []) bracketed_expression_in_a_test-script 1000000) ≡ Ok (
     [])
 unfolding computed
 bracketed_expression_in_a_test = refl
@@ -96,7 +97,7 @@ abbrev bracketed_test-script : Bytes
 bracketed_test-script =
     []
 
-bracketed_test : answered (bracketed_test-schema-0 ∷ []) (bracketed_test-module-0 ∷ []) bracketed_test-script 1000000 ≡ Answer.reported (
+bracketed_test : reported (answered (bracketed_test-schema-0 ∷ []) (bracketed_test-module-0 ∷ []) bracketed_test-script 1000000) ≡ Ok (
     [])
 unfolding computed
 bracketed_test = refl

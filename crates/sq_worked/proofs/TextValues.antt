@@ -1,7 +1,8 @@
 -- Texts: padding, cutting, LIKE. Printed by tools/print_runs.py from sq_cases/data/runs-worked.txt.
-use Rattle.std.specs.Prelude.{◌≡◌, [], ◌∷◌, ◌++◌, codes, refl}
+use Rattle.std.specs.Prelude.{◌≡◌, [], ◌∷◌, ◌++◌, codes, Ok, refl}
 use Rattle.sq_meaning.specs.Report.{Bytes}
-use Rattle.sq_worked.specs.Answer.{Answer, answered}
+use Rattle.sq_run.specs.Answer.{answered}
+use Rattle.sq_worked.specs.Reported.{reported}
 use Rattle.sq_worked.specs.Texts.{schema, first_module, second_module}
 use Rattle.sq_worked.proofs.Computed.{computed}
 
@@ -12,7 +13,7 @@ like_does_not_pad-script =
     codes "CALL M1.INS (1,0,0,'AB');\n"
     ++ codes "CALL M1.LKS (*);\n"
 
-like_does_not_pad : answered (schema ∷ []) (first_module ∷ second_module ∷ []) like_does_not_pad-script 1000000 ≡ Answer.reported (
+like_does_not_pad : reported (answered (schema ∷ []) (first_module ∷ second_module ∷ []) like_does_not_pad-script 1000000) ≡ Ok (
     codes "M1.INS 00000 0\n"
     ++ codes "M1.LKS 00000 0 N=1\n")
 unfolding computed
@@ -27,7 +28,7 @@ longer_texts-script =
     ++ codes "CALL M1.BLK;\n"
     ++ codes "TABLE U1.T;\n"
 
-longer_texts : answered (schema ∷ []) (first_module ∷ second_module ∷ []) longer_texts-script 1000000 ≡ Answer.reported (
+longer_texts : reported (answered (schema ∷ []) (first_module ∷ second_module ∷ []) longer_texts-script 1000000) ≡ Ok (
     codes "M1.INS 00000 0\n"
     ++ codes "M1.LNG 22001 -2201\n"
     ++ codes "M1.BLK 00000 0\n"
@@ -48,7 +49,7 @@ cut_text_and_null_without_indicator-script =
     ++ codes "CALL M1.DPH;\n"
     ++ codes "TABLE U1.T;\n"
 
-cut_text_and_null_without_indicator : answered (schema ∷ []) (first_module ∷ second_module ∷ []) cut_text_and_null_without_indicator-script 1000000 ≡ Answer.reported (
+cut_text_and_null_without_indicator : reported (answered (schema ∷ []) (first_module ∷ second_module ∷ []) cut_text_and_null_without_indicator-script 1000000) ≡ Ok (
     codes "M1.INS 00000 0\n"
     ++ codes "M1.INS 00000 0\n"
     ++ codes "M1.OPH 00000 0\n"
@@ -71,7 +72,7 @@ like_faults_and_subquery_of_two_rows-script =
     ++ codes "CALL M1.LKX;\n"
     ++ codes "CALL M1.LKE ('!%');\n"
 
-like_faults_and_subquery_of_two_rows : answered (schema ∷ []) (first_module ∷ second_module ∷ []) like_faults_and_subquery_of_two_rows-script 1000000 ≡ Answer.reported (
+like_faults_and_subquery_of_two_rows : reported (answered (schema ∷ []) (first_module ∷ second_module ∷ []) like_faults_and_subquery_of_two_rows-script 1000000) ≡ Ok (
     codes "M1.INS 00000 0\n"
     ++ codes "M1.INS 00000 0\n"
     ++ codes "M1.SUB 21000 -2100\n"
@@ -100,7 +101,7 @@ abbrev stored_numbers_and_texts-script : Bytes
 stored_numbers_and_texts-script =
     codes "CALL M.ONE; CALL M.A; CALL M.B; CALL M.C; CALL M.D; TABLE U.S;"
 
-stored_numbers_and_texts : answered (stored_numbers_and_texts-schema-0 ∷ []) (stored_numbers_and_texts-module-0 ∷ []) stored_numbers_and_texts-script 1000000 ≡ Answer.reported (
+stored_numbers_and_texts : reported (answered (stored_numbers_and_texts-schema-0 ∷ []) (stored_numbers_and_texts-module-0 ∷ []) stored_numbers_and_texts-script 1000000) ≡ Ok (
     codes "M.ONE 00000 0\n"
     ++ codes "M.A 00000 0\n"
     ++ codes "M.B 22003 -2203\n"
@@ -130,7 +131,7 @@ abbrev retrieved_texts_and_like-script : Bytes
 retrieved_texts_and_like-script =
     codes "CALL M.ONE; CALL M.P (*,*); CALL M.Q (*); CALL M.R (*);"
 
-retrieved_texts_and_like : answered (retrieved_texts_and_like-schema-0 ∷ []) (retrieved_texts_and_like-module-0 ∷ []) retrieved_texts_and_like-script 1000000 ≡ Answer.reported (
+retrieved_texts_and_like : reported (answered (retrieved_texts_and_like-schema-0 ∷ []) (retrieved_texts_and_like-module-0 ∷ []) retrieved_texts_and_like-script 1000000) ≡ Ok (
     codes "M.ONE 00000 0\n"
     ++ codes "M.P 01004 0 A='AB ' IA=5\n"
     ++ codes "M.Q 00000 0 N=1\n"

@@ -1,7 +1,8 @@
 -- COMMIT and ROLLBACK, and row numbers. Printed by tools/print_runs.py from sq_cases/data/runs-worked.txt.
-use Rattle.std.specs.Prelude.{◌≡◌, [], ◌∷◌, ◌++◌, codes, refl}
+use Rattle.std.specs.Prelude.{◌≡◌, [], ◌∷◌, ◌++◌, codes, Ok, refl}
 use Rattle.sq_meaning.specs.Report.{Bytes}
-use Rattle.sq_worked.specs.Answer.{Answer, answered}
+use Rattle.sq_run.specs.Answer.{answered}
+use Rattle.sq_worked.specs.Reported.{reported}
 use Rattle.sq_worked.specs.Texts.{schema, first_module, second_module}
 use Rattle.sq_worked.proofs.Computed.{computed}
 
@@ -19,7 +20,7 @@ rollback_closes_cursors-script =
     ++ codes "TABLE U1.T;\n"
     ++ codes "CALL M1.FEB (*,*);\n"
 
-rollback_closes_cursors : answered (schema ∷ []) (first_module ∷ second_module ∷ []) rollback_closes_cursors-script 1000000 ≡ Answer.reported (
+rollback_closes_cursors : reported (answered (schema ∷ []) (first_module ∷ second_module ∷ []) rollback_closes_cursors-script 1000000) ≡ Ok (
     codes "M1.INS 00000 0\n"
     ++ codes "M1.CMT 00000 0\n"
     ++ codes "M2.SETC 00000 0\n"
@@ -46,7 +47,7 @@ row_numbers_after_rollback-script =
     ++ codes "CALL M1.INS (2,0,0,'A');\n"
     ++ codes "CALL M1.INS (3,0,0,'A');\n"
 
-row_numbers_after_rollback : answered (schema ∷ []) (first_module ∷ second_module ∷ []) row_numbers_after_rollback-script 3 ≡ Answer.reported (
+row_numbers_after_rollback : reported (answered (schema ∷ []) (first_module ∷ second_module ∷ []) row_numbers_after_rollback-script 3) ≡ Ok (
     codes "M1.INS 00000 0\n"
     ++ codes "M1.INS 00000 0\n"
     ++ codes "M1.INS 00000 0\n"
@@ -73,7 +74,7 @@ rollback_restores_row_numbers-script =
     ++ codes "CALL M1.INS (4,0,0,'D');\n"
     ++ codes "TABLE U1.T;\n"
 
-rollback_restores_row_numbers : answered (schema ∷ []) (first_module ∷ second_module ∷ []) rollback_restores_row_numbers-script 3 ≡ Answer.reported (
+rollback_restores_row_numbers : reported (answered (schema ∷ []) (first_module ∷ second_module ∷ []) rollback_restores_row_numbers-script 3) ≡ Ok (
     codes "M1.INS 00000 0\n"
     ++ codes "M1.INS 00000 0\n"
     ++ codes "M1.CMT 00000 0\n"
@@ -109,7 +110,7 @@ abbrev row_numbers_run_out-script : Bytes
 row_numbers_run_out-script =
     codes "CALL M.OPX; CALL M.ADDROW (1, *); CALL M.ADDROW (2, 3); CALL M.ADDROW (4, 5); CALL M.NEXTROW (*, *); CALL M.OPX; TABLE U.D;"
 
-row_numbers_run_out : answered (row_numbers_run_out-schema-0 ∷ []) (row_numbers_run_out-module-0 ∷ []) row_numbers_run_out-script 2 ≡ Answer.reported (
+row_numbers_run_out : reported (answered (row_numbers_run_out-schema-0 ∷ []) (row_numbers_run_out-module-0 ∷ []) row_numbers_run_out-script 2) ≡ Ok (
     codes "M.OPX 00000 0\n"
     ++ codes "M.ADDROW 00000 0\n"
     ++ codes "M.ADDROW 00000 0\n"
@@ -143,7 +144,7 @@ insert_and_fetch-script =
     ++ codes "CALL M.NEXTROW (*, *); CALL M.NEXTROW (*, *); CALL M.NEXTROW (*, *); CALL M.NEXTROW (*, *);\n"
     ++ codes "CALL M.CLX; CALL M.CLX; TABLE U.D;\n"
 
-insert_and_fetch : answered (insert_and_fetch-schema-0 ∷ []) (insert_and_fetch-module-0 ∷ []) insert_and_fetch-script 1000000 ≡ Answer.reported (
+insert_and_fetch : reported (answered (insert_and_fetch-schema-0 ∷ []) (insert_and_fetch-module-0 ∷ []) insert_and_fetch-script 1000000) ≡ Ok (
     codes "M.ADDROW 00000 0\n"
     ++ codes "M.ADDROW 00000 0\n"
     ++ codes "M.OPX 00000 0\n"

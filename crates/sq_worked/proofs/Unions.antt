@@ -1,7 +1,8 @@
 -- UNION and ORDER BY. Printed by tools/print_runs.py from sq_cases/data/runs-worked.txt.
-use Rattle.std.specs.Prelude.{◌≡◌, [], ◌∷◌, ◌++◌, codes, refl}
+use Rattle.std.specs.Prelude.{◌≡◌, [], ◌∷◌, ◌++◌, codes, Ok, refl}
 use Rattle.sq_meaning.specs.Report.{Bytes}
-use Rattle.sq_worked.specs.Answer.{Answer, answered}
+use Rattle.sq_run.specs.Answer.{answered}
+use Rattle.sq_worked.specs.Reported.{reported}
 use Rattle.sq_worked.specs.Texts.{schema, first_module, second_module}
 use Rattle.sq_worked.proofs.Computed.{computed}
 
@@ -20,7 +21,7 @@ union_in_order-script =
     ++ codes "CALL M1.FEU (*,*,*);\n"
     ++ codes "CALL M1.FEU (*,*,*);\n"
 
-union_in_order : answered (schema ∷ []) (first_module ∷ second_module ∷ []) union_in_order-script 1000000 ≡ Answer.reported (
+union_in_order : reported (answered (schema ∷ []) (first_module ∷ second_module ∷ []) union_in_order-script 1000000) ≡ Ok (
     codes "M1.INS 00000 0\n"
     ++ codes "M1.INS 00000 0\n"
     ++ codes "M1.INS 00000 0\n"
@@ -55,7 +56,7 @@ union_without_order-script =
     ++ codes "CALL Q.F (*,*,*,*);\n"
     ++ codes "CALL Q.F (*,*,*,*);\n"
 
-union_without_order : answered (schema ∷ []) (first_module ∷ union_without_order-module-1 ∷ []) union_without_order-script 1000000 ≡ Answer.reported (
+union_without_order : reported (answered (schema ∷ []) (first_module ∷ union_without_order-module-1 ∷ []) union_without_order-script 1000000) ≡ Ok (
     codes "M1.INS 00000 0\n"
     ++ codes "M1.INS 00000 0\n"
     ++ codes "M1.INS 00000 0\n"
@@ -87,7 +88,7 @@ union_with_common_scale-script =
     ++ codes "CALL Q.F (*,*);\n"
     ++ codes "CALL Q.F (*,*);\n"
 
-union_with_common_scale : answered (schema ∷ []) (first_module ∷ union_with_common_scale-module-1 ∷ []) union_with_common_scale-script 1000000 ≡ Answer.reported (
+union_with_common_scale : reported (answered (schema ∷ []) (first_module ∷ union_with_common_scale-module-1 ∷ []) union_with_common_scale-script 1000000) ≡ Ok (
     codes "M1.INS 00000 0\n"
     ++ codes "M1.INS 00000 0\n"
     ++ codes "M1.INS 00000 0\n"
@@ -116,7 +117,7 @@ union_all_with_common_scale-script =
     ++ codes "CALL Q.F (*,*);\n"
     ++ codes "CALL Q.F (*,*);\n"
 
-union_all_with_common_scale : answered (schema ∷ []) (first_module ∷ union_all_with_common_scale-module-1 ∷ []) union_all_with_common_scale-script 1000000 ≡ Answer.reported (
+union_all_with_common_scale : reported (answered (schema ∷ []) (first_module ∷ union_all_with_common_scale-module-1 ∷ []) union_all_with_common_scale-script 1000000) ≡ Ok (
     codes "M1.INS 00000 0\n"
     ++ codes "M1.INS 00000 0\n"
     ++ codes "M1.INS 00000 0\n"
@@ -143,7 +144,7 @@ union_out_of_range-script =
     ++ codes "CALL M1.INN (999999999999999999,0);\n"
     ++ codes "CALL Q.O;\n"
 
-union_out_of_range : answered (schema ∷ []) (first_module ∷ union_out_of_range-module-1 ∷ []) union_out_of_range-script 1000000 ≡ Answer.reported (
+union_out_of_range : reported (answered (schema ∷ []) (first_module ∷ union_out_of_range-module-1 ∷ []) union_out_of_range-script 1000000) ≡ Ok (
     codes "M1.INS 00000 0\n"
     ++ codes "M1.INS 00000 0\n"
     ++ codes "M1.INS 00000 0\n"

@@ -1,7 +1,8 @@
 -- Varying texts. Printed by tools/print_runs.py from sq_cases/data/runs-worked.txt.
-use Rattle.std.specs.Prelude.{◌≡◌, [], ◌∷◌, ◌++◌, codes, refl}
+use Rattle.std.specs.Prelude.{◌≡◌, [], ◌∷◌, ◌++◌, codes, Ok, refl}
 use Rattle.sq_meaning.specs.Report.{Bytes}
-use Rattle.sq_worked.specs.Answer.{Answer, answered}
+use Rattle.sq_run.specs.Answer.{answered}
+use Rattle.sq_worked.specs.Reported.{reported}
 use Rattle.sq_worked.specs.Texts.{schema, first_module, second_module}
 use Rattle.sq_worked.proofs.Computed.{computed}
 
@@ -39,7 +40,7 @@ varying_texts-script =
     ++ codes "TABLE U3.G;\n"
     ++ codes "TABLE U3.H;\n"
 
-varying_texts : answered (schema ∷ varying_texts-schema-1 ∷ []) (first_module ∷ second_module ∷ varying_texts-module-2 ∷ []) varying_texts-script 1000000 ≡ Answer.reported (
+varying_texts : reported (answered (schema ∷ varying_texts-schema-1 ∷ []) (first_module ∷ second_module ∷ varying_texts-module-2 ∷ []) varying_texts-script 1000000) ≡ Ok (
     codes "M4.ING 00000 0\n"
     ++ codes "M4.ING 23000 -2300\n"
     ++ codes "M4.INH 00000 0\n"

@@ -1,7 +1,8 @@
 -- Check options and privileges. Printed by tools/print_runs.py from sq_cases/data/runs-worked.txt.
-use Rattle.std.specs.Prelude.{◌≡◌, [], ◌∷◌, ◌++◌, codes, refl}
+use Rattle.std.specs.Prelude.{◌≡◌, [], ◌∷◌, ◌++◌, codes, Ok, refl}
 use Rattle.sq_meaning.specs.Report.{Bytes}
-use Rattle.sq_worked.specs.Answer.{Answer, answered}
+use Rattle.sq_run.specs.Answer.{answered}
+use Rattle.sq_worked.specs.Reported.{reported}
 use Rattle.sq_worked.specs.Texts.{schema, first_module, second_module}
 use Rattle.sq_worked.proofs.Computed.{computed}
 
@@ -16,7 +17,7 @@ check_options-script =
     ++ codes "CALL M1.INW2 (3,5);\n"
     ++ codes "TABLE U1.T;\n"
 
-check_options : answered (schema ∷ []) (first_module ∷ second_module ∷ []) check_options-script 1000000 ≡ Answer.reported (
+check_options : reported (answered (schema ∷ []) (first_module ∷ second_module ∷ []) check_options-script 1000000) ≡ Ok (
     codes "M1.INW 44000 -4400\n"
     ++ codes "M1.INW 44000 -4400\n"
     ++ codes "M1.INW 00000 0\n"
@@ -41,7 +42,7 @@ privileges_on_positioned_changes-script =
     ++ codes "CALL M2.UXC;\n"
     ++ codes "TABLE U1.T;\n"
 
-privileges_on_positioned_changes : answered (schema ∷ []) (first_module ∷ second_module ∷ []) privileges_on_positioned_changes-script 1000000 ≡ Answer.reported (
+privileges_on_positioned_changes : reported (answered (schema ∷ []) (first_module ∷ second_module ∷ []) privileges_on_positioned_changes-script 1000000) ≡ Ok (
     codes "M1.INS 00000 0\n"
     ++ codes "M2.OPX 00000 0\n"
     ++ codes "M2.FEX 00000 0 K=1\n"
@@ -66,7 +67,7 @@ abbrev update_without_privilege-script : Bytes
 update_without_privilege-script =
     codes "CALL B.P;"
 
-update_without_privilege : answered (schema ∷ []) (update_without_privilege-module-0 ∷ []) update_without_privilege-script 1000000 ≡ Answer.reported (
+update_without_privilege : reported (answered (schema ∷ []) (update_without_privilege-module-0 ∷ []) update_without_privilege-script 1000000) ≡ Ok (
     codes "B.P 42000 -4200\n")
 unfolding computed
 update_without_privilege = refl
@@ -83,7 +84,7 @@ abbrev delete_without_privilege-script : Bytes
 delete_without_privilege-script =
     codes "CALL B.P;"
 
-delete_without_privilege : answered (schema ∷ []) (delete_without_privilege-module-0 ∷ []) delete_without_privilege-script 1000000 ≡ Answer.reported (
+delete_without_privilege : reported (answered (schema ∷ []) (delete_without_privilege-module-0 ∷ []) delete_without_privilege-script 1000000) ≡ Ok (
     codes "B.P 42000 -4200\n")
 unfolding computed
 delete_without_privilege = refl
@@ -100,7 +101,7 @@ abbrev update_of_a_granted_column-script : Bytes
 update_of_a_granted_column-script =
     codes "CALL B.P;"
 
-update_of_a_granted_column : answered (schema ∷ []) (update_of_a_granted_column-module-0 ∷ []) update_of_a_granted_column-script 1000000 ≡ Answer.reported (
+update_of_a_granted_column : reported (answered (schema ∷ []) (update_of_a_granted_column-module-0 ∷ []) update_of_a_granted_column-script 1000000) ≡ Ok (
     codes "B.P 02000 100\n")
 unfolding computed
 update_of_a_granted_column = refl

@@ -1,7 +1,8 @@
 -- Division by zero (22012). Printed by tools/print_runs.py from sq_cases/data/runs-accepted.txt.
-use Rattle.std.specs.Prelude.{◌≡◌, [], ◌∷◌, ◌++◌, codes, refl}
+use Rattle.std.specs.Prelude.{◌≡◌, [], ◌∷◌, ◌++◌, codes, Ok, refl}
 use Rattle.sq_meaning.specs.Report.{Bytes}
-use Rattle.sq_worked.specs.Answer.{Answer, answered}
+use Rattle.sq_run.specs.Answer.{answered}
+use Rattle.sq_worked.specs.Reported.{reported}
 use Rattle.sq_worked.proofs.Computed.{computed}
 
 -- ---- accepted 48
@@ -91,7 +92,7 @@ accepted_48-script =
     ++ codes "T ; Table u4  . D\n"
     ++ codes "; "
 
-accepted_48 : answered (accepted_48-schema-0 ∷ accepted_48-schema-1 ∷ accepted_48-schema-2 ∷ []) (accepted_48-module-0 ∷ []) accepted_48-script 3 ≡ Answer.reported (
+accepted_48 : reported (answered (accepted_48-schema-0 ∷ accepted_48-schema-1 ∷ accepted_48-schema-2 ∷ []) (accepted_48-module-0 ∷ []) accepted_48-script 3) ≡ Ok (
     codes "M0.INS1 00000 0\n"
     ++ codes "M0.INS0 00000 0\n"
     ++ codes "M0.SEL0 22012 -2212\n"
@@ -202,7 +203,7 @@ accepted_131-script =
     ++ codes "TABLE U1.D; TABLE U1.G;\n"
     ++ codes "TABLE U2.H; TABLE U2.E; "
 
-accepted_131 : answered (accepted_131-schema-0 ∷ []) (accepted_131-module-0 ∷ accepted_131-module-1 ∷ []) accepted_131-script 1000000 ≡ Answer.reported (
+accepted_131 : reported (answered (accepted_131-schema-0 ∷ []) (accepted_131-module-0 ∷ accepted_131-module-1 ∷ []) accepted_131-script 1000000) ≡ Ok (
     codes "M0.INS0 22003 -2203\n"
     ++ codes "M0.INS1 00000 0\n"
     ++ codes "M0.INS1 00000 0\n"
