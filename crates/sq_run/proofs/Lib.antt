@@ -154,3 +154,6 @@ pub mod Accepts
 pub mod NeverBoth
 pub mod Refuses
 pub mod Scripts
+pub mod CommitLaws
+pub mod CalledAs
+pub mod IntegrityLaws

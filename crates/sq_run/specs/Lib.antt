@@ -3,3 +3,5 @@ pub mod Kept
 pub mod Keyed
 pub mod Refused
 pub mod Written
+pub mod Committed
+pub mod Integrity
