@@ -157,3 +157,4 @@ pub mod Scripts
 pub mod CommitLaws
 pub mod CalledAs
 pub mod IntegrityLaws
+pub mod ShownRowLaws

@@ -5,3 +5,4 @@ pub mod Refused
 pub mod Written
 pub mod Committed
 pub mod Integrity
+pub mod ShownRows
