@@ -19,7 +19,7 @@ use Rattle.sq_meaning.specs.Change.{Setting, Which, base_at, check_options_met, 
 use Rattle.sq_meaning.specs.Constraints.{constraints_checked, demanded}
 use Rattle.sq_run.proofs.Outcomes.{ok_same, ok_then}
 
-completed_is : (m : Setting) (target : Target) (t : BaseTable) (rows : List Row) (changed : Table) (after : Content)
+pub completed_is : (m : Setting) (target : Target) (t : BaseTable) (rows : List Row) (changed : Table) (after : Content)
     → completed m target t rows changed ≡ Ok after → after ≡ with_table m.content target.place changed
 completed_is m target t rows changed after e =
     let met = ok_then (check_options_met m target rows) (λ _. completed_with m t (with_table m.content target.place changed)) after e in

@@ -24,7 +24,7 @@ use Rattle.sq_meaning.specs.WellFormedStatement.{is_well_formed_procedure, orien
 abbrev state_in : Option CursorEntry → CursorState
 state_in found = unwrap_or (option_map (λ c. c.state) found) CursorState.closed
 
-set_stays : (cs : List CursorEntry) (text name : Name) (x old : CursorState) → state_in (find (is_entry text name) cs) ≡ old → is_open old ≡ true
+pub set_stays : (cs : List CursorEntry) (text name : Name) (x old : CursorState) → state_in (find (is_entry text name) cs) ≡ old → is_open old ≡ true
     → state_in (find (is_entry text name) (map (set_cursor text name x) cs)) ≡ x
 set_stays [] text name x old e there = let never : false ≡ true = ap is_open e ∙ there in cc
 set_stays (c ∷ cs) text name x old e there = split (λ same. set_stays cs text name x old same there) (is_entry text name c) refl

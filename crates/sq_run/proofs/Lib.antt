@@ -155,3 +155,7 @@ pub mod ReadTexts
 pub mod Answered
 pub mod AcceptedTexts
 pub mod Accepts
+pub mod CommitLaws
+pub mod CalledAs
+pub mod IntegrityLaws
+pub mod ShownRowLaws

@@ -4,3 +4,6 @@ pub mod Answers
 pub mod Kept
 pub mod Keyed
 pub mod Refused
+pub mod Committed
+pub mod Integrity
+pub mod ShownRows
