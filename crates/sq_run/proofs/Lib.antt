@@ -154,3 +154,7 @@ pub mod Accepts
 pub mod NeverBoth
 pub mod Refuses
 pub mod Scripts
+pub mod BesideLaws
+pub mod Fieldless
+pub mod OneTree
+pub mod ProcedureNumbers

@@ -1,5 +1,8 @@
 pub mod Accepted
-pub mod Kept
+pub mod Beside
 pub mod Keyed
+pub mod Kept
+pub mod Processor
 pub mod Refused
+pub mod Stored
 pub mod Written
