@@ -187,21 +187,19 @@ module _ (texts : List SchemaText) (modules : List ModuleText) (row_numbers : �
       = some_same h.procedure f.procedure (sym h.is_procedure ∙ (λ i. procedure_named (text i) (f.is_named i)) ∙ procedure_found modules o.admitted f.text f.among f.procedure f.is_item) in
       h.accepted ∙ (λ i. is_well_formed_procedure (elements_of texts) (text i) (procedure i))
 
-  -- A call of a procedure that is there, with values that fit it, is the machine's step.
-  pub call_is_step : (s : State) (x : by_name.State) → Agrees texts row_numbers schemas declared s x → (procedures : List Procedure)
-      → procedures ≡ procedures_of declared program.procedures.entries → («module» name : Name) (number : ℕ)
-      → procedure_number procedures «module» name ≡ Some number → (values : List Value) → fits_at procedures number values ≡ true
+  -- A call of the procedure with this number, with values that fit it, is the machine's step by that name.
+  pub numbered_is_step : (s : State) (x : by_name.State) → Agrees texts row_numbers schemas declared s x → (procedures : List Procedure)
+      → procedures ≡ procedures_of declared program.procedures.entries → («module» name : Name) (number : ℕ) (q : Procedure)
+      → slice_get procedures number ≡ Some q → is_procedure «module» name q ≡ true → (values : List Value) → fits_at procedures number values ≡ true
       → (d : Done) (after : State) → MayCall schemas (kind_at procedures number) values s d after
       → Agrees texts row_numbers schemas declared after (stepped machine x (record { in_module = «module»; procedure = name; values = values }))
       × SameReply d (replied machine x (record { in_module = «module»; procedure = name; values = values }))
-  call_is_step s x agrees procedures are «module» name number called_as values fit_them d after may =
-      let all = procedures_of declared program.procedures.entries in
-      let there = position_at (is_procedure «module» name) all number (subst (λ ps. procedure_number ps «module» name ≡ Some number) are called_as) in
-      let found = unmapped_at (procedure_of declared) program.procedures.entries number there.0 there.1 in
+  numbered_is_step s x agrees procedures are «module» name number q at named values fit_them d after may =
+      let found = unmapped_at (procedure_of declared) program.procedures.entries number q (ap (λ ps. slice_get ps number) (sym are) ∙ at) in
       let e : ProcedureName × BoundProcedure = found.0 in
-      let is : procedure_of declared e ≡ there.0 = found.2 in
-      let here : slice_get procedures number ≡ Some (procedure_of declared e) = ap (λ ps. slice_get ps number) are ∙ there.1 ∙ ap (λ q. Some q) (sym is) in
-      let names = and_parts _ _ (subst (λ q. is_procedure «module» name q ≡ true) (sym is) there.2) in
+      let is : procedure_of declared e ≡ q = found.2 in
+      let here : slice_get procedures number ≡ Some (procedure_of declared e) = at ∙ ap (λ p. Some p) (sym is) in
+      let names = and_parts _ _ (subst (λ p. is_procedure «module» name p ≡ true) (sym is) named) in
       let f : IsFromTexts known modules declared e = each_of_all (IsFromTexts known modules declared) program.procedures.entries o.is_of.procedures number e found.1 in
       let many = as_many e.1.parameters values (subst (λ z. option_map_or (λ (q : Procedure). fit q.parameters values) z false ≡ true) here fit_them) in
       let both = called s x agrees number e found.1 f values many (exactly number e found.1 f)
@@ -225,3 +223,14 @@ module _ (texts : List SchemaText) (modules : List ModuleText) (row_numbers : �
         },
         subst (λ z. SameReply d z.1) (sym out) both.1,
       )
+
+  -- So is a call of a procedure that is found by its name.
+  pub call_is_step : (s : State) (x : by_name.State) → Agrees texts row_numbers schemas declared s x → (procedures : List Procedure)
+      → procedures ≡ procedures_of declared program.procedures.entries → («module» name : Name) (number : ℕ)
+      → procedure_number procedures «module» name ≡ Some number → (values : List Value) → fits_at procedures number values ≡ true
+      → (d : Done) (after : State) → MayCall schemas (kind_at procedures number) values s d after
+      → Agrees texts row_numbers schemas declared after (stepped machine x (record { in_module = «module»; procedure = name; values = values }))
+      × SameReply d (replied machine x (record { in_module = «module»; procedure = name; values = values }))
+  call_is_step s x agrees procedures are «module» name number called_as values fit_them d after may =
+      let there = position_at (is_procedure «module» name) procedures number called_as in
+      numbered_is_step s x agrees procedures are «module» name number there.0 there.1 there.2 values fit_them d after may

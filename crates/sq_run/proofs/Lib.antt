@@ -159,3 +159,7 @@ pub mod CommitLaws
 pub mod CalledAs
 pub mod IntegrityLaws
 pub mod ShownRowLaws
+pub mod BesideLaws
+pub mod Fieldless
+pub mod OneTree
+pub mod ProcedureNumbers

@@ -26,7 +26,6 @@ use Rattle.sq_bound.specs.WellFormed.{IsStatement, kinds_of_parameters}
 use Rattle.sq_binder.specs.declared.stop.Fault.{Fault}
 use Rattle.sq_bound.specs.declared.names.ParameterDesc.{ParameterDesc}
 use Rattle.sq_bound.specs.declared.statement.BoundStatement.{BoundStatement}
-use Rattle.sq_binding.proofs.Names.{position_at}
 use Rattle.sq_module.specs.Program.{FitsProcedure, OpensWellFormed, ProcedureIsWellFormed, ProcedureOpens, kinds_of_cursors}
 use Rattle.sq_module.specs.Written.{Declare, IsFromTexts, IsStatementIn}
 use Rattle.sq_module.specs.declared.program.BoundProcedure.{BoundProcedure}
@@ -40,7 +39,7 @@ use Rattle.sq_session.specs.Kind.{fits_at, kind_at, kind_of}
 use Rattle.sq_session.specs.Metered.{CallReads}
 use Rattle.sq_session.specs.Parameter.{started_values}
 use Rattle.sq_session.specs.Schemas.{Schemas, columns_of}
-use Rattle.sq_session.specs.Session.{Session, is_procedure, procedure_number, procedure_of, procedures_of}
+use Rattle.sq_session.specs.Session.{Session, is_procedure, procedure_of, procedures_of}
 use Rattle.sq_session.specs.State.{State}
 use Rattle.sq_session.specs.Step.{MayCall}
 use Rattle.sq_session.specs.declared.reply.Done.{Done}
@@ -69,7 +68,9 @@ pub record IsCall (texts : List SchemaText) (modules : List ModuleText) (s : Ses
   pub procedure : procedure_named m name ≡ Some p
   pub sound : is_well_formed_procedure (elements_of texts) m p ≡ true
   pub number : ℕ
-  pub numbered : procedure_number s.procedures «module» name ≡ Some number
+  pub called : session.Procedure
+  pub numbered : slice_get s.procedures number ≡ Some called
+  pub named : is_procedure «module» name called ≡ true
   pub fits : fits_at s.procedures number values ≡ true
   pub may : MayCall s.schemas (kind_at s.procedures number) values s.state (done reply) after
   pub reads : CallReads (kind_at s.procedures number) values s.state reply.reads
@@ -175,13 +176,10 @@ module _ (texts : List SchemaText) (modules : List ModuleText) (known : KnownTab
   pub bound_call : (s : Session) → s.procedures ≡ procedures_of declared program.procedures.entries → (m : ModuleText) (p : Procedure)
       → (values : List Value) (reply : Reply) (after : State) → (c : IsCall texts modules s m p values reply after) → IsBoundCall s m p values c.number
   bound_call s are m p values reply after c =
-      let all = procedures_of declared program.procedures.entries in
-      let there = position_at (is_procedure c.«module» c.name) all c.number (subst (λ ps. procedure_number ps c.«module» c.name ≡ Some c.number) are c.numbered) in
-      let found = unmapped_at (procedure_of declared) program.procedures.entries c.number there.0 there.1 in
+      let found = unmapped_at (procedure_of declared) program.procedures.entries c.number c.called (ap (λ ps. slice_get ps c.number) (sym are) ∙ c.numbered) in
       let e : ProcedureName × BoundProcedure = found.0 in
-      let here : slice_get s.procedures c.number ≡ Some (procedure_of declared e)
-      = subst (λ q. slice_get s.procedures c.number ≡ Some q) (sym found.2) (subst (λ ps. slice_get ps c.number ≡ Some there.0) (sym are) there.1) in
-      let names = and_parts _ _ (subst (λ q. is_procedure c.«module» c.name q ≡ true) (sym found.2) there.2) in
+      let here : slice_get s.procedures c.number ≡ Some (procedure_of declared e) = c.numbered ∙ ap (λ q. Some q) (sym found.2) in
+      let names = and_parts _ _ (subst (λ q. is_procedure c.«module» c.name q ≡ true) (sym found.2) c.named) in
       let text : module_named modules e.0.«module» ≡ Some m
       = subst (λ n. module_named modules n ≡ Some m) (same_text c.«module» e.0.«module» (sym names.0)) c.text in
       let procedure : procedure_named m e.0.name ≡ Some p = subst (λ n. procedure_named m n ≡ Some p) (same_text c.name e.0.name (sym names.1)) c.procedure in

@@ -105,7 +105,7 @@ none_named user name [] ds h = tt
 none_named user name (n ∷ ns) [] h = tt
 none_named user name (n ∷ ns) (d ∷ ds) h = ((λ i. nat_list_eq_equiv.symm n.user user i && nat_list_eq_equiv.symm n.name name i) ∙ h.0, none_named user name ns ds h.1)
 
-base_missing : (texts : List SchemaText) (user name : Name) → table_number (declared_tables texts) user name ≡ None
+pub base_missing : (texts : List SchemaText) (user name : Name) → table_number (declared_tables texts) user name ≡ None
     → base_place (elements_of texts) (record { user = user; name = name }) ≡ None
 base_missing texts user name none =
     none_there (λ (t : BaseTable). same_table t.name (record { user = user; name = name })) (base_tables (elements_of texts))

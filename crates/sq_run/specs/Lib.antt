@@ -1,9 +1,12 @@
 pub mod Accepted
 pub mod Answer
 pub mod Answers
-pub mod Kept
-pub mod Keyed
-pub mod Refused
+pub mod Beside
 pub mod Committed
 pub mod Integrity
+pub mod Keyed
+pub mod Kept
+pub mod Processor
+pub mod Refused
 pub mod ShownRows
+pub mod Stored

@@ -11,8 +11,11 @@
 //! This crate is above the code, so a new law proves no code again but its own.
 #![tactic(auto)]
 
+mod counterpart;
+mod machine;
 mod processor;
 
+pub use machine::Processor;
 pub use processor::run;
 pub use sq_perform::{
     LexFaultKind, Limits, ModuleFault, Out, OutFault, OutOf, Refusal, RefusalName, RunFault,
