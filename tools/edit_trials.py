@@ -3,11 +3,11 @@
 
 edit_trials.py [--all] [CRATE..]    tries the edits with no stamp of today's texts, or all; of these crates, or of each
 
-Each is tried in a copy of its crate, over the work that the crate's proof left, and the functions of the changed files alone are
-checked. Edits of different functions are put in together: a function is proved of the contracts of those that it calls, so each
-changed function stands or falls by itself. An edit counts as refused by such a run only if the checker names a goal or an error in the
-proof of the changed function itself; the others are tried again, at last alone. An edit that passes alone is NOT REFUSED only if the
-whole crate is proved with it.
+Each is tried in a copy of its proved crate, and the changed functions alone are checked, over the work that earlier checks left. Edits
+of different functions are put in together: a function is proved of the contracts of those that it calls, so each changed function
+stands or falls by itself. An edit counts as refused by such a run only if the checker names a goal or an error in the proof of the
+changed function itself; the others are tried again, at last alone. An edit that passes alone is NOT REFUSED only if the whole crate
+is proved with it.
 """
 
 import functools
@@ -58,7 +58,7 @@ def once_a_folder(method):
 
 
 class Room:
-    """A copy of a proved crate in which edits are put, with the work that its proof left."""
+    """A copy of a proved crate in which edits are put, with the work that earlier checks left."""
 
     def __init__(self, crate, folder):
         self.crate, self.folder, self.kept = crate, Path(folder), Path(crate.folder) / "out/incremental"
@@ -68,9 +68,9 @@ class Room:
         for library in self.crate.below():
             if library.build_rlib(ONE_JOB, anew=False):
                 return f"{library.name} is not proved"
-        if self.kept.is_dir() and self.crate.is_built():
-            return None
         self.kept.mkdir(parents=True, exist_ok=True)
+        if self.crate.is_built():
+            return None
         ran = self.run(self.crate.folder, self.kept)
         return None if ran.returncode == 0 else f"it is not proved: {ran.stdout[-300:]}"
 
@@ -78,20 +78,26 @@ class Room:
         """Runs the checker on the crate with these texts in the place of its own."""
         copy, kept = self.folder / "crate", self.folder / "kept"
         shutil.rmtree(copy, ignore_errors=True)
-        shutil.rmtree(kept, ignore_errors=True)
         for part in PARTS:
             if os.path.isdir(f"{self.crate.folder}/{part}"):
                 shutil.copytree(f"{self.crate.folder}/{part}", copy / part)
         for path, text in texts.items():
             (copy / path).write_text(text, encoding="utf-8")
-        # links are enough: the checker never changes a kept file, it puts a new one in its place
-        subprocess.run(["cp", "-al", self.kept, kept], check=True)
+        # links are enough: the checker never changes a kept file, it puts a new one in its place. What one run proves, the next takes
+        if not kept.is_dir():
+            subprocess.run(["cp", "-al", self.kept, kept], check=True)
         return self.run(copy, kept, *flags)
 
     def run(self, folder, kept, *flags):
         words = [tool().rtlib.RATTLE, "check", *self.crate.words(ONE_JOB, keeps=False), "--incremental", str(kept), *flags]
         how = {"stdin": subprocess.DEVNULL, "stdout": subprocess.PIPE, "stderr": subprocess.STDOUT, "errors": "replace", "text": True}
         return subprocess.run([*tool().rtlib.guarded(), *words], cwd=folder, **how)
+
+
+def functions_of(edits):
+    """The flags that check the functions that these edits change alone; none, if one of them changes something else."""
+    functions = [function_of(edit) for edit in edits]
+    return [word for it in functions for word in ("--only", it.path())] if all(functions) else []
 
 
 def modules_of(edits):
@@ -107,15 +113,22 @@ def modules_of(edits):
 
 @dataclass(frozen=True)
 class Function:
-    """A function that an edit changes: its module, its type if it is a method, its name, and its cycle of calls, if it is in one."""
+    """A function that an edit changes: its module, its type and trait if it is a method, its name, and its cycle of calls, if it
+    is in one."""
 
     module: str
     type: str
+    trait: str
     name: str
     cycle: str
 
+    def path(self):
+        """Its path below the crate, as the checker writes it: it joins the names of a type and of a trait."""
+        method_of = f"{self.type}{self.trait}::" if self.type else ""
+        return self.module.partition("::")[2] + method_of + self.name
+
     def is_at(self, path):
-        """Whether this path, as the checker writes it, is the function's. It joins the names of a type and of a trait."""
+        """Whether this path, as the checker writes it, is the function's."""
         parts = path.split("::")
         return parts[-1] == self.name and parts[-2].startswith(self.type) if self.type else path == self.module + self.name
 
@@ -139,7 +152,8 @@ def function_of(edit):
         return None
     cycle = re.search(r"#\[cycle\((\w+)\)\]", item)
     module = path.removeprefix("src/").removesuffix(".rt").replace("/", "::")
-    return Function(f"{edit.crate}::{module}::", impl_of(item)[1] or "", names[0], cycle[1] if cycle else "")
+    trait, of = impl_of(item)
+    return Function(f"{edit.crate}::{module}::", of or "", trait or "", names[0], cycle[1] if cycle else "")
 
 
 def nothing_said(texts, ran):
@@ -186,9 +200,11 @@ def alone(room, edit):
     texts, why = tool().edited(edit.text, room.crate.folder)
     if why:
         return None, f"BAD EDIT: {why}"
-    words = modules_of([edit])
-    ran = room.checked(texts, *words)
-    if words and ran.returncode == 0:
+    for words in filter(None, (functions_of([edit]), modules_of([edit]))):
+        ran = room.checked(texts, *words)
+        if ran.returncode == 1:
+            break
+    else:
         ran = room.checked(texts)
     why = nothing_said(texts, ran)
     if why:
@@ -230,7 +246,7 @@ def together(room, edits):
     for change in [change for edit in edits for change in edit.changes]:
         text = texts.get(change.path) or (Path(room.crate.folder) / change.path).read_text(encoding="utf-8")
         texts[change.path] = text.replace(change.old, change.new)
-    ran = room.checked(texts, *modules_of(edits))
+    ran = room.checked(texts, *functions_of(edits))
     why = nothing_said(texts, ran)
     if why:
         print(f"edits: {room.crate.name}: {len(edits)} together say nothing: {why}", flush=True)
