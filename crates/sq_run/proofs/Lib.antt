@@ -158,3 +158,5 @@ pub mod CommitLaws
 pub mod CalledAs
 pub mod IntegrityLaws
 pub mod ShownRowLaws
+pub mod DefaultLaws
+pub mod ConfinedLaws

@@ -6,3 +6,5 @@ pub mod Written
 pub mod Committed
 pub mod Integrity
 pub mod ShownRows
+pub mod Defaults
+pub mod Confined
