@@ -268,14 +268,14 @@ goes_change : (r : Running) (x : Statement) (behind : State) (name : TableName) 
 goes_change r x behind name (Ok content) h = Course.one name (h content refl)
 goes_change r x behind name (Err s) h = Course.stays refl
 
-abbrev WellFormed : Running → Statement → Type 0
+abbrev pub WellFormed : Running → Statement → Type 0
 WellFormed r x =
     is_well_formed (judged_by (surroundings r) (known_in (surroundings r))) (statement_sites (surroundings r) x) ≡ true
 
-abbrev NotMissing : Running → Site → Type 0
+abbrev pub NotMissing : Running → Site → Type 0
 NotMissing r x = privilege_missing (holds r.program.elements r.in_module.authorization) x ≡ false
 
-not_missing : (r : Running) (x : Statement) → WellFormed r x → AllByRecursion (NotMissing r) (statement_sites (surroundings r) x)
+pub not_missing : (r : Running) (x : Statement) → WellFormed r x → AllByRecursion (NotMissing r) (statement_sites (surroundings r) x)
 not_missing r x well = none_missing (judged_by (surroundings r) (known_in (surroundings r))) (statement_sites (surroundings r) x) well
 
 abbrev name_in : Running → Name

@@ -163,3 +163,5 @@ pub mod BesideLaws
 pub mod Fieldless
 pub mod OneTree
 pub mod ProcedureNumbers
+pub mod DefaultLaws
+pub mod ConfinedLaws

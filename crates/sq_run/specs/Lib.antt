@@ -3,9 +3,11 @@ pub mod Answer
 pub mod Answers
 pub mod Beside
 pub mod Committed
+pub mod Confined
+pub mod Defaults
 pub mod Integrity
-pub mod Keyed
 pub mod Kept
+pub mod Keyed
 pub mod Processor
 pub mod Refused
 pub mod ShownRows
