@@ -103,7 +103,7 @@ WORDS = (
     ("run --script c --script d",
      "error: the argument '--script <F>' cannot be used multiple times\n\nUsage: sqmod run [OPTIONS] --script <F>\n" + SEE_HELP),
     ("walk", "error: unrecognized subcommand 'walk'\n\nUsage: sqmod <COMMAND>\n" + SEE_HELP),
-    ("", "error: 'sqmod' requires a subcommand but one was not provided\n  [subcommands: run, check, explain, test, bind-c, bind-cobol, help]\n\n"
+    ("", "error: 'sqmod' requires a subcommand but one was not provided\n  [subcommands: run, check, explain, test, bind-c, bind-cobol, new, help]\n\n"
          "Usage: sqmod <COMMAND>\n" + SEE_HELP),
     ("--help", """\
 Processes SQL-92 schemas and modules, and runs a script of procedure calls
@@ -117,6 +117,7 @@ Commands:
   test        Runs the cases below folders, and says which come to what they want
   bind-c      Prints a header for C with a function for each procedure
   bind-cobol  Prints a copybook for COBOL with a paragraph for each procedure
+  new         Writes a schema, a module and a script to begin with
   help        Print this message or the help of the given subcommand(s)
 
 Options:
