@@ -32,10 +32,10 @@ use std::alloc::Global;
 
 /// What a statement changes.
 #[derive(Drop)]
-pub(crate) struct Changed {
-    pub(crate) changes: Vec<Change>,
+pub struct Changed {
+    pub changes: Vec<Change>,
     /// The keys in which rows may lose their values.
-    pub(crate) lost_keys: Vec<usize>,
+    pub lost_keys: Vec<usize>,
 }
 
 /// Makes the changes of a base table. In this order: check options, constraints on one row, keys, references.

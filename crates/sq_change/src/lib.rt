@@ -17,5 +17,9 @@ mod statement;
 mod storing;
 mod target;
 
-pub use statement::{delete, insert, update};
+pub use complete::Changed;
+pub use row::{is_null, row_put, values_in};
+pub use setting::Setting;
+pub use statement::{delete, deleted, insert, inserted, update, updated};
 pub use storing::assigned;
+pub use target::{leaf_under, rows_changed};

@@ -18,7 +18,7 @@ use sq_value::{Key, Row, Value};
 use std::alloc::Global;
 
 /// The row that a change puts in its table.
-pub(crate) fn row_put(change: &Change) -> Option<&Row>
+pub fn row_put(change: &Change) -> Option<&Row>
     ensures { MatchOption result (rows_put (change.now ∷ []) ≡ [])
         (λ row. rows_put (change.now ∷ []) ≡ row.now ∷ []) }
 {
@@ -48,7 +48,7 @@ pub(crate) fn row_changed<'a, S: Store>(
 
 /// A row's values in some columns, unless one is null.
 #[tactic(auto, using(sq_store::proofs::Sound::HasColumns_test))]
-pub(crate) fn values_in(alloc: Global, row: &Row, columns: &[usize]) -> Result<Option<Key>, Fault>
+pub fn values_in(alloc: Global, row: &Row, columns: &[usize]) -> Result<Option<Key>, Fault>
     requires { has_columns columns.now row.now ≡ true }
     ensures values { IfOk result (λ values. values ≡ values_in row.now columns.now) }
     ensures memory { IfErr result (λ fault. fault ≡ Fault.NoMemory) }
@@ -74,7 +74,7 @@ pub(crate) fn has_null(row: &[Value], columns: &[usize]) -> bool
     false
 }
 
-pub(crate) fn is_null(value: &Value) -> bool
+pub fn is_null(value: &Value) -> bool
     ensures { result ≡ is_null value.now }
 {
     match value {

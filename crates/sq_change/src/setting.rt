@@ -21,16 +21,16 @@ use std::alloc::Global;
 
 /// What a statement reads: what names mean, the tables as they are before it, and its inputs.
 #[derive(Drop)]
-pub(crate) struct Setting<'a, N: Names, S: Store> {
-    pub(crate) alloc: Global,
-    pub(crate) names: &'a N,
-    pub(crate) store: &'a S,
-    pub(crate) user: Name,
-    pub(crate) parameters: &'a [Value],
+pub struct Setting<'a, N: Names, S: Store> {
+    pub alloc: Global,
+    pub names: &'a N,
+    pub store: &'a S,
+    pub user: Name,
+    pub parameters: &'a [Value],
 }
 
 impl<'a, N: Names, S: Store> Setting<'a, N, S> {
-    pub(crate) fn new(
+    pub fn new(
         alloc: Global,
         names: &'a N,
         store: &'a S,
@@ -52,7 +52,7 @@ impl<'a, N: Names, S: Store> Setting<'a, N, S> {
     }
 
     /// The user and the parameters' values.
-    pub(crate) fn inputs(&self) -> Inputs<'a>
+    pub fn inputs(&self) -> Inputs<'a>
         ensures user { result.user ≡ self.now.user }
         ensures parameters { result.parameters.now ≡ self.now.parameters.now }
     {
@@ -63,7 +63,7 @@ impl<'a, N: Names, S: Store> Setting<'a, N, S> {
     }
 
     /// The value of an expression, which may read a row of a base table.
-    pub(crate) fn value(&self, expr: &BoundExpr, row: Option<&Row>) -> Result<Value, Fault>
+    pub fn value(&self, expr: &BoundExpr, row: Option<&Row>) -> Result<Value, Fault>
         ensures { HasValueOn result expr.now
             (line_of (option_copied row.entry)) self.now.parameters.now self.now.user }
     {
@@ -71,7 +71,7 @@ impl<'a, N: Names, S: Store> Setting<'a, N, S> {
     }
 
     /// Whether a condition holds of a row of a base table.
-    pub(crate) fn truth(&self, condition: &BoundCond, row: &Row) -> Result<Truth, Fault>
+    pub fn truth(&self, condition: &BoundCond, row: &Row) -> Result<Truth, Fault>
         requires { FindsCond (N.base_tables self.now.names.now)
             (N.column_kinds self.now.names.now) condition.now }
         ensures truth { (parameters : List Kind) (tables : TablePlace → Outcome (List (List AnyValue)))

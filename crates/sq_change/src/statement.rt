@@ -61,7 +61,7 @@ pub fn insert<N: Names, S: Store>(
 
 /// The new rows of an insert statement, which need as many row numbers (own rule).
 #[tactic(auto, using(crate::proofs::Applied::fewer_inserted))]
-fn inserted<N: Names, S: Store>(
+pub fn inserted<N: Names, S: Store>(
     setting: &Setting<'_, N, S>,
     insert: &BoundInsert,
     meter: &mut Meter,
@@ -136,7 +136,7 @@ pub fn update<N: Names, S: Store>(
 }
 
 /// The changed rows of an update statement.
-fn updated<N: Names, S: Store>(
+pub fn updated<N: Names, S: Store>(
     setting: &Setting<'_, N, S>,
     update: &BoundUpdate,
     on: Option<u64>,
@@ -232,7 +232,7 @@ pub fn delete<N: Names, S: Store>(
 }
 
 /// The removed rows of a delete statement.
-fn deleted<N: Names, S: Store>(
+pub fn deleted<N: Names, S: Store>(
     setting: &Setting<'_, N, S>,
     target: &ChangeTarget,
     on: Option<u64>,

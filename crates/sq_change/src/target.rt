@@ -27,7 +27,7 @@ use sq_value::{Row, copy_row};
 use std::alloc::{AllocError, Global};
 
 /// What is under the table that a statement changes.
-pub(crate) fn leaf_under(target: &ChangeTarget) -> &Leaf
+pub fn leaf_under(target: &ChangeTarget) -> &Leaf
     ensures { result.now ≡ under target.now }
 {
     match target {
@@ -97,7 +97,7 @@ fn only(alloc: Global, number: u64) -> Result<Vec<u64>, Fault>
 
 /// The rows, with their numbers: those that the search condition keeps, of which there has to be one, or the row that a cursor
 /// is on.
-pub(crate) fn rows_changed<'a, N: Names, S: Store>(
+pub fn rows_changed<'a, N: Names, S: Store>(
     setting: &Setting<'a, N, S>,
     target: &ChangeTarget,
     on: Option<u64>,

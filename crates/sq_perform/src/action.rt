@@ -5,14 +5,14 @@ use sq_value::Value;
 
 /// A script item whose names are looked up and whose values are read.
 #[derive(Debug, Drop)]
-pub(crate) enum Action {
+pub enum Action {
     Call(CallAction),
     Show(ShowAction),
 }
 
 /// A call. `procedure` is the number of the procedure in the session.
 #[derive(Debug, Drop)]
-pub(crate) struct CallAction {
+pub struct CallAction {
     pub module: Name,
     pub name: Name,
     pub procedure: usize,
@@ -21,7 +21,7 @@ pub(crate) struct CallAction {
 
 /// A request to show the base table at the place `table`.
 #[derive(Clone, Copy, Debug)]
-pub(crate) struct ShowAction {
+pub struct ShowAction {
     pub user: Name,
     pub name: Name,
     pub table: usize,

@@ -108,7 +108,7 @@ fn perform_all<S: Store, W: Out>(
 }
 
 /// Performs an item, and writes its lines in the place of those before.
-fn perform<S: Store>(
+pub fn perform<S: Store>(
     alloc: Global,
     session: &mut Session<S>,
     action: &Action,

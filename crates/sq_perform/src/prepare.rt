@@ -62,7 +62,7 @@ pub fn open_session<S: Store>(
 }
 
 /// What the script asks a session for.
-pub(crate) fn read_script<S: Store>(
+pub fn read_script<S: Store>(
     alloc: Global,
     session: &Session<S>,
     script: &[u8],

@@ -40,7 +40,7 @@ fn write_number(alloc: Global, number: Decimal, line: &mut Vec<u8>) -> Result<()
 }
 
 /// Adds a value as it is spelled: digits, a quoted text or `NULL`.
-fn write_value(alloc: Global, value: &Value, line: &mut Vec<u8>) -> Result<(), AllocError>
+pub fn write_value(alloc: Global, value: &Value, line: &mut Vec<u8>) -> Result<(), AllocError>
     ensures { OnOk result (line.new.items ≡ line.old.items ++ report.value_codes value.now) }
 {
     match value {
@@ -77,7 +77,7 @@ fn write_names(first: Name, second: Name, line: &mut Vec<u8>) -> Result<(), Allo
 }
 
 /// Adds the line of a call.
-pub(crate) fn write_call(
+pub fn write_call(
     alloc: Global,
     call: &CallAction,
     reply: &Reply,
@@ -107,7 +107,7 @@ fn write_outputs(alloc: Global, outputs: &[Output], line: &mut Vec<u8>) -> Resul
 }
 
 /// Adds the lines of a table: its names, how many rows it has, and the rows.
-pub(crate) fn write_table<S: Store>(
+pub fn write_table<S: Store>(
     alloc: Global,
     session: &Session<S>,
     shown: &ShowAction,

@@ -47,7 +47,7 @@ pub struct RowsCursor {
 }
 
 /// The number of the row that an updatable cursor is on.
-pub(crate) fn number_on(cursor: &CursorState) -> Option<u64>
+pub fn number_on(cursor: &CursorState) -> Option<u64>
     ensures { result ≡ number_on cursor.now }
 {
     match cursor {
@@ -122,7 +122,7 @@ fn number_of(distance: Distance, values: &[Value]) -> i64
 }
 
 /// The row at a place, which counts from 1.
-pub(crate) fn row_at(rows: &[Row], place: usize) -> Option<&Row>
+pub fn row_at(rows: &[Row], place: usize) -> Option<&Row>
     ensures { option_copied result ≡ row_of rows.now place }
 {
     if place == 0 {

@@ -69,7 +69,7 @@ fn are_blanks(codes: &[u8]) -> bool
 }
 
 /// The values at which the parameters start.
-pub(crate) fn started_values(
+pub fn started_values(
     alloc: Global,
     parameters: &[ParameterDesc],
     values: &[Value],

@@ -9,7 +9,7 @@ use sq_value::Value;
 
 /// A row whose values are retrieved: all of them, or those in some columns.
 #[derive(Clone, Copy)]
-pub(crate) struct RetrievedRow<'a> {
+pub struct RetrievedRow<'a> {
     values: &'a [Value],
     columns: Option<&'a [usize]>,
     ghost there: { are_columns_of values.now columns ≡ true },
@@ -19,7 +19,7 @@ impl<'a> RetrievedRow<'a> {
     ghost use Rattle.sq_session.specs.Retrieved.{values_of};
 
     /// All values of a row.
-    pub(crate) fn whole(values: &'a [Value]) -> RetrievedRow<'a>
+    pub fn whole(values: &'a [Value]) -> RetrievedRow<'a>
         ensures { values_of result ≡ values.now }
     {
         RetrievedRow {
@@ -29,7 +29,7 @@ impl<'a> RetrievedRow<'a> {
     }
 
     /// The values of a row in some columns.
-    pub(crate) fn in_columns(values: &'a [Value], columns: &'a [usize]) -> RetrievedRow<'a>
+    pub fn in_columns(values: &'a [Value], columns: &'a [usize]) -> RetrievedRow<'a>
         requires { are_positions (length values.now) columns.now ≡ true }
         ensures { values_of result ≡ in_columns values.now columns.now }
     {
@@ -40,7 +40,7 @@ impl<'a> RetrievedRow<'a> {
     }
 
     /// The value at a place.
-    pub(crate) fn value(&self, place: usize) -> &'a Value
+    pub fn value(&self, place: usize) -> &'a Value
         requires { place < length (values_of self.now) }
         ensures { slice_get (values_of self.now) place ≡ Some result.now }
     {

@@ -33,7 +33,7 @@ impl<'a, S: Store> Model for TableRows<'a, S> {
 impl<'a, S: Store> TableRows<'a, S> {
     /// All rows of a table of a store.
     #[tactic(auto, using(sq_store::proofs::Walk::rows_from_zero))]
-    pub(crate) fn of(store: &'a S, table: usize) -> TableRows<'a, S>
+    pub fn of(store: &'a S, table: usize) -> TableRows<'a, S>
         requires { table < length (S.content_now store.now) }
         ensures { result ≡ (table_at (S.content_now store.now) table).rows }
     {

@@ -16,12 +16,13 @@ ghost use Rattle.sq_module.specs.Program.{FitsProgram, ProgramIsWellFormed, decl
 ghost use Rattle.sq_module.specs.Computed.{IsProgramOf};
 ghost use Rattle.sq_module.specs.Written.{IsOfTexts};
 ghost use Rattle.sq_session.specs.Schemas.{schemas_of};
-ghost use Rattle.sq_session.specs.Session.{IsOfModules, MayStart, names_of, procedure_number, procedures_of, rows_named};
+ghost use Rattle.sq_session.specs.Session.{IsOfModules, MayStart, SessionIsWhole, names_of, procedure_number, procedures_of, rows_named};
 ghost use Rattle.sq_session.specs.State.{AreClosed, state_of};
 ghost use Rattle.sq_session.specs.Step.{MayCall, is_success};
 
 use crate::call::{call, reply_of};
 use crate::cursor::CursorState;
+use crate::inside::Inside;
 use crate::machine::Machine;
 use crate::parameter::all_fit;
 use crate::reply::Reply;
@@ -249,6 +250,49 @@ impl<S: Store> Session<S> {
     {
         let table = self.table(user, name)?;
         Some(TableRows::of(&self.machine.store, table))
+    }
+
+    /// What the schemas define.
+    pub fn catalog(&self) -> &Catalog
+        ensures tables { result.now.tables ≡ self.now.tables }
+        ensures schemas { schemas_of result.now ≡ self.now.schemas }
+    {
+        &self.catalog
+    }
+
+    /// The procedures and cursors of the modules.
+    pub fn program(&self) -> &Program
+        ensures { procedures_of result.now.cursors.items result.now.procedures.entries
+            ≡ self.now.procedures }
+    {
+        &self.program
+    }
+
+    /// The cursors as they are now, one for each that the modules declare.
+    pub fn cursors(&self) -> &[CursorState]
+        ensures { result.now ≡ self.now.state.cursors }
+    {
+        self.machine.cursors.as_slice()
+    }
+
+    /// What the session works on. It is in order.
+    pub fn inside(&self) -> Inside<'_, S>
+        ensures procedures { self.now.procedures ≡ procedures_of result.program.now.cursors.items
+            result.program.now.procedures.entries }
+        ensures tables { self.now.tables ≡ result.catalog.now.tables }
+        ensures schemas { self.now.schemas ≡ schemas_of result.catalog.now }
+        ensures state { self.now.state ≡ state_of (S.content_now result.store.now) (S.committed result.store.now)
+            (S.key_columns result.store.now) (S.row_numbers result.store.now) result.cursors.now }
+        ensures whole { SessionIsWhole (column_kinds result.catalog.now) result.catalog.now.bases
+            result.program.now self.now.state }
+    {
+        Inside {
+            alloc: self.alloc,
+            catalog: &self.catalog,
+            program: &self.program,
+            store: &self.machine.store,
+            cursors: self.machine.cursors.as_slice(),
+        }
     }
 }
 
