@@ -28,4 +28,4 @@ pub mod RowsChanged
 pub mod RowTests
 pub mod Storable
 pub mod Stored
-pub mod Updated
+pub mod UpdatedRows

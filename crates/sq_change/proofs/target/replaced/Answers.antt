@@ -19,7 +19,7 @@ use Rattle.sq_change.proofs.Held.{row_at_wide}
 use Rattle.sq_change.proofs.InTurn.{made_all, made_failed, made_more, made_none}
 use Rattle.sq_change.proofs.RowsChanged.{all_unmapped, zip_mapped}
 use Rattle.sq_change.proofs.Storable.{assigns}
-use Rattle.sq_change.proofs.Updated.{replaced_more, under_done, under_failed}
+use Rattle.sq_change.proofs.UpdatedRows.{replaced_more, under_done, under_failed}
 use Rattle.sq_change.proofs.target.replaced.Goals as goal
 
 abbrev Found : Type 0

@@ -5,7 +5,7 @@ use Rattle.sq_expression.proofs.Expressions.{handed_on}
 use Rattle.sq_change.specs.Given.{IsStorable}
 use Rattle.sq_change.specs.Made.{Seen, seen_by}
 use Rattle.sq_change.proofs.Domains.{all_at, assigned_in}
-use Rattle.sq_change.proofs.Updated.{all_set, none_set, one_set, set_failed}
+use Rattle.sq_change.proofs.UpdatedRows.{all_set, none_set, one_set, set_failed}
 use Rattle.sq_change.proofs.target.updated_row.Goals as goal
 
 pub stored_value-requires : goal.stored_value-requires
