@@ -26,6 +26,7 @@ PROCEDURE P (SQLSTATE); COMMIT;
 TEXTS = {
     "Schemas": lambda text: (f"CREATE SCHEMA AUTHORIZATION U {text}\n", MODULE, ""),
     "Modules": lambda text: (TABLES, f"{MODULE}{text}\n", ""),
+    "Old modules": lambda text: (TABLES, f"{text}\n", ""),
     "Statements": lambda text: (TABLES, f"{MODULE}PROCEDURE P {DECLARED}; {text};\n", CALL),
     "Queries of cursors": lambda text: (TABLES, f"{MODULE}DECLARE K CURSOR FOR {text}\nPROCEDURE P {DECLARED}; OPEN K;\n", CALL),
     "Scripts": lambda text: (TABLES, MODULE + CALLED, f"{text}\n"),

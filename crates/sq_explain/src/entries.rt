@@ -627,7 +627,7 @@ fn text_of_s1_l00() -> &'static str {
 }
 
 fn text_of_bad_byte() -> &'static str {
-    "BadByte: A byte begins no token.
+    "BadByte: A byte begins no token. Leave the byte out, or write a character that a text may have.
 
   -- schema
   CREATE SCHEMA AUTHORIZATION U !
@@ -639,7 +639,7 @@ On standard error, with the file's name:
 }
 
 fn text_of_open_text() -> &'static str {
-    "OpenText: A literal is not closed on its line.
+    "OpenText: A literal is not closed on its line. Close it by a quote; one inside a literal is written twice.
 
   -- schema
   CREATE SCHEMA AUTHORIZATION U CREATE TABLE D (A CHAR DEFAULT 'A)
@@ -651,7 +651,7 @@ On standard error, with the file's name:
 }
 
 fn text_of_long_name() -> &'static str {
-    "LongName: A name has more than 18 characters.
+    "LongName: A name has more than 18 characters. Shorten it wherever it stands.
 
   -- schema
   CREATE SCHEMA AUTHORIZATION U CREATE TABLE ABCDEFGHIJKLMNOPQRS (A INTEGER)
@@ -663,7 +663,7 @@ On standard error, with the file's name:
 }
 
 fn text_of_number_then_letter() -> &'static str {
-    "NumberThenLetter: A letter stands behind a number.
+    "NumberThenLetter: A letter stands behind a number. Put a blank between them; there are no exponents.
 
   -- schema
   CREATE SCHEMA AUTHORIZATION U CREATE TABLE D (A CHAR(2X))
@@ -675,7 +675,7 @@ On standard error, with the file's name:
 }
 
 fn text_of_long_number() -> &'static str {
-    "LongNumber: A number has more than 18 digits.
+    "LongNumber: A number has more than 18 digits. Write fewer digits; leading zeros count.
 
   -- schema
   CREATE SCHEMA AUTHORIZATION U CREATE TABLE D (A INTEGER DEFAULT 1234567890123456789)
@@ -687,7 +687,7 @@ On standard error, with the file's name:
 }
 
 fn text_of_long_text() -> &'static str {
-    "LongText: A literal has more than 240 characters.
+    "LongText: A literal has more than 240 characters. Write a shorter one.
 
   -- schema
   CREATE SCHEMA AUTHORIZATION U CREATE TABLE D (A CHAR DEFAULT 'AAAAAAAAAAAAAAAAAAAAAAAAAAAAAAAAAAAAAAAAAAAAAAAAAAAAAAAAAAAAAAAAAAAAAAAAAAAAAAAAAAAAAAAAAAAAAAAAAAAAAAAAAAAAAAAAAAAAAAAAAAAAAAAAAAAAAAAAAAAAAAAAAAAAAAAAAAAAAAAAAAAAAAAAAAAAAAAAAAAAAAAAAAAAAAAAAAAAAAAAAAAAAAAAAAAAAAAAAAAAAAAAAAAAAAAAAAAAAAAAA')
@@ -699,7 +699,7 @@ On standard error, with the file's name:
 }
 
 fn text_of_unexpected() -> &'static str {
-    "Unexpected: A token cannot follow those before it.
+    "Unexpected: A token cannot follow those before it. `sqmod check` names the tokens that can.
 
   -- schema
   CREATE SCHEMA AUTHORIZATION U CREATE D
@@ -711,7 +711,7 @@ On standard error, with the file's name:
 }
 
 fn text_of_end_of_text() -> &'static str {
-    "EndOfText: The text ends where more must follow.
+    "EndOfText: The text ends where more must follow. `sqmod check` names the tokens that can follow.
 
   -- schema
   CREATE SCHEMA AUTHORIZATION U CREATE TABLE
@@ -723,7 +723,7 @@ On standard error, with the file's name:
 }
 
 fn text_of_too_deep() -> &'static str {
-    "TooDeep: More than 32 brackets are open.
+    "TooDeep: More than 32 brackets are open. Leave out those that change nothing, or move a subquery to a view.
 
   -- schema
   CREATE SCHEMA AUTHORIZATION U CREATE TABLE D (CHECK ((((((((((((((((((((((((((((((((A = 1)))))))))))))))))))))))))))))))))
@@ -735,7 +735,7 @@ On standard error, with the file's name:
 }
 
 fn text_of_name_twice() -> &'static str {
-    "NameTwice of a schema: A table, view or column name is used again.
+    "NameTwice of a schema: A table, view or column name is used again. Name it otherwise; a user has one schema.
 
   -- schema
   CREATE SCHEMA AUTHORIZATION U CREATE TABLE D (A INTEGER, A INTEGER)
@@ -747,7 +747,7 @@ On standard error, with the file's name:
 }
 
 fn text_of_unknown_name() -> &'static str {
-    "UnknownName of a schema: A key, reference or grant names what is not there.
+    "UnknownName of a schema: A key, reference or grant names what is not there. Create the table before what refers to it, or correct the name.
 
   -- schema
   CREATE SCHEMA AUTHORIZATION U CREATE TABLE D (A INTEGER, UNIQUE (B))
@@ -759,7 +759,7 @@ On standard error, with the file's name:
 }
 
 fn text_of_bad_type() -> &'static str {
-    "BadType of a schema: A precision, scale or length is out of range.
+    "BadType of a schema: A precision, scale or length is out of range. A number has 1 to 18 digits, and a text 1 to 240 characters.
 
   -- schema
   CREATE SCHEMA AUTHORIZATION U CREATE TABLE D (A CHAR(0))
@@ -771,7 +771,7 @@ On standard error, with the file's name:
 }
 
 fn text_of_nullable_key() -> &'static str {
-    "NullableKey of a schema: A key column is not declared NOT NULL.
+    "NullableKey of a schema: A key column is not declared NOT NULL. Declare each column of the key NOT NULL.
 
   -- schema
   CREATE SCHEMA AUTHORIZATION U CREATE TABLE D (A INTEGER UNIQUE)
@@ -783,7 +783,7 @@ On standard error, with the file's name:
 }
 
 fn text_of_bad_key() -> &'static str {
-    "BadKey of a schema: A second primary key, a column twice in a key, or more than 6 columns.
+    "BadKey of a schema: A second primary key, a column twice in a key, or more than 6 columns. Keep one primary key, and name at most 6 columns in a key, each once.
 
   -- schema
   CREATE SCHEMA AUTHORIZATION U CREATE TABLE D (A INTEGER NOT NULL, UNIQUE (A, A))
@@ -795,7 +795,7 @@ On standard error, with the file's name:
 }
 
 fn text_of_bad_reference() -> &'static str {
-    "BadReference of a schema: A reference is to no key of a table, or its columns do not fit.
+    "BadReference of a schema: A reference is to no key of a table, or its columns do not fit. Name the columns of a PRIMARY KEY or UNIQUE of the other table, in its order and of the same types.
 
   -- schema
   CREATE SCHEMA AUTHORIZATION U CREATE TABLE D (A INTEGER REFERENCES D)
@@ -807,7 +807,7 @@ On standard error, with the file's name:
 }
 
 fn text_of_bad_check() -> &'static str {
-    "BadCheck of a schema: A CHECK condition is not well formed, or has a subquery or USER.
+    "BadCheck of a schema: A CHECK condition is not well formed, or has a subquery or USER. Compare columns of the row, constants and literals; a reference or a view says more.
 
   -- schema
   CREATE SCHEMA AUTHORIZATION U CREATE TABLE D (A INTEGER CHECK (USER = 'X'))
@@ -819,7 +819,7 @@ On standard error, with the file's name:
 }
 
 fn text_of_bad_default() -> &'static str {
-    "BadDefault of a schema: A default does not fit its column.
+    "BadDefault of a schema: A default does not fit its column. Write a literal that the column can hold.
 
   -- schema
   CREATE SCHEMA AUTHORIZATION U CREATE TABLE D (A INTEGER DEFAULT 'X')
@@ -831,7 +831,7 @@ On standard error, with the file's name:
 }
 
 fn text_of_bad_view() -> &'static str {
-    "BadView of a schema: A view's query is not well formed, or its columns have no names.
+    "BadView of a schema: A view's query is not well formed, or its columns have no names. Correct the query, and name the view's columns in a list behind its name.
 
   -- schema
   CREATE SCHEMA AUTHORIZATION U CREATE TABLE D (A INTEGER)
@@ -844,7 +844,7 @@ On standard error, with the file's name:
 }
 
 fn text_of_bad_check_option() -> &'static str {
-    "BadCheckOption of a schema: WITH CHECK OPTION on a view that is not updatable.
+    "BadCheckOption of a schema: WITH CHECK OPTION on a view that is not updatable. Leave WITH CHECK OPTION out, or make the view updatable.
 
   -- schema
   CREATE SCHEMA AUTHORIZATION U CREATE TABLE D (A INTEGER)
@@ -857,7 +857,7 @@ On standard error, with the file's name:
 }
 
 fn text_of_privilege_missing() -> &'static str {
-    "PrivilegeMissing of a schema: The schema's user lacks a privilege.
+    "PrivilegeMissing of a schema: The schema's user lacks a privilege. The owner grants it in an earlier schema, WITH GRANT OPTION if it is granted on.
 
   -- schema
   CREATE SCHEMA AUTHORIZATION U CREATE TABLE D (A INTEGER)
@@ -867,7 +867,7 @@ On standard error, with the file's name:
 
   sqmod: schema:2:31: PrivilegeMissing
 
-PrivilegeMissing of a statement: The module's user lacks a privilege.
+PrivilegeMissing of a statement: The module's user lacks a privilege. The owner grants it in the schema text.
 
   -- schema
   CREATE SCHEMA AUTHORIZATION U
@@ -884,7 +884,7 @@ PrivilegeMissing of a statement: The module's user lacks a privilege.
 }
 
 fn text_of_too_many_columns() -> &'static str {
-    "TooManyColumns of a schema: A table has more than 64 columns.
+    "TooManyColumns of a schema: A table has more than 64 columns. Divide it into tables with one key.
 
   -- schema
   CREATE SCHEMA AUTHORIZATION U CREATE TABLE D (A0 INT, A1 INT, A2 INT, A3 INT, A4 INT, A5 INT, A6 INT, A7 INT, A8 INT, A9 INT, A10 INT, A11 INT, A12 INT, A13 INT, A14 INT, A15 INT, A16 INT, A17 INT, A18 INT, A19 INT, A20 INT, A21 INT, A22 INT, A23 INT, A24 INT, A25 INT, A26 INT, A27 INT, A28 INT, A29 INT, A30 INT, A31 INT, A32 INT, A33 INT, A34 INT, A35 INT, A36 INT, A37 INT, A38 INT, A39 INT, A40 INT, A41 INT, A42 INT, A43 INT, A44 INT, A45 INT, A46 INT, A47 INT, A48 INT, A49 INT, A50 INT, A51 INT, A52 INT, A53 INT, A54 INT, A55 INT, A56 INT, A57 INT, A58 INT, A59 INT, A60 INT, A61 INT, A62 INT, A63 INT, A64 INT)
@@ -896,7 +896,7 @@ On standard error, with the file's name:
 }
 
 fn text_of_other_schema() -> &'static str {
-    "OtherSchema of a schema: An element is created under another user's name, or a grant names a column twice.
+    "OtherSchema of a schema: An element is created under another user's name, or a grant names a column twice. Create it in that user's schema, and name each column once.
 
   -- schema
   CREATE SCHEMA AUTHORIZATION U CREATE TABLE W.D (A INTEGER)
@@ -908,7 +908,7 @@ On standard error, with the file's name:
 }
 
 fn text_of_too_many_tables() -> &'static str {
-    "TooManyTables of a schema: There are more than 1000 tables and views.
+    "TooManyTables of a schema: There are more than 1000 tables and views. Leave some out.
 
   -- schema
   -- printed by this command:
@@ -921,7 +921,7 @@ On standard error, with the file's name:
 }
 
 fn text_of_two_modules() -> &'static str {
-    "TwoModules of a module: A module has the name of an earlier one.
+    "TwoModules of a module: A module has the name of an earlier one. Name it otherwise.
 
   -- schema
   CREATE SCHEMA AUTHORIZATION U CREATE TABLE D (A INTEGER)
@@ -937,7 +937,7 @@ On standard error, with the file's name:
 }
 
 fn text_of_two_procedures() -> &'static str {
-    "TwoProcedures of a module: Two procedures have one name.
+    "TwoProcedures of a module: Two procedures have one name. Name one of them otherwise.
 
   -- schema
   CREATE SCHEMA AUTHORIZATION U CREATE TABLE D (A INTEGER)
@@ -953,7 +953,7 @@ On standard error, with the file's name:
 }
 
 fn text_of_two_cursors() -> &'static str {
-    "TwoCursors of a module: Two cursors have one name.
+    "TwoCursors of a module: Two cursors have one name. Name one of them otherwise.
 
   -- schema
   CREATE SCHEMA AUTHORIZATION U CREATE TABLE D (A INTEGER)
@@ -970,7 +970,7 @@ On standard error, with the file's name:
 }
 
 fn text_of_open_count() -> &'static str {
-    "OpenCount of a module: A cursor is not opened by exactly one procedure.
+    "OpenCount of a module: A cursor is not opened by exactly one procedure. Write one procedure with OPEN for each cursor.
 
   -- schema
   CREATE SCHEMA AUTHORIZATION U CREATE TABLE D (A INTEGER)
@@ -985,7 +985,7 @@ On standard error, with the file's name:
 }
 
 fn text_of_status_parameter() -> &'static str {
-    "StatusParameter of a module: A procedure has no status parameter, or one twice.
+    "StatusParameter of a module: A procedure has no status parameter, or one twice. Write SQLSTATE, SQLCODE or both, each once.
 
   -- schema
   CREATE SCHEMA AUTHORIZATION U CREATE TABLE D (A INTEGER)
@@ -1000,7 +1000,7 @@ On standard error, with the file's name:
 }
 
 fn text_of_bad_parameter() -> &'static str {
-    "BadParameter of a module: A parameter is declared twice, has a bad type, or is one of more than 64.
+    "BadParameter of a module: A parameter is declared twice, has a bad type, or is one of more than 64. Declare each once; a number has 1 to 18 digits, and a text 1 to 240 characters.
 
   -- schema
   CREATE SCHEMA AUTHORIZATION U CREATE TABLE D (A INTEGER)
@@ -1015,7 +1015,7 @@ On standard error, with the file's name:
 }
 
 fn text_of_unknown_procedure() -> &'static str {
-    "UnknownProcedure of a script: A call names no procedure.
+    "UnknownProcedure of a script: A call names no procedure. Name the module and the procedure, as MODULE.PROCEDURE.
 
   -- schema
   CREATE SCHEMA AUTHORIZATION U CREATE TABLE D (A INTEGER)
@@ -1032,7 +1032,7 @@ On standard error, with the file's name:
 }
 
 fn text_of_unknown_table() -> &'static str {
-    "UnknownTable of a script: TABLE names no base table.
+    "UnknownTable of a script: TABLE names no base table. Name the user and the table, as USER.TABLE; views are not shown.
 
   -- schema
   CREATE SCHEMA AUTHORIZATION U CREATE TABLE D (A INTEGER)
@@ -1046,7 +1046,7 @@ On standard error, with the file's name:
 
   sqmod: script:1:1: UnknownTable
 
-UnknownTable of a statement: No table or view has this name.
+UnknownTable of a statement: No table or view has this name. Correct it; a table of another user is USER.TABLE.
 
   -- schema
   CREATE SCHEMA AUTHORIZATION U
@@ -1063,7 +1063,7 @@ UnknownTable of a statement: No table or view has this name.
 }
 
 fn text_of_bad_arguments() -> &'static str {
-    "BadArguments of a script: The values of a call do not fit the parameters.
+    "BadArguments of a script: The values of a call do not fit the parameters. Write one value for each named parameter, in their order, that it can hold; `*` stands for none.
 
   -- schema
   CREATE SCHEMA AUTHORIZATION U CREATE TABLE D (A INTEGER)
@@ -1080,7 +1080,7 @@ On standard error, with the file's name:
 }
 
 fn text_of_unknown_column() -> &'static str {
-    "UnknownColumn of a statement: No table in scope has the column.
+    "UnknownColumn of a statement: No table in scope has the column. Correct it; a parameter stands with its colon.
 
   -- schema
   CREATE SCHEMA AUTHORIZATION U
@@ -1097,7 +1097,7 @@ fn text_of_unknown_column() -> &'static str {
 }
 
 fn text_of_ambiguous_name() -> &'static str {
-    "AmbiguousName of a statement: A name fits two tables of one FROM clause.
+    "AmbiguousName of a statement: A name fits two tables of one FROM clause. Put the table's name before it, or name the table otherwise in FROM.
 
   -- schema
   CREATE SCHEMA AUTHORIZATION U
@@ -1114,7 +1114,7 @@ fn text_of_ambiguous_name() -> &'static str {
 }
 
 fn text_of_kind_mismatch() -> &'static str {
-    "KindMismatch of a statement: A number where a text must stand, or the reverse.
+    "KindMismatch of a statement: A number where a text must stand, or the reverse. Nothing converts one to the other: use a column or a parameter of the same kind.
 
   -- schema
   CREATE SCHEMA AUTHORIZATION U
@@ -1131,7 +1131,7 @@ fn text_of_kind_mismatch() -> &'static str {
 }
 
 fn text_of_limit_exceeded() -> &'static str {
-    "LimitExceeded of a statement: Too many digits behind the point, columns or FROM items.
+    "LimitExceeded of a statement: Too many digits behind the point, columns or FROM items. A result has at most 18 digits behind the point and 64 columns, and FROM at most 16 items.
 
   -- schema
   CREATE SCHEMA AUTHORIZATION U
@@ -1148,7 +1148,7 @@ fn text_of_limit_exceeded() -> &'static str {
 }
 
 fn text_of_misplaced_set_function() -> &'static str {
-    "MisplacedSetFunction of a statement: A set function may not stand here.
+    "MisplacedSetFunction of a statement: A set function may not stand here. It stands in a select list or in HAVING, and none inside another; a subquery compares it.
 
   -- schema
   CREATE SCHEMA AUTHORIZATION U
@@ -1165,7 +1165,7 @@ fn text_of_misplaced_set_function() -> &'static str {
 }
 
 fn text_of_ungrouped_column() -> &'static str {
-    "UngroupedColumn of a statement: A column of a grouped query is no grouping column.
+    "UngroupedColumn of a statement: A column of a grouped query is no grouping column. Name it in GROUP BY, or put it in a set function.
 
   -- schema
   CREATE SCHEMA AUTHORIZATION U
@@ -1182,7 +1182,7 @@ fn text_of_ungrouped_column() -> &'static str {
 }
 
 fn text_of_count_mismatch() -> &'static str {
-    "CountMismatch of a statement: Two numbers of columns differ.
+    "CountMismatch of a statement: Two numbers of columns differ. Write as many values or targets as there are columns.
 
   -- schema
   CREATE SCHEMA AUTHORIZATION U
@@ -1199,7 +1199,7 @@ fn text_of_count_mismatch() -> &'static str {
 }
 
 fn text_of_bad_sort_key() -> &'static str {
-    "BadSortKey of a statement: ORDER BY names no result column.
+    "BadSortKey of a statement: ORDER BY names no result column. Add the column to the select list, or sort by its number.
 
   -- schema
   CREATE SCHEMA AUTHORIZATION U
@@ -1217,7 +1217,7 @@ fn text_of_bad_sort_key() -> &'static str {
 }
 
 fn text_of_unknown_parameter() -> &'static str {
-    "UnknownParameter of a statement: The procedure has no such parameter.
+    "UnknownParameter of a statement: The procedure has no such parameter. Declare it, or correct its name.
 
   -- schema
   CREATE SCHEMA AUTHORIZATION U
@@ -1234,7 +1234,7 @@ fn text_of_unknown_parameter() -> &'static str {
 }
 
 fn text_of_bad_indicator() -> &'static str {
-    "BadIndicator of a statement: The indicator parameter has a type that cannot count.
+    "BadIndicator of a statement: The indicator parameter has a type that cannot count. Declare it SMALLINT or INTEGER.
 
   -- schema
   CREATE SCHEMA AUTHORIZATION U
@@ -1251,7 +1251,7 @@ fn text_of_bad_indicator() -> &'static str {
 }
 
 fn text_of_target_twice() -> &'static str {
-    "TargetTwice of a statement: A parameter is set twice.
+    "TargetTwice of a statement: A parameter is set twice. Declare a parameter for each.
 
   -- schema
   CREATE SCHEMA AUTHORIZATION U
@@ -1268,7 +1268,7 @@ fn text_of_target_twice() -> &'static str {
 }
 
 fn text_of_not_updatable() -> &'static str {
-    "NotUpdatable of a statement: The table or the cursor cannot be changed.
+    "NotUpdatable of a statement: The table or the cursor cannot be changed. Change its table; `sqmod check` says why a view or a cursor can't be changed.
 
   -- schema
   CREATE SCHEMA AUTHORIZATION U
@@ -1285,7 +1285,7 @@ fn text_of_not_updatable() -> &'static str {
 }
 
 fn text_of_column_twice() -> &'static str {
-    "ColumnTwice of a statement: A column is set twice.
+    "ColumnTwice of a statement: A column is set twice. Name it once.
 
   -- schema
   CREATE SCHEMA AUTHORIZATION U
@@ -1302,7 +1302,7 @@ fn text_of_column_twice() -> &'static str {
 }
 
 fn text_of_unknown_cursor() -> &'static str {
-    "UnknownCursor of a statement: The module has no such cursor, or its query has a fault.
+    "UnknownCursor of a statement: The module has no such cursor, or its query has a fault. Declare it, or mend its query.
 
   -- schema
   CREATE SCHEMA AUTHORIZATION U
@@ -1319,7 +1319,7 @@ fn text_of_unknown_cursor() -> &'static str {
 }
 
 fn text_of_bad_orientation() -> &'static str {
-    "BadOrientation of a statement: The cursor does not scroll, or the distance is no whole number.
+    "BadOrientation of a statement: The cursor does not scroll, or the distance is no whole number. Declare the cursor with SCROLL, and write a whole number.
 
   -- schema
   CREATE SCHEMA AUTHORIZATION U
