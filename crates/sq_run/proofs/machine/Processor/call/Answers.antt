@@ -4,7 +4,9 @@ use Rattle.sq_run.proofs.machine.Processor.call.Goals as goal
 pub call-requires : goal.call-requires
 call-requires g c =
     let here = c.self.inside in
-    fits_old here.session here.counterpart.machine c.self.invariant c.args.self.now c.self.view_is c.args.procedure c.args.values.now c.requires.fits
+    record {
+      fits = fits_old here.session here.counterpart.machine c.self.invariant c.args.self.now c.self.view_is c.args.procedure c.args.values.now c.requires.fits;
+    }
 
 pub invariant_of-self-2 : goal.invariant_of-self-2
 invariant_of-self-2 g c =
@@ -53,5 +55,8 @@ returns-in_err-reply-clause-constraints g c = all_hold c.self.inside.session c.s
 pub returns-in_err-reply-clause-memory : goal.returns-in_err-reply-clause-memory
 returns-in_err-reply-clause-memory g c =
     let here = c.self.inside in
-    λ none. cc (c.call.ensures.memory (memory_old here.session here.counterpart.machine c.self.invariant c.args.self.now c.self.view_is c.args.procedure c.args.values.now
-    c.requires.fits none), c.in_err-reply.was)
+    λ none. cc (
+      c.call.ensures.memory (memory_old here.session here.counterpart.machine c.self.invariant c.args.self.now c.self.view_is c.args.procedure c.args.values.now
+          c.requires.fits none),
+      c.in_err-reply.was,
+    )
