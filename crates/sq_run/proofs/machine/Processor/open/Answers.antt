@@ -3,8 +3,9 @@ use Rattle.sq_run.proofs.BesideLaws.{accepted_by, all_hold, beside_first}
 use Rattle.sq_run.proofs.machine.Processor.open.Goals as goal
 
 pub start-counterpart-requires : goal.start-counterpart-requires
-start-counterpart-requires g c =
-    accepted_by c.args.limits.row_numbers (texts c.args.schemas.now) (texts c.args.modules.now) c.in_ok-session.session c.in_ok-session.ensures.opened
+start-counterpart-requires g c = record {
+  accepted = accepted_by c.args.limits.row_numbers (texts c.args.schemas.now) (texts c.args.modules.now) c.in_ok-session.session c.in_ok-session.ensures.opened;
+}
 
 pub invariant_of-result : goal.invariant_of-result
 invariant_of-result g c =
