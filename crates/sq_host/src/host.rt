@@ -1,10 +1,8 @@
 //! What a handle leads to: texts, and the session that they open.
-ghost use Rattle.std.specs.Prelude.{◌≡◌, ◌++◌, ◌∷◌, [], false, is_some, true, IfErr, IfOk, None, Ok, OnErr, Some};
+ghost use Rattle.std.specs.Prelude.{◌≡◌, [], true, IfOk, OnErr};
 ghost use Rattle.sq_session.specs.Kind.{fits_at, kind_at};
 ghost use Rattle.sq_session.specs.Step.{MayCall};
-ghost use Rattle.sq_perform.specs.Texts.{texts};
-ghost use Rattle.sq_exchange.specs.Answer.{IsWhy};
-ghost use Rattle.sq_exchange.specs.declared.answer.Answer.TheVariants.{AlreadyOpen, BadArguments, Done, NoMemory, Refused};
+ghost use Rattle.sq_exchange.specs.declared.answer.Answer.TheVariants.{Done, NoMemory};
 ghost use Rattle.sq_host.specs.Asked.{set_answer};
 
 use crate::texts::{add_text, line_of};
@@ -35,7 +33,7 @@ pub struct Host {
 }
 
 impl Host {
-    ghost use Rattle.sq_host.specs.Changes.{IsCalledBy, IsOpenedBy, IsRefusedBy, fit_in, procedure_behind, text_answer, with_value};
+    ghost use Rattle.sq_host.specs.Changes.{with_value};
 
     pub(crate) fn new(alloc: Global) -> Host {
         Host {
@@ -50,26 +48,14 @@ impl Host {
         }
     }
 
-    pub(crate) fn add_schema(&mut self, alloc: Global, text: &[u8]) -> Answer
-        ensures answer { ¬ (result ≡ NoMemory) → result ≡ text_answer (Some self.old) }
-        ensures added { result ≡ Done → texts self.new.schemas.items ≡ texts self.old.schemas.items ++ text.now ∷ [] }
-        ensures none { ¬ (result ≡ Done) → self.new.schemas.items ≡ self.old.schemas.items }
-        ensures others { self.new.modules.items ≡ self.old.modules.items }
-        ensures session { self.new.session ≡ self.old.session }
-    {
+    pub(crate) fn add_schema(&mut self, alloc: Global, text: &[u8]) -> Answer {
         if self.session.is_some() {
             return Answer::AlreadyOpen;
         }
         add_text(alloc, &mut self.schemas, text)
     }
 
-    pub(crate) fn add_module(&mut self, alloc: Global, text: &[u8]) -> Answer
-        ensures answer { ¬ (result ≡ NoMemory) → result ≡ text_answer (Some self.old) }
-        ensures added { result ≡ Done → texts self.new.modules.items ≡ texts self.old.modules.items ++ text.now ∷ [] }
-        ensures none { ¬ (result ≡ Done) → self.new.modules.items ≡ self.old.modules.items }
-        ensures others { self.new.schemas.items ≡ self.old.schemas.items }
-        ensures session { self.new.session ≡ self.old.session }
-    {
+    pub(crate) fn add_module(&mut self, alloc: Global, text: &[u8]) -> Answer {
         if self.session.is_some() {
             return Answer::AlreadyOpen;
         }
@@ -77,12 +63,7 @@ impl Host {
     }
 
     /// Opens a session of the texts, in which a table has this many row numbers.
-    pub(crate) fn open(&mut self, alloc: Global, row_numbers: u64) -> Answer
-        ensures again { is_some self.old.session ≡ true → result ≡ AlreadyOpen }
-        ensures opened { result ≡ Done → IsOpenedBy row_numbers self.old self.new }
-        ensures refused { result ≡ Refused → IsRefusedBy self.old self.new }
-        ensures none { ¬ (result ≡ Done) → self.new.session ≡ self.old.session }
-    {
+    pub(crate) fn open(&mut self, alloc: Global, row_numbers: u64) -> Answer {
         if self.session.is_some() {
             return Answer::AlreadyOpen;
         }
@@ -105,10 +86,7 @@ impl Host {
     }
 
     /// Keeps the line of a refusal.
-    fn refuse(&mut self, alloc: Global, fault: RunFault) -> Answer
-        ensures answer { ¬ (result ≡ NoMemory) → result ≡ Refused }
-        ensures session { self.new.session ≡ self.old.session }
-    {
+    fn refuse(&mut self, alloc: Global, fault: RunFault) -> Answer {
         match line_of(alloc, fault) {
             Ok(line) => {
                 self.line = line;
@@ -124,10 +102,7 @@ impl Host {
         alloc: Global,
         module: &[u8],
         name: &[u8],
-    ) -> Result<usize, Answer>
-        ensures number { IfOk result (λ n. procedure_behind (Some self.now) «module».now name.now ≡ Ok n) }
-        ensures refused { IfErr result (IsWhy (procedure_behind (Some self.now) «module».now name.now)) }
-    {
+    ) -> Result<usize, Answer> {
         let Some(session) = &self.session else {
             return Err(Answer::NotOpen);
         };
@@ -159,13 +134,7 @@ impl Host {
     }
 
     /// Calls a procedure with the values that were added since the last call, which are then gone.
-    pub(crate) fn call(&mut self, alloc: Global, procedure: usize) -> Answer
-        ensures answer { ¬ (result ≡ NoMemory) → result ≡ fit_in self.old.session self.old.values.items procedure }
-        ensures called { result ≡ Done → IsCalledBy procedure self.old self.new }
-        ensures none { ¬ (result ≡ Done) → self.new.session ≡ self.old.session }
-        ensures unknown { ¬ (result ≡ Done) → self.new.reply ≡ None }
-        ensures values { self.new.values.items ≡ [] }
-    {
+    pub(crate) fn call(&mut self, alloc: Global, procedure: usize) -> Answer {
         self.reply = None;
         self.row = None;
         let values = replace(&mut self.values, Vec::new(alloc));
@@ -192,8 +161,6 @@ fn answered(
     values: &[Value],
 ) -> Result<Reply, Answer>
     ensures fits { IfOk result (λ _. fits_at session.old.procedures procedure values.now ≡ true) }
-    ensures unfit { IfErr result (λ answer. ¬ (answer ≡ NoMemory)
-        → (answer ≡ BadArguments) × (fits_at session.old.procedures procedure values.now ≡ false)) }
     ensures step { IfOk result (λ r.
         MayCall session.old.schemas (kind_at session.old.procedures procedure) values.now session.old.state
         (record { status = r.status; outputs = r.outputs }) session.new.state) }

@@ -1,10 +1,8 @@
 //! The rows of a base table.
 
-ghost use Rattle.std.specs.Prelude.{◌≡◌, ◌++◌, [], option_to_list, IfErr, IfOk, IsOk, Some};
-ghost use Rattle.sq_exchange.specs.Answer.{IsWhy};
-ghost use Rattle.sq_exchange.specs.declared.answer.Answer.TheVariants.{NoMemory, NoRow};
-ghost use Rattle.sq_host.specs.Asked.{set_answer};
-ghost use Rattle.sq_host.specs.Changes.{row_answer, table_behind, table_in};
+ghost use Rattle.std.specs.Prelude.{◌≡◌, ◌++◌, [], option_to_list};
+ghost use Rattle.sq_exchange.specs.declared.answer.Answer.TheVariants.{NoRow};
+ghost use Rattle.sq_host.specs.Changes.{row_answer};
 
 use crate::host::Host;
 use sq_exchange::{Answer, name_of};
@@ -15,10 +13,7 @@ use std::alloc::{AllocError, Global};
 
 impl Host {
     /// Begins with the rows of the base table of this user and name, as they are now.
-    pub(crate) fn read_table(&mut self, alloc: Global, user: &[u8], name: &[u8]) -> Answer
-        ensures answer { ¬ (result ≡ NoMemory) → result ≡ set_answer (table_behind (Some self.old) user.now name.now) }
-        ensures session { self.new.session ≡ self.old.session }
-    {
+    pub(crate) fn read_table(&mut self, alloc: Global, user: &[u8], name: &[u8]) -> Answer {
         match rows_of(alloc, &self.session, user, name) {
             Ok(rows) => {
                 self.rows = rows;
@@ -50,10 +45,7 @@ fn rows_of(
     session: &Option<Session<HeapStore>>,
     user: &[u8],
     name: &[u8],
-) -> Result<Vec<Row>, Answer>
-    ensures found { IfOk result (λ _. IsOk (table_in session.now user.now name.now)) }
-    ensures refused { IfErr result (IsWhy (table_in session.now user.now name.now)) }
-{
+) -> Result<Vec<Row>, Answer> {
     let Some(session) = session else {
         return Err(Answer::NotOpen);
     };

@@ -1,32 +1,21 @@
 //! Texts that are kept, and lines that are made of faults.
 
-ghost use Rattle.std.specs.Prelude.{◌≡◌, ◌++◌, ◌∷◌, [], OnErr, OnOk};
-ghost use Rattle.sq_perform.specs.Texts.{texts};
-ghost use Rattle.sq_exchange.specs.declared.answer.Answer.TheVariants.{Done, NoMemory};
-
 use sq_exchange::Answer;
 use sq_perform::{Refusal, RunFault};
 use sq_session::Fault;
 use std::alloc::{AllocError, Global};
 
 /// Adds a copy of a text.
-pub(crate) fn add_text(alloc: Global, kept: &mut Vec<Vec<u8>>, text: &[u8]) -> Answer
-    ensures answer { ¬ (result ≡ NoMemory) → result ≡ Done }
-    ensures added { result ≡ Done → texts kept.new.items ≡ texts kept.old.items ++ text.now ∷ [] }
-    ensures none { ¬ (result ≡ Done) → kept.new.items ≡ kept.old.items }
-{
-    match added(alloc, kept, text) {
+pub(crate) fn add_text(alloc: Global, texts: &mut Vec<Vec<u8>>, text: &[u8]) -> Answer {
+    match added(alloc, texts, text) {
         Ok(()) => Answer::Done,
         Err(_) => Answer::NoMemory,
     }
 }
 
-fn added(alloc: Global, kept: &mut Vec<Vec<u8>>, text: &[u8]) -> Result<(), AllocError>
-    ensures added { OnOk result (texts kept.new.items ≡ texts kept.old.items ++ text.now ∷ []) }
-    ensures none { OnErr result (kept.new.items ≡ kept.old.items) }
-{
+fn added(alloc: Global, texts: &mut Vec<Vec<u8>>, text: &[u8]) -> Result<(), AllocError> {
     let text = Vec::from_slice(alloc, text)?;
-    kept.push(text)?;
+    texts.push(text)?;
     Ok(())
 }
 

@@ -1,7 +1,6 @@
 //! What can be known of a call before it is made.
 
-ghost use Rattle.std.specs.Prelude.{◌≡◌, IfErr, IfOk, replicate};
-ghost use Rattle.sq_exchange.specs.declared.answer.Answer.TheVariants.{NoMemory};
+ghost use Rattle.std.specs.Prelude.{◌≡◌, IfOk, replicate};
 ghost use Rattle.sq_value.specs.declared.value.Value.TheVariants.{Null};
 
 use crate::host::Host;
@@ -13,8 +12,6 @@ use sq_value::Value;
 use std::alloc::{AllocError, Global};
 
 impl Host {
-    ghost use Rattle.sq_host.specs.Changes.{fit_in, unfit_answer};
-
     /// The fault for which a procedure answers 42000, in words; no words where it has none.
     pub(crate) fn why(&self, alloc: Global, procedure: usize) -> Result<Vec<u8>, Answer> {
         let Some(session) = &self.session else {
@@ -28,11 +25,7 @@ impl Host {
 
     /// The place of the first value that doesn't fit its parameter; how many values there are if the procedure has more or
     /// fewer parameters, or isn't there; none if the values fit.
-    pub(crate) fn unfit(&self, alloc: Global, procedure: usize) -> Result<Option<usize>, Answer>
-        ensures fit { IfOk result (λ place. fit_in self.now.session self.now.values.items procedure ≡ unfit_answer place) }
-        ensures refused { IfErr result (λ answer. ¬ (answer ≡ NoMemory)
-            → fit_in self.now.session self.now.values.items procedure ≡ answer) }
-    {
+    pub(crate) fn unfit(&self, alloc: Global, procedure: usize) -> Result<Option<usize>, Answer> {
         let Some(session) = &self.session else {
             return Err(Answer::NotOpen);
         };
