@@ -699,7 +699,7 @@ On standard error, with the file's name:
 }
 
 fn text_of_unexpected() -> &'static str {
-    "Unexpected: A token cannot follow those before it. `sqmod check` names the tokens that can.
+    "Unexpected: A token cannot follow those before it. Compare what stands before it with the grammar, in LANGUAGE.md.
 
   -- schema
   CREATE SCHEMA AUTHORIZATION U CREATE D
@@ -711,7 +711,7 @@ On standard error, with the file's name:
 }
 
 fn text_of_end_of_text() -> &'static str {
-    "EndOfText: The text ends where more must follow. `sqmod check` names the tokens that can follow.
+    "EndOfText: The text ends where more must follow. Look for a bracket, a quote or a semicolon that is missing.
 
   -- schema
   CREATE SCHEMA AUTHORIZATION U CREATE TABLE
@@ -831,7 +831,7 @@ On standard error, with the file's name:
 }
 
 fn text_of_bad_view() -> &'static str {
-    "BadView of a schema: A view's query is not well formed, or its columns have no names. Correct the query, and name the view's columns in a list behind its name.
+    "BadView of a schema: A view's query is not well formed, or its columns have no names. Correct the query, and name the view's columns in a list after its name.
 
   -- schema
   CREATE SCHEMA AUTHORIZATION U CREATE TABLE D (A INTEGER)
