@@ -1,4 +1,5 @@
 pub mod Asked
+pub mod Calls
 pub mod Changes
 pub mod Host
 pub mod Kept

@@ -1,11 +1,12 @@
 //! The calls of a handle. One that leads to nothing answers `NotOpen` to each but `start`, and where a call
 //! doesn't answer `Done` it sets nothing, but for the length of a text for which there is no room.
 
-ghost use Rattle.std.specs.Prelude.{◌≡◌, [], None, Ok};
+ghost use Rattle.std.specs.Prelude.{◌≡◌, [], ◌∷◌, ◌++◌, IsSome, None, Ok, option_to_list, reverse};
 ghost use Rattle.sq_value.specs.declared.value.Value.TheVariants.{Null};
 ghost use Rattle.sq_exchange.specs.Number.{number_value};
-ghost use Rattle.sq_exchange.specs.declared.answer.Answer.TheVariants.{Done, NoMemory};
-ghost use Rattle.sq_host.specs.Asked.{asked, set_answer};
+ghost use Rattle.sq_exchange.specs.declared.answer.Answer.TheVariants.{AlreadyOpen, BadArguments, BadValue, Done, NoMemory, Refused};
+ghost use Rattle.sq_host.specs.Asked.{and_then, asked, set_answer, set_value};
+ghost use Rattle.sq_host.specs.Calls.{AreRefused, Called, IsOf, IsOutOfBounds, last_of, machine_of, modules_of, opened, procedure_named, reply_of, row_read, rows_kept, rows_named, schemas_of, taken, unopened};
 ghost use Rattle.sq_host.specs.Changes.{start_answer, values_of, with_value};
 ghost use Rattle.sq_host.specs.Host.{leads_to};
 
@@ -36,7 +37,15 @@ impl Handle {
     }
 
     /// Adds a schema text.
-    pub fn add_schema(&mut self, alloc: Global, text: &[u8]) -> Answer {
+    pub fn add_schema(&mut self, alloc: Global, text: &[u8]) -> Answer
+        ensures answer { ¬ (result ≡ NoMemory)
+            → result ≡ set_answer (asked (leads_to self.old) (λ h. unopened h.processor)) }
+        ensures added { result ≡ Done
+            → schemas_of (leads_to self.new) ≡ schemas_of (leads_to self.old) ++ text.now ∷ [] }
+        ensures none { ¬ (result ≡ Done) → schemas_of (leads_to self.new) ≡ schemas_of (leads_to self.old) }
+        ensures modules { modules_of (leads_to self.new) ≡ modules_of (leads_to self.old) }
+        ensures machine { machine_of (leads_to self.new) ≡ machine_of (leads_to self.old) }
+    {
         let Some(mut host) = self.take(alloc) else {
             return Answer::NotOpen;
         };
@@ -46,7 +55,15 @@ impl Handle {
     }
 
     /// Adds a module text.
-    pub fn add_module(&mut self, alloc: Global, text: &[u8]) -> Answer {
+    pub fn add_module(&mut self, alloc: Global, text: &[u8]) -> Answer
+        ensures answer { ¬ (result ≡ NoMemory)
+            → result ≡ set_answer (asked (leads_to self.old) (λ h. unopened h.processor)) }
+        ensures added { result ≡ Done
+            → modules_of (leads_to self.new) ≡ modules_of (leads_to self.old) ++ text.now ∷ [] }
+        ensures none { ¬ (result ≡ Done) → modules_of (leads_to self.new) ≡ modules_of (leads_to self.old) }
+        ensures schemas { schemas_of (leads_to self.new) ≡ schemas_of (leads_to self.old) }
+        ensures machine { machine_of (leads_to self.new) ≡ machine_of (leads_to self.old) }
+    {
         let Some(mut host) = self.take(alloc) else {
             return Answer::NotOpen;
         };
@@ -55,8 +72,16 @@ impl Handle {
         answer
     }
 
-    /// Opens a session of the texts, in which a table has this many row numbers.
-    pub fn open(&mut self, alloc: Global, row_numbers: u64) -> Answer {
+    /// Opens a processor of the texts, in which a table has this many row numbers: at least one, and at most `MOST_ROW_NUMBERS`.
+    pub fn open(&mut self, alloc: Global, row_numbers: u64) -> Answer
+        ensures opened { result ≡ Done → IsOf row_numbers
+            (schemas_of (leads_to self.old)) (modules_of (leads_to self.old)) (machine_of (leads_to self.new)) }
+        ensures refused { result ≡ Refused
+            → AreRefused row_numbers (schemas_of (leads_to self.old)) (modules_of (leads_to self.old)) }
+        ensures already { result ≡ AlreadyOpen → IsSome (machine_of (leads_to self.old)) }
+        ensures numbers { result ≡ BadValue → IsOutOfBounds row_numbers }
+        ensures none { ¬ (result ≡ Done) → machine_of (leads_to self.new) ≡ machine_of (leads_to self.old) }
+    {
         let Some(mut host) = self.take(alloc) else {
             return Answer::NotOpen;
         };
@@ -72,7 +97,14 @@ impl Handle {
         module: &[u8],
         name: &[u8],
         number: &mut usize,
-    ) -> Answer {
+    ) -> Answer
+        ensures answer { ¬ (result ≡ NoMemory)
+            → result ≡ set_answer (and_then (procedure_named module.now name.now) (opened (machine_of (leads_to self.old)))) }
+        ensures number { ¬ (result ≡ NoMemory)
+            → number.new ≡ set_value (and_then (procedure_named module.now name.now) (opened (machine_of (leads_to self.old)))) number.old }
+        ensures none { result ≡ NoMemory → number.new ≡ number.old }
+        ensures same { leads_to self.new ≡ leads_to self.old }
+    {
         let Some(host) = self.take(alloc) else {
             return Answer::NotOpen;
         };
@@ -142,7 +174,12 @@ impl Handle {
     }
 
     /// Sets the place of the first value that doesn't fit the procedure, and answers `BadArguments`; or `Done` if all fit.
-    pub fn checked_values(&mut self, alloc: Global, procedure: usize, place: &mut usize) -> Answer {
+    pub fn checked_values(&mut self, alloc: Global, procedure: usize, place: &mut usize) -> Answer
+        ensures answer { ¬ (result ≡ NoMemory) → result ≡ set_answer
+            (and_then (taken procedure (values_of (leads_to self.old))) (opened (machine_of (leads_to self.old)))) }
+        ensures none { ¬ (result ≡ BadArguments) → place.new ≡ place.old }
+        ensures same { leads_to self.new ≡ leads_to self.old }
+    {
         let Some(host) = self.take(alloc) else {
             return Answer::NotOpen;
         };
@@ -159,7 +196,14 @@ impl Handle {
     }
 
     /// Calls the procedure of this number with the values that were added, which are then gone.
-    pub fn call(&mut self, alloc: Global, procedure: usize) -> Answer {
+    pub fn call(&mut self, alloc: Global, procedure: usize) -> Answer
+        ensures answer { ¬ (result ≡ NoMemory) → result ≡ set_answer
+            (and_then (taken procedure (values_of (leads_to self.old))) (opened (machine_of (leads_to self.old)))) }
+        ensures called { result ≡ Done → Called (machine_of (leads_to self.old)) procedure
+            (values_of (leads_to self.old)) (reply_of (leads_to self.new)) (machine_of (leads_to self.new)) }
+        ensures none { ¬ (result ≡ Done) → machine_of (leads_to self.new) ≡ machine_of (leads_to self.old) }
+        ensures values { values_of (leads_to self.new) ≡ [] }
+    {
         let Some(mut host) = self.take(alloc) else {
             return Answer::NotOpen;
         };
@@ -169,7 +213,14 @@ impl Handle {
     }
 
     /// Begins with the rows of the base table of this user and name.
-    pub fn read_table(&mut self, alloc: Global, user: &[u8], name: &[u8]) -> Answer {
+    pub fn read_table(&mut self, alloc: Global, user: &[u8], name: &[u8]) -> Answer
+        ensures answer { ¬ (result ≡ NoMemory) → result ≡ set_answer
+            (and_then (rows_named user.now name.now) (opened (machine_of (leads_to self.old)))) }
+        ensures rows { result ≡ Done → and_then (rows_named user.now name.now) (opened (machine_of (leads_to self.old)))
+            ≡ Ok (reverse (rows_kept (leads_to self.new))) }
+        ensures none { ¬ (result ≡ Done) → rows_kept (leads_to self.new) ≡ rows_kept (leads_to self.old) }
+        ensures machine { machine_of (leads_to self.new) ≡ machine_of (leads_to self.old) }
+    {
         let Some(mut host) = self.take(alloc) else {
             return Answer::NotOpen;
         };
@@ -179,7 +230,12 @@ impl Handle {
     }
 
     /// Goes on to the next row, whose values are then the outputs; `NoRow` where there is none.
-    pub fn next_row(&mut self, alloc: Global) -> Answer {
+    pub fn next_row(&mut self, alloc: Global) -> Answer
+        ensures answer { result ≡ set_answer (asked (leads_to self.old) (λ h. last_of h.rows.items)) }
+        ensures rows { rows_kept (leads_to self.old)
+            ≡ rows_kept (leads_to self.new) ++ option_to_list (row_read (leads_to self.new)) }
+        ensures machine { machine_of (leads_to self.new) ≡ machine_of (leads_to self.old) }
+    {
         let Some(mut host) = self.take(alloc) else {
             return Answer::NotOpen;
         };

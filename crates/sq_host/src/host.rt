@@ -1,21 +1,23 @@
 //! What a handle leads to: texts, and the session that they open.
-ghost use Rattle.std.specs.Prelude.{◌≡◌, [], true, IfOk, OnErr};
-ghost use Rattle.sq_session.specs.Kind.{fits_at, kind_at};
-ghost use Rattle.sq_session.specs.Step.{MayCall};
-ghost use Rattle.sq_exchange.specs.declared.answer.Answer.TheVariants.{Done, NoMemory};
-ghost use Rattle.sq_host.specs.Asked.{set_answer};
+ghost use Rattle.std.specs.Prelude.{◌≡◌, [], ◌∷◌, ◌++◌, Ok, Some, IfErr, IfOk, IsSome};
+ghost use Rattle.sq_exchange.specs.Answer.{IsWhy};
+ghost use Rattle.sq_exchange.specs.declared.answer.Answer.TheVariants.{AlreadyOpen, BadValue, Done, NoMemory, Refused};
+ghost use Rattle.sq_host.specs.Asked.{and_then, set_answer};
+ghost use Rattle.sq_run.specs.Opens.{IsOfTexts};
+ghost use Rattle.sq_host.specs.Calls.{Called, RefusedOrNoMemory, number_named, procedure_named, taken};
 
 use crate::texts::{add_text, line_of};
 use sq_exchange::{Answer, name_of};
 use sq_heap::HeapStore;
-use sq_perform::{Limits, RunFault, open_session};
-use sq_session::{Reply, Session};
+use sq_lex::Name;
+use sq_run::{Limits, Processor, RunFault};
+use sq_session::Reply;
 use sq_store::MOST_ROW_NUMBERS;
 use sq_value::{Row, Value};
 use std::alloc::Global;
 use std::mem::replace;
 
-/// Texts, and from when they are opened a session; with it the values for the next call, the answer of the last one, and the
+/// Texts, and from when they are opened a processor; with it the values for the next call, the answer of the last one, and the
 /// rows of a table that is read.
 #[derive(Drop)]
 pub struct Host {
@@ -23,7 +25,7 @@ pub struct Host {
     pub modules: Vec<Vec<u8>>,
     /// The line of the last refusal.
     pub line: Vec<u8>,
-    pub session: Option<Session<HeapStore>>,
+    pub processor: Option<Processor<HeapStore>>,
     pub values: Vec<Value>,
     pub reply: Option<Reply>,
     /// The rows that are still to come, the next one last.
@@ -33,6 +35,7 @@ pub struct Host {
 }
 
 impl Host {
+    ghost use Rattle.sq_host.specs.Calls.{AreRefused, IsOf, IsOutOfBounds, MayOpen, bytes_of, opened, unopened};
     ghost use Rattle.sq_host.specs.Changes.{with_value};
 
     pub(crate) fn new(alloc: Global) -> Host {
@@ -40,7 +43,7 @@ impl Host {
             schemas: Vec::new(alloc),
             modules: Vec::new(alloc),
             line: Vec::new(alloc),
-            session: None,
+            processor: None,
             values: Vec::new(alloc),
             reply: None,
             rows: Vec::new(alloc),
@@ -48,37 +51,60 @@ impl Host {
         }
     }
 
-    pub(crate) fn add_schema(&mut self, alloc: Global, text: &[u8]) -> Answer {
-        if self.session.is_some() {
+    pub(crate) fn add_schema(&mut self, alloc: Global, text: &[u8]) -> Answer
+        ensures answer { ¬ (result ≡ NoMemory) → result ≡ set_answer (unopened self.old.processor) }
+        ensures added { result ≡ Done
+            → bytes_of self.new.schemas.items ≡ bytes_of self.old.schemas.items ++ text.now ∷ [] }
+        ensures none { ¬ (result ≡ Done) → bytes_of self.new.schemas.items ≡ bytes_of self.old.schemas.items }
+        ensures modules { self.new.modules ≡ self.old.modules }
+        ensures processor { self.new.processor ≡ self.old.processor }
+    {
+        if self.processor.is_some() {
             return Answer::AlreadyOpen;
         }
         add_text(alloc, &mut self.schemas, text)
     }
 
-    pub(crate) fn add_module(&mut self, alloc: Global, text: &[u8]) -> Answer {
-        if self.session.is_some() {
+    pub(crate) fn add_module(&mut self, alloc: Global, text: &[u8]) -> Answer
+        ensures answer { ¬ (result ≡ NoMemory) → result ≡ set_answer (unopened self.old.processor) }
+        ensures added { result ≡ Done
+            → bytes_of self.new.modules.items ≡ bytes_of self.old.modules.items ++ text.now ∷ [] }
+        ensures none { ¬ (result ≡ Done) → bytes_of self.new.modules.items ≡ bytes_of self.old.modules.items }
+        ensures schemas { self.new.schemas ≡ self.old.schemas }
+        ensures processor { self.new.processor ≡ self.old.processor }
+    {
+        if self.processor.is_some() {
             return Answer::AlreadyOpen;
         }
         add_text(alloc, &mut self.modules, text)
     }
 
-    /// Opens a session of the texts, in which a table has this many row numbers.
-    pub(crate) fn open(&mut self, alloc: Global, row_numbers: u64) -> Answer {
-        if self.session.is_some() {
+    /// Opens a processor of the texts, in which a table has this many row numbers.
+    pub(crate) fn open(&mut self, alloc: Global, row_numbers: u64) -> Answer
+        ensures opened { result ≡ Done
+            → IsOf row_numbers (bytes_of self.old.schemas.items) (bytes_of self.old.modules.items) self.new.processor }
+        ensures refused { result ≡ Refused
+            → AreRefused row_numbers (bytes_of self.old.schemas.items) (bytes_of self.old.modules.items) }
+        ensures already { result ≡ AlreadyOpen → IsSome self.old.processor }
+        ensures numbers { result ≡ BadValue → IsOutOfBounds row_numbers }
+        ensures otherwise { MayOpen result }
+        ensures none { ¬ (result ≡ Done) → self.new.processor ≡ self.old.processor }
+    {
+        if self.processor.is_some() {
             return Answer::AlreadyOpen;
         }
         if row_numbers == 0 || MOST_ROW_NUMBERS < row_numbers {
             return Answer::BadValue;
         }
         let limits = Limits { row_numbers };
-        match open_session::<HeapStore>(
+        match Processor::open(
             alloc,
             self.schemas.as_slice(),
             self.modules.as_slice(),
             limits,
         ) {
-            Ok(session) => {
-                self.session = Some(session);
+            Ok(processor) => {
+                self.processor = Some(processor);
                 Answer::Done
             }
             Err(fault) => self.refuse(alloc, fault),
@@ -86,7 +112,11 @@ impl Host {
     }
 
     /// Keeps the line of a refusal.
-    fn refuse(&mut self, alloc: Global, fault: RunFault) -> Answer {
+    fn refuse(&mut self, alloc: Global, fault: RunFault) -> Answer
+        ensures refused { result ≡ Refused → IsOfTexts fault }
+        ensures otherwise { RefusedOrNoMemory result }
+        ensures processor { self.new.processor ≡ self.old.processor }
+    {
         match line_of(alloc, fault) {
             Ok(line) => {
                 self.line = line;
@@ -102,13 +132,16 @@ impl Host {
         alloc: Global,
         module: &[u8],
         name: &[u8],
-    ) -> Result<usize, Answer> {
-        let Some(session) = &self.session else {
-            return Err(Answer::NotOpen);
-        };
-        let module = name_of(alloc, module)?;
-        let name = name_of(alloc, name)?;
-        session.procedure(module, name).ok_or(Answer::Unknown)
+    ) -> Result<usize, Answer>
+        ensures number { IfOk result
+            (λ number. and_then (procedure_named module.now name.now) (opened self.now.processor) ≡ Ok number) }
+        ensures refused { IfErr result
+            (IsWhy (and_then (procedure_named module.now name.now) (opened self.now.processor))) }
+    {
+        match &self.processor {
+            Some(processor) => procedure_in(alloc, processor, module, name),
+            None => Err(Answer::NotOpen),
+        }
     }
 
     /// Adds a value for the next call, if there is one.
@@ -134,43 +167,87 @@ impl Host {
     }
 
     /// Calls a procedure with the values that were added since the last call, which are then gone.
-    pub(crate) fn call(&mut self, alloc: Global, procedure: usize) -> Answer {
+    pub(crate) fn call(&mut self, alloc: Global, procedure: usize) -> Answer
+        ensures answer { ¬ (result ≡ NoMemory)
+            → result ≡ set_answer (and_then (taken procedure self.old.values.items) (opened self.old.processor)) }
+        ensures called { result ≡ Done
+            → Called self.old.processor procedure self.old.values.items self.new.reply self.new.processor }
+        ensures none { ¬ (result ≡ Done) → self.new.processor ≡ self.old.processor }
+        ensures values { self.new.values.items ≡ [] }
+    {
         self.reply = None;
         self.row = None;
         let values = replace(&mut self.values, Vec::new(alloc));
-        let answered = match &mut self.session {
-            Some(session) => answered(alloc, session, procedure, values.as_slice()),
-            None => Err(Answer::NotOpen),
+        let answer = match &mut self.processor {
+            Some(processor) => call_for(
+                alloc,
+                processor,
+                procedure,
+                values.as_slice(),
+                &mut self.reply,
+            ),
+            None => Answer::NotOpen,
         };
         drop(values);
-        match answered {
-            Ok(reply) => {
-                self.reply = Some(reply);
-                Answer::Done
-            }
-            Err(answer) => answer,
-        }
+        answer
     }
 }
 
-/// Calls a procedure, if there is one of this number and the values fit it.
-fn answered(
+/// The number of the procedure of a processor whose module and name these texts spell.
+fn procedure_in(
     alloc: Global,
-    session: &mut Session<HeapStore>,
+    processor: &Processor<HeapStore>,
+    module: &[u8],
+    name: &[u8],
+) -> Result<usize, Answer>
+    ensures number { IfOk result (λ number. procedure_named module.now name.now processor.now ≡ Ok number) }
+    ensures refused { IfErr result (IsWhy (procedure_named module.now name.now processor.now)) }
+{
+    match name_of(alloc, module) {
+        Ok(module) => procedure_of(alloc, processor, module, name),
+        Err(answer) => Err(answer),
+    }
+}
+
+/// The number of the procedure of this module whose name a text spells.
+fn procedure_of(
+    alloc: Global,
+    processor: &Processor<HeapStore>,
+    module: Name,
+    name: &[u8],
+) -> Result<usize, Answer>
+    ensures number { IfOk result (λ number. number_named name.now processor.now «module» ≡ Ok number) }
+    ensures refused { IfErr result (IsWhy (number_named name.now processor.now «module»)) }
+{
+    match name_of(alloc, name) {
+        Ok(name) => processor
+            .procedure(module, name)
+            .ok_or(Answer::Unknown),
+        Err(answer) => Err(answer),
+    }
+}
+
+/// Calls a procedure, if there is one of this number and the values fit it, and keeps the reply.
+fn call_for(
+    alloc: Global,
+    processor: &mut Processor<HeapStore>,
     procedure: usize,
     values: &[Value],
-) -> Result<Reply, Answer>
-    ensures fits { IfOk result (λ _. fits_at session.old.procedures procedure values.now ≡ true) }
-    ensures step { IfOk result (λ r.
-        MayCall session.old.schemas (kind_at session.old.procedures procedure) values.now session.old.state
-        (record { status = r.status; outputs = r.outputs }) session.new.state) }
-    ensures err { OnErr result (session.new ≡ session.old) }
+    kept: &mut Option<Reply>,
+) -> Answer
+    ensures answer { ¬ (result ≡ NoMemory) → result ≡ set_answer (taken procedure values.now processor.old) }
+    ensures called { result ≡ Done
+        → Called (Some processor.old) procedure values.now kept.new (Some processor.new) }
+    ensures none { ¬ (result ≡ Done) → processor.new ≡ processor.old }
 {
-    if !session.fits(procedure, values) {
-        return Err(Answer::BadArguments);
+    if !processor.fits(procedure, values) {
+        return Answer::BadArguments;
     }
-    match session.call(alloc, procedure, values) {
-        Ok(reply) => Ok(reply),
-        Err(_) => Err(Answer::NoMemory),
+    match processor.call(alloc, procedure, values) {
+        Ok(reply) => {
+            *kept = Some(reply);
+            Answer::Done
+        }
+        Err(_) => Answer::NoMemory,
     }
 }

@@ -1,20 +1,32 @@
 //! The rows of a base table.
 
-ghost use Rattle.std.specs.Prelude.{◌≡◌, ◌++◌, [], option_to_list};
-ghost use Rattle.sq_exchange.specs.declared.answer.Answer.TheVariants.{NoRow};
+ghost use Rattle.std.specs.Prelude.{◌≡◌, ◌++◌, [], Ok, IfErr, IfOk, map, option_to_list, reverse};
+ghost use Rattle.sq_exchange.specs.Answer.{IsWhy};
+ghost use Rattle.sq_exchange.specs.declared.answer.Answer.TheVariants.{Done, NoMemory, NoRow};
+ghost use Rattle.sq_host.specs.Asked.{and_then, set_answer};
+ghost use Rattle.sq_host.specs.Calls.{opened, rows_called, rows_in, rows_named, values_in};
 ghost use Rattle.sq_host.specs.Changes.{row_answer};
 
 use crate::host::Host;
 use sq_exchange::{Answer, name_of};
 use sq_heap::HeapStore;
-use sq_session::{Session, TableRows};
+use sq_lex::Name;
+use sq_run::Processor;
+use sq_session::TableRows;
 use sq_value::{Row, copy_row};
 use std::alloc::{AllocError, Global};
 
 impl Host {
     /// Begins with the rows of the base table of this user and name, as they are now.
-    pub(crate) fn read_table(&mut self, alloc: Global, user: &[u8], name: &[u8]) -> Answer {
-        match rows_of(alloc, &self.session, user, name) {
+    pub(crate) fn read_table(&mut self, alloc: Global, user: &[u8], name: &[u8]) -> Answer
+        ensures answer { ¬ (result ≡ NoMemory)
+            → result ≡ set_answer (and_then (rows_named user.now name.now) (opened self.old.processor)) }
+        ensures rows { result ≡ Done
+            → and_then (rows_named user.now name.now) (opened self.old.processor) ≡ Ok (reverse self.new.rows.items) }
+        ensures none { ¬ (result ≡ Done) → self.new.rows ≡ self.old.rows }
+        ensures processor { self.new.processor ≡ self.old.processor }
+    {
+        match rows_of(alloc, &self.processor, user, name) {
             Ok(rows) => {
                 self.rows = rows;
                 self.row = None;
@@ -29,6 +41,7 @@ impl Host {
         ensures answer { result ≡ row_answer self.new.row }
         ensures rows { self.old.rows.items ≡ self.new.rows.items ++ option_to_list self.new.row }
         ensures last { result ≡ NoRow → self.old.rows.items ≡ [] }
+        ensures processor { self.new.processor ≡ self.old.processor }
     {
         self.row = self.rows.pop();
         if self.row.is_some() {
@@ -42,29 +55,84 @@ impl Host {
 /// Copies of the rows of a base table, the first one last.
 fn rows_of(
     alloc: Global,
-    session: &Option<Session<HeapStore>>,
+    processor: &Option<Processor<HeapStore>>,
     user: &[u8],
     name: &[u8],
-) -> Result<Vec<Row>, Answer> {
-    let Some(session) = session else {
-        return Err(Answer::NotOpen);
-    };
-    let user = name_of(alloc, user)?;
-    let name = name_of(alloc, name)?;
-    let Some(rows) = session.rows(user, name) else {
-        return Err(Answer::Unknown);
-    };
-    match copied(alloc, rows) {
-        Ok(rows) => Ok(rows),
-        Err(_) => Err(Answer::NoMemory),
+) -> Result<Vec<Row>, Answer>
+    ensures rows { IfOk result
+        (λ rows. and_then (rows_named user.now name.now) (opened processor.now) ≡ Ok (reverse rows.items)) }
+    ensures refused { IfErr result (IsWhy (and_then (rows_named user.now name.now) (opened processor.now))) }
+{
+    match processor {
+        Some(processor) => rows_of_named(alloc, processor, user, name),
+        None => Err(Answer::NotOpen),
     }
 }
 
-fn copied(alloc: Global, mut rows: TableRows<'_, HeapStore>) -> Result<Vec<Row>, AllocError> {
+/// Copies of the rows of the base table of a processor whose owner and name these texts spell.
+fn rows_of_named(
+    alloc: Global,
+    processor: &Processor<HeapStore>,
+    user: &[u8],
+    name: &[u8],
+) -> Result<Vec<Row>, Answer>
+    ensures rows { IfOk result (λ rows. rows_named user.now name.now processor.now ≡ Ok (reverse rows.items)) }
+    ensures refused { IfErr result (IsWhy (rows_named user.now name.now processor.now)) }
+{
+    match name_of(alloc, user) {
+        Ok(user) => rows_of_user(alloc, processor, user, name),
+        Err(answer) => Err(answer),
+    }
+}
+
+/// Copies of the rows of the base table of this owner whose name a text spells.
+fn rows_of_user(
+    alloc: Global,
+    processor: &Processor<HeapStore>,
+    user: Name,
+    name: &[u8],
+) -> Result<Vec<Row>, Answer>
+    ensures rows { IfOk result (λ rows. rows_called name.now processor.now user ≡ Ok (reverse rows.items)) }
+    ensures refused { IfErr result (IsWhy (rows_called name.now processor.now user)) }
+{
+    match name_of(alloc, name) {
+        Ok(name) => rows_of_table(alloc, processor, user, name),
+        Err(answer) => Err(answer),
+    }
+}
+
+/// Copies of the rows of the base table of this owner and name.
+fn rows_of_table(
+    alloc: Global,
+    processor: &Processor<HeapStore>,
+    user: Name,
+    name: Name,
+) -> Result<Vec<Row>, Answer>
+    ensures rows { IfOk result (λ rows. rows_in user processor.now name ≡ Ok (reverse rows.items)) }
+    ensures refused { IfErr result (IsWhy (rows_in user processor.now name)) }
+{
+    match processor.rows(user, name) {
+        Some(rows) => copy_reversed(alloc, rows).map_err(|_| Answer::NoMemory),
+        None => Err(Answer::Unknown),
+    }
+}
+
+/// Copies of the rows that are still to come, the first one last.
+fn copy_reversed(alloc: Global, rows: TableRows<'_, HeapStore>) -> Result<Vec<Row>, AllocError>
+    ensures { IfOk result (λ copies. reverse copies.items ≡ values_in rows) }
+{
+    let mut copies = copied(alloc, rows)?;
+    copies.as_mut_slice().reverse();
+    Ok(copies)
+}
+
+/// Copies of the rows that are still to come.
+fn copied(alloc: Global, mut rows: TableRows<'_, HeapStore>) -> Result<Vec<Row>, AllocError>
+    ensures { IfOk result (λ copies. copies.items ≡ values_in rows) }
+{
     let mut copies = Vec::new(alloc);
     while let Some((_, row)) = rows.next() {
         copies.push(copy_row(alloc, row.as_slice())?)?;
     }
-    copies.as_mut_slice().reverse();
     Ok(copies)
 }

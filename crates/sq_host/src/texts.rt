@@ -1,26 +1,40 @@
 //! Texts that are kept, and lines that are made of faults.
 
+ghost use Rattle.std.specs.Prelude.{◌≡◌, [], ◌∷◌, ◌++◌, IfOk, OnErr};
+ghost use Rattle.sq_exchange.specs.declared.answer.Answer.TheVariants.{Done, NoMemory};
+ghost use Rattle.sq_host.specs.Calls.{bytes_of};
+ghost use Rattle.sq_run.specs.Opens.{IsOfTexts};
+
 use sq_exchange::Answer;
-use sq_perform::{Refusal, RunFault};
+use sq_run::{Refusal, RunFault};
 use sq_session::Fault;
 use std::alloc::{AllocError, Global};
 
 /// Adds a copy of a text.
-pub(crate) fn add_text(alloc: Global, texts: &mut Vec<Vec<u8>>, text: &[u8]) -> Answer {
+pub(crate) fn add_text(alloc: Global, texts: &mut Vec<Vec<u8>>, text: &[u8]) -> Answer
+    ensures answer { ¬ (result ≡ NoMemory) → result ≡ Done }
+    ensures added { result ≡ Done → bytes_of texts.new.items ≡ bytes_of texts.old.items ++ text.now ∷ [] }
+    ensures none { ¬ (result ≡ Done) → bytes_of texts.new.items ≡ bytes_of texts.old.items }
+{
     match added(alloc, texts, text) {
         Ok(()) => Answer::Done,
         Err(_) => Answer::NoMemory,
     }
 }
 
-fn added(alloc: Global, texts: &mut Vec<Vec<u8>>, text: &[u8]) -> Result<(), AllocError> {
+fn added(alloc: Global, texts: &mut Vec<Vec<u8>>, text: &[u8]) -> Result<(), AllocError>
+    ensures added { IfOk result (λ _. bytes_of texts.new.items ≡ bytes_of texts.old.items ++ text.now ∷ []) }
+    ensures none { OnErr result (bytes_of texts.new.items ≡ bytes_of texts.old.items) }
+{
     let text = Vec::from_slice(alloc, text)?;
     texts.push(text)?;
     Ok(())
 }
 
 /// The line of a refusal: the kind of the text and its number among those, from 1, the place, and the name.
-pub(crate) fn line_of(alloc: Global, fault: RunFault) -> Result<Vec<u8>, AllocError> {
+pub(crate) fn line_of(alloc: Global, fault: RunFault) -> Result<Vec<u8>, AllocError>
+    ensures { IfOk result (λ _. IsOfTexts fault) }
+{
     match fault {
         RunFault::SchemaRefused(refusal) => line_with(alloc, "schema", refusal),
         RunFault::ModuleRefused(refusal) => line_with(alloc, "module", refusal),

@@ -1,23 +1,31 @@
 //! What can be known of a call before it is made.
 
-ghost use Rattle.std.specs.Prelude.{◌≡◌, IfOk, replicate};
+ghost use Rattle.std.specs.Prelude.{◌≡◌, ◌≤◌, [], Ok, false, IfErr, IfOk, length, replicate};
 ghost use Rattle.sq_value.specs.declared.value.Value.TheVariants.{Null};
+ghost use Rattle.sq_exchange.specs.Answer.{IsWhy};
+ghost use Rattle.sq_host.specs.Asked.{and_then};
+ghost use Rattle.sq_host.specs.Calls.{is_faulty, opened, place_for, taken};
+ghost use Rattle.sq_run.specs.Processor.{has_fault};
 
 use crate::host::Host;
 use crate::texts::words_of;
 use sq_exchange::Answer;
 use sq_heap::HeapStore;
-use sq_session::Session;
+use sq_run::Processor;
 use sq_value::Value;
 use std::alloc::{AllocError, Global};
 
 impl Host {
     /// The fault for which a procedure answers 42000, in words; no words where it has none.
-    pub(crate) fn why(&self, alloc: Global, procedure: usize) -> Result<Vec<u8>, Answer> {
-        let Some(session) = &self.session else {
+    pub(crate) fn why(&self, alloc: Global, procedure: usize) -> Result<Vec<u8>, Answer>
+        ensures none { is_faulty procedure self.now.processor ≡ Ok false
+            → IfOk result (λ words. words.items ≡ []) }
+        ensures refused { IfErr result (IsWhy (is_faulty procedure self.now.processor)) }
+    {
+        let Some(processor) = &self.processor else {
             return Err(Answer::NotOpen);
         };
-        match session.fault(procedure) {
+        match processor.fault(procedure) {
             Some(fault) => words_of(alloc, fault).map_err(|_| Answer::NoMemory),
             None => Ok(Vec::new(alloc)),
         }
@@ -25,15 +33,20 @@ impl Host {
 
     /// The place of the first value that doesn't fit its parameter; how many values there are if the procedure has more or
     /// fewer parameters, or isn't there; none if the values fit.
-    pub(crate) fn unfit(&self, alloc: Global, procedure: usize) -> Result<Option<usize>, Answer> {
-        let Some(session) = &self.session else {
+    pub(crate) fn unfit(&self, alloc: Global, procedure: usize) -> Result<Option<usize>, Answer>
+        ensures place { IfOk result (λ place.
+            and_then (taken procedure self.now.values.items) (opened self.now.processor) ≡ place_for place) }
+        ensures refused { IfErr result
+            (IsWhy (and_then (taken procedure self.now.values.items) (opened self.now.processor))) }
+    {
+        let Some(processor) = &self.processor else {
             return Err(Answer::NotOpen);
         };
         let values = self.values.as_slice();
-        if session.fits(procedure, values) {
+        if processor.fits(procedure, values) {
             return Ok(None);
         }
-        match first_unfit(alloc, session, procedure, values) {
+        match first_unfit(alloc, processor, procedure, values) {
             Ok(place) => Ok(Some(place)),
             Err(_) => Err(Answer::NoMemory),
         }
@@ -43,18 +56,20 @@ impl Host {
 /// The place of the first value that doesn't fit where all others are null, which fits each parameter.
 fn first_unfit(
     alloc: Global,
-    session: &Session<HeapStore>,
+    processor: &Processor<HeapStore>,
     procedure: usize,
     values: &[Value],
-) -> Result<usize, AllocError> {
+) -> Result<usize, AllocError>
+    ensures { IfOk result (λ place. place ≤ length values.now) }
+{
     let none = nulls(alloc, values.len())?;
-    if !session.fits(procedure, none.as_slice()) {
+    if !processor.fits(procedure, none.as_slice()) {
         return Ok(values.len());
     }
     for (place, value) in values.iter().enumerate() {
         let mut alone = nulls(alloc, values.len())?;
         alone[place] = value.copy(alloc)?;
-        if !session.fits(procedure, alone.as_slice()) {
+        if !processor.fits(procedure, alone.as_slice()) {
             return Ok(place);
         }
     }

@@ -22,9 +22,9 @@ use Rattle.sq_meaning.specs.Schema.{Elements}
 use Rattle.sq_meaning.specs.SchemaRefusal.{elements_of, first_schema_refusal}
 use Rattle.sq_meaning.specs.Script.{first_script_refusal}
 use Rattle.sq_meaning.specs.Report.{Bytes}
-use Rattle.sq_meaning.specs.Run.{after}
-use Rattle.sq_meaning.specs.Machine.{first_state}
-use Rattle.sq_run.specs.Answer.{Task, accepted_modules, accepted_schemas, accepted_script, accepted_unless, and_then, answered, module_refusal, read_texts, refused_as, schema_refusal, script_refusal, task_of, trees_of}
+use Rattle.sq_meaning.specs.Run.{after, program_of}
+use Rattle.sq_meaning.specs.Machine.{Program, first_state}
+use Rattle.sq_run.specs.Answer.{Task, accepted_modules, accepted_schemas, accepted_script, accepted_unless, and_then, answered, asked_of, module_refusal, opened, read_texts, refused_as, schema_refusal, script_refusal, task_of, trees_of}
 use Rattle.sq_perform.specs.Read.{ReadText, module_rule, of_outcome, of_tokens, read_text, schema_rule, script_rule}
 use Rattle.sq_perform.specs.Texts.{AllSpell, Spells, SpellsTree}
 use Rattle.sq_perform.specs.declared.refusal.Refusal.{Refusal}
@@ -115,25 +115,30 @@ script_is elements modules script tree e =
     )
 
 module _ (row_numbers : ℕ) (schemas modules : List Bytes) (script : Bytes) where
-  abbrev script_step : List SchemaText → List ModuleText → ScriptText → Result Task RunFault
-  script_step schema_trees module_trees tree = Ok (task_of schema_trees module_trees tree row_numbers)
+  abbrev modules_step : List SchemaText → List ModuleText → Result Program RunFault
+  modules_step schema_trees module_trees = Ok (program_of schema_trees module_trees row_numbers)
 
-  abbrev modules_step : List SchemaText → List ModuleText → Result Task RunFault
-  modules_step schema_trees module_trees =
-      and_then (refused_as ScriptRefused (accepted_script (elements_of schema_trees) module_trees script)) (script_step schema_trees module_trees)
-
-  abbrev schemas_step : List SchemaText → Result Task RunFault
+  abbrev schemas_step : List SchemaText → Result Program RunFault
   schemas_step schema_trees = and_then (refused_as ModuleRefused (accepted_modules modules)) (modules_step schema_trees)
+
+  abbrev script_step : Program → ScriptText → Result Task RunFault
+  script_step machine tree = Ok (asked_of machine tree)
+
+  abbrev opened_step : Program → Result Task RunFault
+  opened_step machine = and_then (refused_as ScriptRefused (accepted_script machine.elements machine.modules script)) (script_step machine)
 
   pub accepted_are : (task : Task) → answered schemas modules script row_numbers ≡ Ok task → Accepted row_numbers schemas modules script task
   accepted_are task e =
-      let first = steps (refused_as SchemaRefused (accepted_schemas schemas)) schemas_step task e in
-      let second = steps (refused_as ModuleRefused (accepted_modules modules)) (modules_step first.0) task first.2 in
-      let third = steps (refused_as ScriptRefused (accepted_script (elements_of first.0) second.0 script)) (script_step first.0 second.0) task second.2 in
+      let o = steps (opened schemas modules row_numbers) opened_step task e in
+      let first = steps (refused_as SchemaRefused (accepted_schemas schemas)) schemas_step o.0 o.1 in
+      let second = steps (refused_as ModuleRefused (accepted_modules modules)) (modules_step first.0) o.0 first.2 in
+      let machine : program_of first.0 second.0 row_numbers ≡ o.0 = same_ok (program_of first.0 second.0 row_numbers) o.0 second.2 in
+      let third = steps (refused_as ScriptRefused (accepted_script o.0.elements o.0.modules script)) (script_step o.0) task o.2 in
+      let asked = named ScriptRefused (accepted_script o.0.elements o.0.modules script) third.0 third.1 in
       let s = schemas_are schemas first.0 (named SchemaRefused (accepted_schemas schemas) first.0 first.1) in
       let m = modules_are modules second.0 (named ModuleRefused (accepted_modules modules) second.0 second.1) in
-      let t = script_is (elements_of first.0) second.0 script third.0 (named ScriptRefused (accepted_script (elements_of first.0) second.0 script) third.0 third.1) in
-      let is : task_of first.0 second.0 third.0 row_numbers ≡ task = same_ok (task_of first.0 second.0 third.0 row_numbers) task third.2 in
+      let t = script_is (elements_of first.0) second.0 script third.0 (ap (λ (p : Program). accepted_script p.elements p.modules script) machine ∙ asked) in
+      let is : task_of first.0 second.0 third.0 row_numbers ≡ task = ap (λ (p : Program). asked_of p third.0) machine ∙ same_ok (asked_of o.0 third.0) task third.2 in
       record {
         schema_trees = first.0;
         schemas_spell = s.0;

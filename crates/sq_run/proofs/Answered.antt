@@ -16,7 +16,9 @@ use Rattle.sq_meaning.specs.ModuleRefusal.{ModuleRefusal, first_module_refusal}
 use Rattle.sq_meaning.specs.Schema.{Elements}
 use Rattle.sq_meaning.specs.SchemaRefusal.{SchemaRefusal, elements_of, first_schema_refusal}
 use Rattle.sq_meaning.specs.Script.{ScriptRefusal, first_script_refusal}
+use Rattle.sq_meaning.specs.Machine.{Program}
 use Rattle.sq_meaning.specs.Report.{Bytes}
+use Rattle.sq_meaning.specs.Run.{program_of}
 use Rattle.sq_meaning.specs.declared.refusal.ModuleFault.{ModuleFault}
 use Rattle.sq_meaning.specs.declared.refusal.SchemaFault.{SchemaFault}
 use Rattle.sq_meaning.specs.declared.refusal.ScriptFault.{ScriptFault}
@@ -25,7 +27,7 @@ use Rattle.sq_binding.specs.Catalog.{Catalog}
 use Rattle.sq_binding.specs.Declaring.{catalog_of}
 use Rattle.sq_binding.proofs.Refused.{refusal_in}
 use Rattle.sq_perform.specs.Action.{item_of}
-use Rattle.sq_run.specs.Answer.{Task, accepted_modules, accepted_schemas, accepted_script, accepted_unless, and_then, answered, module_refusal, refused_as, refused_text, schema_refusal, script_fault_name, script_refusal, task_of, trees_of, read_texts}
+use Rattle.sq_run.specs.Answer.{Task, accepted_modules, accepted_schemas, accepted_script, accepted_unless, and_then, answered, asked_of, module_refusal, opened, refused_as, refused_text, schema_refusal, script_fault_name, script_refusal, task_of, trees_of, read_texts}
 use Rattle.sq_perform.specs.Read.{ReadText, module_rule, read_text, refusal_of, schema_rule, script_rule}
 use Rattle.sq_perform.specs.Refusal.{IsOfModules, IsOfSchema, IsFirstModule, IsTokenOf, Matter, Tokens, Grammar, Depth, Meaning, OneRefused, StandsAt, matter, module_fault, refused_part, refused_start, schema_fault, script_fault}
 use Rattle.sq_perform.specs.Refused as session
@@ -202,25 +204,47 @@ module _ (elements : Elements) (modules : List ModuleText) (script : Bytes) wher
 
 -- ---- all texts
 
-module _ (row_numbers : ℕ) (schemas modules : List Bytes) (script : Bytes) where
-  abbrev script_step : List SchemaText → List ModuleText → Result ScriptText RunFault → Result Task RunFault
-  script_step schema_trees module_trees r = and_then r (λ tree. Ok (task_of schema_trees module_trees tree row_numbers))
+module _ (row_numbers : ℕ) (schemas modules : List Bytes) where
+  abbrev modules_step : List SchemaText → Result (List ModuleText) RunFault → Result Program RunFault
+  modules_step schema_trees r = and_then r (λ module_trees. Ok (program_of schema_trees module_trees row_numbers))
 
-  abbrev modules_step : List SchemaText → Result (List ModuleText) RunFault → Result Task RunFault
-  modules_step schema_trees r = and_then r (λ module_trees. script_step schema_trees module_trees (refused_as ScriptRefused (accepted_script (elements_of schema_trees) module_trees script)))
-
-  abbrev schemas_step : Result (List SchemaText) RunFault → Result Task RunFault
+  abbrev schemas_step : Result (List SchemaText) RunFault → Result Program RunFault
   schemas_step r = and_then r (λ schema_trees. modules_step schema_trees (refused_as ModuleRefused (accepted_modules modules)))
 
   behind_schemas : (trees : List SchemaText) → AllSpell schema_tokens schema_depth schemas trees → first_schema_refusal trees ≡ None
-      → answered schemas modules script row_numbers ≡ modules_step trees (refused_as ModuleRefused (accepted_modules modules))
+      → opened schemas modules row_numbers ≡ modules_step trees (refused_as ModuleRefused (accepted_modules modules))
   behind_schemas trees spelled none = ap (λ r. schemas_step (refused_as SchemaRefused r)) (schemas_taken schemas trees spelled none)
+
+  pub texts_opened : (trees : List SchemaText) (module_trees : List ModuleText) → AllSpell schema_tokens schema_depth schemas trees → first_schema_refusal trees ≡ None
+      → AllSpell module_tokens module_depth modules module_trees → first_module_refusal module_trees ≡ None
+      → opened schemas modules row_numbers ≡ Ok (program_of trees module_trees row_numbers)
+  texts_opened trees module_trees spelled none modules_spelled modules_none =
+      behind_schemas trees spelled none ∙ ap (λ r. modules_step trees (refused_as ModuleRefused r)) (modules_taken modules module_trees modules_spelled modules_none)
+
+  pub schemas_not_opened : (refusal : Refusal) → OneRefused schema_rule schema_tokens schema_depth schemas refusal → session.IsOfSchemas schemas refusal (matter refusal.what)
+      → opened schemas modules row_numbers ≡ Err (SchemaRefused refusal)
+  schemas_not_opened refusal one is =
+      ap (λ r. schemas_step (refused_as SchemaRefused r)) (schemas_refused_by schemas refusal (matter refusal.what) refl one is)
+
+  pub modules_not_opened : (refusal : Refusal) → session.AreDeclared schemas → OneRefused module_rule module_tokens module_depth modules refusal
+      → IsOfModules modules refusal (matter refusal.what) → opened schemas modules row_numbers ≡ Err (ModuleRefused refusal)
+  modules_not_opened refusal declared one is =
+      behind_schemas declared.trees declared.spelled (declared_accepted declared.trees declared.catalog declared.declared)
+      ∙ ap (λ r. modules_step declared.trees (refused_as ModuleRefused r)) (modules_refused_by modules refusal (matter refusal.what) refl one is)
+
+module _ (row_numbers : ℕ) (schemas modules : List Bytes) (script : Bytes) where
+  abbrev script_step : Program → Result ScriptText RunFault → Result Task RunFault
+  script_step machine r = and_then r (λ tree. Ok (asked_of machine tree))
+
+  abbrev opened_step : Result Program RunFault → Result Task RunFault
+  opened_step r = and_then r (λ machine. script_step machine (refused_as ScriptRefused (accepted_script machine.elements machine.modules script)))
 
   behind_modules : (trees : List SchemaText) (module_trees : List ModuleText) → AllSpell schema_tokens schema_depth schemas trees → first_schema_refusal trees ≡ None
       → AllSpell module_tokens module_depth modules module_trees → first_module_refusal module_trees ≡ None
-      → answered schemas modules script row_numbers ≡ script_step trees module_trees (refused_as ScriptRefused (accepted_script (elements_of trees) module_trees script))
+      → answered schemas modules script row_numbers
+      ≡ script_step (program_of trees module_trees row_numbers) (refused_as ScriptRefused (accepted_script (elements_of trees) module_trees script))
   behind_modules trees module_trees spelled none modules_spelled modules_none =
-      behind_schemas trees spelled none ∙ ap (λ r. modules_step trees (refused_as ModuleRefused r)) (modules_taken modules module_trees modules_spelled modules_none)
+      ap opened_step (texts_opened row_numbers schemas modules trees module_trees spelled none modules_spelled modules_none)
 
   -- the task of a run over a session
   abbrev pub asked_by : Run row_numbers schemas modules script → Task
@@ -230,7 +254,7 @@ module _ (row_numbers : ℕ) (schemas modules : List Bytes) (script : Bytes) whe
   task_answered r =
       behind_modules r.schema_trees r.module_trees r.schemas_spell
       (accepted r.schema_trees r.module_trees r.is_opened.admitted r.is_opened.catalog r.is_opened.is_catalog) r.modules_spell r.is_opened.admitted
-      ∙ ap (λ s. script_step r.schema_trees r.module_trees (refused_as ScriptRefused s))
+      ∙ ap (λ s. script_step (program_of r.schema_trees r.module_trees row_numbers) (refused_as ScriptRefused s))
       (script_judged (elements_of r.schema_trees) r.module_trees script r.script_tree r.script_spells None
       (script_accepted row_numbers r.schema_trees r.module_trees r.start r.is_opened r.script_tree r.taken))
 
@@ -251,15 +275,12 @@ module _ (row_numbers : ℕ) (schemas modules : List Bytes) (script : Bytes) whe
   pub schemas_answered : (refusal : Refusal) → session.RefusedText row_numbers schemas modules script (SchemaRefused refusal)
       → answered schemas modules script row_numbers ≡ Err (SchemaRefused refusal)
   unfolding session.RefusedText
-  schemas_answered refusal h =
-      ap (λ r. schemas_step (refused_as SchemaRefused r)) (schemas_refused_by schemas refusal (matter refusal.what) refl h.0 h.1)
+  schemas_answered refusal h = ap opened_step (schemas_not_opened row_numbers schemas modules refusal h.0 h.1)
 
   pub modules_answered : (refusal : Refusal) → session.RefusedText row_numbers schemas modules script (ModuleRefused refusal)
       → answered schemas modules script row_numbers ≡ Err (ModuleRefused refusal)
   unfolding session.RefusedText
-  modules_answered refusal h =
-      behind_schemas h.0.trees h.0.spelled (declared_accepted h.0.trees h.0.catalog h.0.declared)
-      ∙ ap (λ r. modules_step h.0.trees (refused_as ModuleRefused r)) (modules_refused_by modules refusal (matter refusal.what) refl h.1 h.2)
+  modules_answered refusal h = ap opened_step (modules_not_opened row_numbers schemas modules refusal h.0 h.1 h.2)
 
   pub script_answered : (refusal : Refusal) → session.RefusedText row_numbers schemas modules script (ScriptRefused refusal)
       → answered schemas modules script row_numbers ≡ Err (ScriptRefused refusal)
@@ -268,4 +289,4 @@ module _ (row_numbers : ℕ) (schemas modules : List Bytes) (script : Bytes) whe
       let o = h.opened in
       behind_modules o.schema_trees o.module_trees o.schemas_spell
       (accepted o.schema_trees o.module_trees o.is_opened.admitted o.is_opened.catalog o.is_opened.is_catalog) o.modules_spell o.is_opened.admitted
-      ∙ ap (λ s. script_step o.schema_trees o.module_trees (refused_as ScriptRefused s)) (script_refused_by refusal h (matter refusal.what) h.refused)
+      ∙ ap (λ s. script_step (program_of o.schema_trees o.module_trees row_numbers) (refused_as ScriptRefused s)) (script_refused_by refusal h (matter refusal.what) h.refused)

@@ -1,4 +1,5 @@
 pub mod Agreement
+pub mod Opened
 pub mod StarLaws
 pub mod QueryLaws
 pub mod TruthLaws

@@ -9,7 +9,7 @@ use Rattle.sq_tree.specs.declared.script.ScriptText.{ScriptText}
 use Rattle.sq_grammar.specs.Reading.{Parser}
 use Rattle.sq_meaning.specs.ModuleRefusal.{ModuleRefusal, first_module_refusal}
 use Rattle.sq_meaning.specs.Schema.{Elements}
-use Rattle.sq_meaning.specs.SchemaRefusal.{SchemaRefusal, elements_of, first_schema_refusal}
+use Rattle.sq_meaning.specs.SchemaRefusal.{SchemaRefusal, first_schema_refusal}
 use Rattle.sq_meaning.specs.Script.{ScriptRefusal, first_script_refusal}
 use Rattle.sq_meaning.specs.Machine.{Program, first_state}
 use Rattle.sq_meaning.specs.Report.{Bytes, report}
@@ -31,12 +31,13 @@ pub record Task : Type 0 where
   pub machine : Program
   pub items : List Item
 
+-- what the tree of a script asks of a machine
+abbrev pub asked_of : Program → ScriptText → Task
+asked_of machine script = record { machine = machine; items = map item_of_script script.items }
+
 -- what trees ask for, whose tables have row numbers up to this one
 abbrev pub task_of : List SchemaText → List ModuleText → ScriptText → ℕ → Task
-task_of schemas modules script row_numbers = record {
-  machine = program_of schemas modules row_numbers;
-  items = map item_of_script script.items;
-}
+task_of schemas modules script row_numbers = asked_of (program_of schemas modules row_numbers) script
 
 -- the lines of these items, from the machine's first state on
 abbrev pub lines : Task → List Item → Bytes
@@ -126,10 +127,16 @@ accepted_script elements modules script = do
 
 -- ---- all texts
 
--- schema texts, module texts, a script, and the greatest number of a row
-abbrev pub answered : List Bytes → List Bytes → Bytes → ℕ → Result Task RunFault
-answered schemas modules script row_numbers = do
+-- schema texts, module texts, and the greatest number of a row
+abbrev pub opened : List Bytes → List Bytes → ℕ → Result Program RunFault
+opened schemas modules row_numbers = do
   schema_trees ← refused_as SchemaRefused (accepted_schemas schemas)
   module_trees ← refused_as ModuleRefused (accepted_modules modules)
-  tree ← refused_as ScriptRefused (accepted_script (elements_of schema_trees) module_trees script)
-  Ok (task_of schema_trees module_trees tree row_numbers)
+  Ok (program_of schema_trees module_trees row_numbers)
+
+-- the same and a script
+abbrev pub answered : List Bytes → List Bytes → Bytes → ℕ → Result Task RunFault
+answered schemas modules script row_numbers = do
+  machine ← opened schemas modules row_numbers
+  tree ← refused_as ScriptRefused (accepted_script machine.elements machine.modules script)
+  Ok (asked_of machine tree)

@@ -8,6 +8,7 @@ pub mod Defaults
 pub mod Integrity
 pub mod Kept
 pub mod Keyed
+pub mod Opens
 pub mod Processor
 pub mod Refused
 pub mod ShownRows

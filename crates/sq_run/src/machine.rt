@@ -1,7 +1,6 @@
 //! Processors as values: a host program opens one from texts and makes calls, one after the other.
 
-ghost use Rattle.std.specs.Prelude.{◌≡◌, ◌≤◌, false, true, is_some, IfErr, IfOk, IsOk, OnErr};
-ghost use Rattle.sq_perform.specs.Fault.{IsOpeningFault};
+ghost use Rattle.std.specs.Prelude.{◌≡◌, ◌≤◌, false, true, is_some, IfOk, IsOk, OnErr};
 ghost use Rattle.sq_perform.specs.Texts.{texts};
 
 use crate::counterpart::Counterpart;
@@ -39,10 +38,12 @@ impl<S: Store> Model for Processor<S> {
 }
 
 impl<S: Store> Processor<S> {
-    ghost use Rattle.sq_run.specs.Processor.{AllHold, CallReadsFew, FailsWithoutChange, IsOpened, IsStep, has_fault, needs_memory, number_of, rows_of, takes};
+    ghost use Rattle.sq_run.specs.Answer.{opened};
+    ghost use Rattle.sq_run.specs.Opens.{Opens};
+    ghost use Rattle.sq_run.specs.Processor.{AllHold, CallReadsFew, FailsWithoutChange, IsStep, has_fault, needs_memory, number_of, rows_of, takes};
 
-    /// Opens a processor of the texts: their machine in its first state, with empty tables and closed cursors; or the first
-    /// refusal, schemas before modules.
+    /// Opens a processor of the texts: their machine in its first state, with empty tables and closed cursors. Texts that `run`
+    /// refuses are refused with the same refusal.
     pub fn open(
         alloc: Global,
         schemas: &[Vec<u8>],
@@ -50,16 +51,19 @@ impl<S: Store> Processor<S> {
         limits: Limits,
     ) -> Result<Processor<S>, RunFault>
         requires numbers { limits.row_numbers ≤ MOST_ROW_NUMBERS }
-        ensures opened { IfOk result (IsOpened limits.row_numbers (texts schemas.now) (texts modules.now)) }
+        ensures opened { Opens (opened (texts schemas.now) (texts modules.now) limits.row_numbers) result }
         ensures constraints { IfOk result AllHold }
-        ensures refused { IfErr result (IsOpeningFault (texts schemas.now) (texts modules.now)) }
     {
-        let session = open_session::<S>(alloc, schemas, modules, limits)?;
-        let counterpart = Counterpart::start(schemas, modules, limits.row_numbers);
-        Ok(Processor {
-            session,
-            counterpart,
-        })
+        match open_session::<S>(alloc, schemas, modules, limits) {
+            Ok(session) => {
+                let counterpart = Counterpart::start(schemas, modules, limits.row_numbers);
+                Ok(Processor {
+                    session,
+                    counterpart,
+                })
+            }
+            Err(fault) => Err(fault),
+        }
     }
 
     /// The number of the procedure of this module and name.
