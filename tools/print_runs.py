@@ -1,9 +1,9 @@
 #!/usr/bin/env python3
-"""Prints runs of crates/sq_cases/data as equations on the definitions, for the files of crates/sq_worked/proofs.
+"""Prints runs of crates/sq_cases/data as equations on the definitions, for the files of crates/sq_run/proofs/Worked.
 
-    print_runs.py texts                          the texts of the kit, for specs/Texts.antt
+    print_runs.py texts                          the texts of the kit, for specs/KitTexts.antt
     print_runs.py runs DATA "WHAT THEY SHOW" NAME..   the runs of these names of a file of data
-    print_runs.py check                          fails where a file of crates/sq_worked is not what is printed of its runs today
+    print_runs.py check                          fails where one of these files is not what is printed of its runs today
 
 Texts are printed byte for byte, a line at a time; a run is the equation that its texts come to its report, or to
 its refusal.
@@ -15,7 +15,7 @@ import sys
 
 CRATES = os.path.join(os.path.dirname(os.path.abspath(__file__)), "..", "crates")
 DATA = os.path.join(CRATES, "sq_cases", "data")
-WORKED = os.path.join(CRATES, "sq_worked")
+RUN = os.path.join(CRATES, "sq_run")
 HEAD = re.compile(r"-- (.*)\. Printed by tools/print_runs\.py from sq_cases/data/(.*)\.\n")
 KIT = (("schema", "schema.sql"), ("first_module", "module.sql"), ("second_module", "second-module.sql"),
        ("scrolling_module", "scrolling-module.sql"))
@@ -157,26 +157,26 @@ def printed_runs(path, shows, names):
     kinds = [kind for kind in KINDS.values() if "Err (%s " % kind in text]
     if kinds:
         lines.append("use Rattle.sq_perform.specs.declared.refusal.RunFault.TheVariants.{%s}" % ", ".join(kinds))
-    lines += ["use Rattle.sq_run.specs.Answer.{answered}", "use Rattle.sq_worked.specs.Reported.{reported}"]
+    lines += ["use Rattle.sq_run.specs.Answer.{answered}", "use Rattle.sq_run.specs.Reported.{reported}"]
     if used:
-        lines.append("use Rattle.sq_worked.specs.Texts.{%s}" % ", ".join(name for name, _ in KIT if name in used))
-    return "\n".join([*lines, "use Rattle.sq_worked.proofs.Computed.{computed}\n", text])
+        lines.append("use Rattle.sq_run.specs.KitTexts.{%s}" % ", ".join(name for name, _ in KIT if name in used))
+    return "\n".join([*lines, "use Rattle.sq_run.proofs.Worked.Computed.{computed}\n", text])
 
 
 def check():
     """Compares each printed file with what is printed of its runs today."""
     stale, count = [], 0
-    for folder, _, files in os.walk(WORKED):
-        for file in sorted(files) if "/out" not in folder[len(WORKED):] else ():
+    for folder in (os.path.join(RUN, "specs"), os.path.join(RUN, "proofs", "Worked")):
+        for file in sorted(os.listdir(folder)):
             with open(os.path.join(folder, file), newline="") as opened:
                 text = opened.read()
             head = HEAD.match(text)
             names = [name.replace(" ", "_") for name in re.findall(r"^-- ---- (.*)$", text, re.M)]
-            wanted = printed_runs(head[2], head[1], names) if head else printed_texts() if file == "Texts.antt" else text
+            wanted = printed_runs(head[2], head[1], names) if head else printed_texts() if file == "KitTexts.antt" else text
             count += wanted is not text
             if wanted != text:
                 stale.append(file)
-    print("%d printed files of sq_worked, %d differ %s" % (count, len(stale), " ".join(stale)))
+    print("%d printed files of runs, %d differ %s" % (count, len(stale), " ".join(stale)))
     if stale or not count:
         raise SystemExit(1)
 

@@ -2,7 +2,7 @@
 #![tactic(auto)]
 
 ghost use Rattle.std.specs.Prelude.{ℕ, List, [], Option, Some, Ok, Err, IfErr, IfOk};
-ghost use Rattle.sq_perform.specs.Texts.{texts};
+ghost use Rattle.sq_run.specs.Texts.{texts};
 ghost use Rattle.sq_run.specs.Answer.{answered};
 ghost use Rattle.sq_run.specs.Answers.{Answers};
 

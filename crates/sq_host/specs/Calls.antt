@@ -1,6 +1,5 @@
 -- What a host's processor is, what is asked of it, and how a call of a handle changes it (own rules).
-use Rattle.std.specs.Prelude.{◌≡◌, ◌<◌, ◌⊎◌, ℕ, Bool, List, [], ◌∷◌, map, Option, Some, None, option_map, Result, Ok, Err, IsErr, Vec, if◌then◌else◌, tt, ⊤, ⊥}
-use Rattle.std.specs.declared.alloc.Global.{Global}
+use Rattle.std.specs.Prelude.{◌≡◌, ◌<◌, ◌⊎◌, ℕ, Bool, List, [], ◌∷◌, map, Option, Some, None, option_map, Result, Ok, Err, IsErr, if◌then◌else◌, tt, ⊤, ⊥}
 use Rattle.sq_lex.specs.declared.name.Name.{Name}
 use Rattle.sq_value.specs.declared.value.Value.{Value}
 use Rattle.sq_store.specs.declared.store.TheConstants.{MOST_ROW_NUMBERS}
@@ -9,6 +8,7 @@ use Rattle.sq_meaning.specs.Machine.{first_state}
 use Rattle.sq_meaning.specs.Report.{Bytes}
 use Rattle.sq_session.specs.declared.reply.Reply.{Reply}
 use Rattle.sq_run.specs.Answer as run
+use Rattle.sq_run.specs.Texts.{texts}
 use Rattle.sq_run.specs.Processor.{AllHold, FailsWithoutChange, IsStep, Machine, has_fault, number_of, rows_of, takes}
 use Rattle.sq_exchange.specs.Name.{name_read}
 use Rattle.sq_exchange.specs.declared.answer.Answer.{Answer}
@@ -22,17 +22,13 @@ abbrev pub machine_of : Option Host → Option Machine
 machine_of None = None
 machine_of (Some h) = h.processor
 
--- the bytes of each text
-abbrev pub bytes_of : List (Vec ℕ Global) → List Bytes
-bytes_of texts = map (λ v. v.items) texts
-
 abbrev pub schemas_of : Option Host → List Bytes
 schemas_of None = []
-schemas_of (Some h) = bytes_of h.schemas.items
+schemas_of (Some h) = texts h.schemas.items
 
 abbrev pub modules_of : Option Host → List Bytes
 modules_of None = []
-modules_of (Some h) = bytes_of h.modules.items
+modules_of (Some h) = texts h.modules.items
 
 abbrev pub reply_of : Option Host → Option Reply
 reply_of None = None

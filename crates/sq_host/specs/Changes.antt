@@ -2,7 +2,7 @@
 use Rattle.std.specs.Prelude.{◌≡◌, List, [], ◌∷◌, ◌++◌, Option, Some, None, Result, Ok, Err}
 use Rattle.sq_value.specs.declared.value.Value.{Value}
 use Rattle.sq_exchange.specs.declared.answer.Answer.{Answer}
-use Rattle.sq_exchange.specs.declared.answer.Answer.TheVariants.{AlreadyOpen, Done, NoRow}
+use Rattle.sq_exchange.specs.declared.answer.Answer.TheVariants.{AlreadyOpen, Done}
 use Rattle.sq_host.specs.declared.host.Host.{Host}
 
 abbrev pub start_answer : Option Host → Answer
@@ -19,10 +19,3 @@ values_of (Some h) = h.values.items
 abbrev pub with_value : List Value → Result Value Answer → List Value
 with_value values (Ok v) = values ++ v ∷ []
 with_value values (Err why) = values
-
--- ---- rows of a table
-
--- whether there is a row
-abbrev pub row_answer : Option (List Value) → Answer
-row_answer None = NoRow
-row_answer (Some row) = Done

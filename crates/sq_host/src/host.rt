@@ -4,6 +4,7 @@ ghost use Rattle.sq_exchange.specs.Answer.{IsWhy};
 ghost use Rattle.sq_exchange.specs.declared.answer.Answer.TheVariants.{AlreadyOpen, BadValue, Done, NoMemory, Refused};
 ghost use Rattle.sq_host.specs.Asked.{and_then, set_answer};
 ghost use Rattle.sq_run.specs.Opens.{IsOfTexts};
+ghost use Rattle.sq_run.specs.Texts.{texts};
 ghost use Rattle.sq_host.specs.Calls.{Called, RefusedOrNoMemory, number_named, procedure_named, taken};
 
 use crate::texts::{add_text, line_of};
@@ -35,7 +36,7 @@ pub struct Host {
 }
 
 impl Host {
-    ghost use Rattle.sq_host.specs.Calls.{AreRefused, IsOf, IsOutOfBounds, MayOpen, bytes_of, opened, unopened};
+    ghost use Rattle.sq_host.specs.Calls.{AreRefused, IsOf, IsOutOfBounds, MayOpen, opened, unopened};
     ghost use Rattle.sq_host.specs.Changes.{with_value};
 
     pub(crate) fn new(alloc: Global) -> Host {
@@ -54,8 +55,8 @@ impl Host {
     pub(crate) fn add_schema(&mut self, alloc: Global, text: &[u8]) -> Answer
         ensures answer { ¬ (result ≡ NoMemory) → result ≡ set_answer (unopened self.old.processor) }
         ensures added { result ≡ Done
-            → bytes_of self.new.schemas.items ≡ bytes_of self.old.schemas.items ++ text.now ∷ [] }
-        ensures none { ¬ (result ≡ Done) → bytes_of self.new.schemas.items ≡ bytes_of self.old.schemas.items }
+            → texts self.new.schemas.items ≡ texts self.old.schemas.items ++ text.now ∷ [] }
+        ensures none { ¬ (result ≡ Done) → texts self.new.schemas.items ≡ texts self.old.schemas.items }
         ensures modules { self.new.modules ≡ self.old.modules }
         ensures processor { self.new.processor ≡ self.old.processor }
     {
@@ -68,8 +69,8 @@ impl Host {
     pub(crate) fn add_module(&mut self, alloc: Global, text: &[u8]) -> Answer
         ensures answer { ¬ (result ≡ NoMemory) → result ≡ set_answer (unopened self.old.processor) }
         ensures added { result ≡ Done
-            → bytes_of self.new.modules.items ≡ bytes_of self.old.modules.items ++ text.now ∷ [] }
-        ensures none { ¬ (result ≡ Done) → bytes_of self.new.modules.items ≡ bytes_of self.old.modules.items }
+            → texts self.new.modules.items ≡ texts self.old.modules.items ++ text.now ∷ [] }
+        ensures none { ¬ (result ≡ Done) → texts self.new.modules.items ≡ texts self.old.modules.items }
         ensures schemas { self.new.schemas ≡ self.old.schemas }
         ensures processor { self.new.processor ≡ self.old.processor }
     {
@@ -82,9 +83,9 @@ impl Host {
     /// Opens a processor of the texts, in which a table has this many row numbers.
     pub(crate) fn open(&mut self, alloc: Global, row_numbers: u64) -> Answer
         ensures opened { result ≡ Done
-            → IsOf row_numbers (bytes_of self.old.schemas.items) (bytes_of self.old.modules.items) self.new.processor }
+            → IsOf row_numbers (texts self.old.schemas.items) (texts self.old.modules.items) self.new.processor }
         ensures refused { result ≡ Refused
-            → AreRefused row_numbers (bytes_of self.old.schemas.items) (bytes_of self.old.modules.items) }
+            → AreRefused row_numbers (texts self.old.schemas.items) (texts self.old.modules.items) }
         ensures already { result ≡ AlreadyOpen → IsSome self.old.processor }
         ensures numbers { result ≡ BadValue → IsOutOfBounds row_numbers }
         ensures otherwise { MayOpen result }

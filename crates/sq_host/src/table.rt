@@ -1,11 +1,10 @@
 //! The rows of a base table.
 
-ghost use Rattle.std.specs.Prelude.{◌≡◌, ◌++◌, [], Ok, IfErr, IfOk, map, option_to_list, reverse};
+ghost use Rattle.std.specs.Prelude.{◌≡◌, ◌++◌, Ok, IfErr, IfOk, option_to_list, reverse};
 ghost use Rattle.sq_exchange.specs.Answer.{IsWhy};
-ghost use Rattle.sq_exchange.specs.declared.answer.Answer.TheVariants.{Done, NoMemory, NoRow};
+ghost use Rattle.sq_exchange.specs.declared.answer.Answer.TheVariants.{Done, NoMemory};
 ghost use Rattle.sq_host.specs.Asked.{and_then, set_answer};
-ghost use Rattle.sq_host.specs.Calls.{opened, rows_called, rows_in, rows_named, values_in};
-ghost use Rattle.sq_host.specs.Changes.{row_answer};
+ghost use Rattle.sq_host.specs.Calls.{last_of, opened, rows_called, rows_in, rows_named, values_in};
 
 use crate::host::Host;
 use sq_exchange::{Answer, name_of};
@@ -37,10 +36,10 @@ impl Host {
     }
 
     /// Goes on to the next row.
+    #[tactic(auto, using(crate::proofs::Rows::last_added))]
     pub(crate) fn next_row(&mut self) -> Answer
-        ensures answer { result ≡ row_answer self.new.row }
+        ensures answer { result ≡ set_answer (last_of self.old.rows.items) }
         ensures rows { self.old.rows.items ≡ self.new.rows.items ++ option_to_list self.new.row }
-        ensures last { result ≡ NoRow → self.old.rows.items ≡ [] }
         ensures processor { self.new.processor ≡ self.old.processor }
     {
         self.row = self.rows.pop();

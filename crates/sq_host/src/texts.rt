@@ -2,8 +2,8 @@
 
 ghost use Rattle.std.specs.Prelude.{◌≡◌, [], ◌∷◌, ◌++◌, IfOk, OnErr};
 ghost use Rattle.sq_exchange.specs.declared.answer.Answer.TheVariants.{Done, NoMemory};
-ghost use Rattle.sq_host.specs.Calls.{bytes_of};
 ghost use Rattle.sq_run.specs.Opens.{IsOfTexts};
+ghost use Rattle.sq_run.specs.Texts as spec;
 
 use sq_exchange::Answer;
 use sq_run::{Refusal, RunFault};
@@ -13,8 +13,8 @@ use std::alloc::{AllocError, Global};
 /// Adds a copy of a text.
 pub(crate) fn add_text(alloc: Global, texts: &mut Vec<Vec<u8>>, text: &[u8]) -> Answer
     ensures answer { ¬ (result ≡ NoMemory) → result ≡ Done }
-    ensures added { result ≡ Done → bytes_of texts.new.items ≡ bytes_of texts.old.items ++ text.now ∷ [] }
-    ensures none { ¬ (result ≡ Done) → bytes_of texts.new.items ≡ bytes_of texts.old.items }
+    ensures added { result ≡ Done → spec.texts texts.new.items ≡ spec.texts texts.old.items ++ text.now ∷ [] }
+    ensures none { ¬ (result ≡ Done) → spec.texts texts.new.items ≡ spec.texts texts.old.items }
 {
     match added(alloc, texts, text) {
         Ok(()) => Answer::Done,
@@ -23,8 +23,8 @@ pub(crate) fn add_text(alloc: Global, texts: &mut Vec<Vec<u8>>, text: &[u8]) -> 
 }
 
 fn added(alloc: Global, texts: &mut Vec<Vec<u8>>, text: &[u8]) -> Result<(), AllocError>
-    ensures added { IfOk result (λ _. bytes_of texts.new.items ≡ bytes_of texts.old.items ++ text.now ∷ []) }
-    ensures none { OnErr result (bytes_of texts.new.items ≡ bytes_of texts.old.items) }
+    ensures added { IfOk result (λ _. spec.texts texts.new.items ≡ spec.texts texts.old.items ++ text.now ∷ []) }
+    ensures none { OnErr result (spec.texts texts.new.items ≡ spec.texts texts.old.items) }
 {
     let text = Vec::from_slice(alloc, text)?;
     texts.push(text)?;

@@ -166,3 +166,4 @@ pub mod OneTree
 pub mod ProcedureNumbers
 pub mod DefaultLaws
 pub mod ConfinedLaws
+pub mod Worked

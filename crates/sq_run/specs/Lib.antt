@@ -8,8 +8,11 @@ pub mod Defaults
 pub mod Integrity
 pub mod Kept
 pub mod Keyed
+pub mod KitTexts
 pub mod Opens
 pub mod Processor
 pub mod Refused
+pub mod Reported
 pub mod ShownRows
 pub mod Stored
+pub mod Texts

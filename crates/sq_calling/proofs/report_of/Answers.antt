@@ -1,6 +1,6 @@
 -- The report is what the output has taken: nothing before the run, and all of the writer after it.
 use Rattle.std.proofs.Common.{Some, [], Ok, Err, ap, subst, sym, ◌∙◌}
-use Rattle.sq_perform.specs.Texts.{texts}
+use Rattle.sq_run.specs.Texts.{texts}
 use Rattle.sq_run.specs.Answer.{answered}
 use Rattle.sq_run.specs.Answers.{Answers}
 use Rattle.sq_calling.proofs.report_of.Goals as goal
