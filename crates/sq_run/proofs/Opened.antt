@@ -23,6 +23,6 @@ module _ (row_numbers : ℕ) (schemas modules : List Bytes) where
   unfolding Opens
   refuses (SchemaRefused refusal) h = schemas_not_opened row_numbers schemas modules refusal h.0 h.1
   refuses (ModuleRefused refusal) h = modules_not_opened row_numbers schemas modules refusal h.0 h.1 h.2
-  refuses (ScriptRefused refusal) h = cc
-  refuses (Write bytes) h = cc
+  refuses (ScriptRefused refusal) h = absurd h
+  refuses (Write bytes) h = absurd h
   refuses (NoMemory items) h = h

@@ -1,5 +1,5 @@
 -- What opening a processor answers, of what its texts come to.
-use Rattle.std.specs.Prelude.{◌≡◌, Result, Ok, Err, ⊤, ⊥}
+use Rattle.std.specs.Prelude.{◌≡◌, Result, Ok, Err, ⊤}
 use Rattle.sq_meaning.specs.Machine.{Program, first_state}
 use Rattle.sq_perform.specs.declared.refusal.RunFault.{RunFault}
 use Rattle.sq_perform.specs.declared.refusal.RunFault.TheVariants.{SchemaRefused, ModuleRefused, ScriptRefused, Write, NoMemory}
