@@ -28,7 +28,7 @@ use command_line::{Request, Task, TextsRequest, read_task};
 use explain::{printed, status_of_explain};
 use fault::{Fault, NO_MEMORY, REFUSED};
 use new::status_of_new;
-use shell::status_of_shell;
+use shell::{Typed, status_of_shell};
 use sq_bindings::Host;
 use sq_store::MOST_ROW_NUMBERS;
 use std::process::ExitCode;
@@ -42,7 +42,9 @@ fn main(rt: HostRuntime) -> ExitCode {
 }
 
 /// Does what the command line asks and gives the status to end with.
-fn status<R: Env + Files + Print + Eprint + AllocGlobal + Clone + Drop>(rt: &R) -> u8 {
+fn status<R: Env + Files + Print + Eprint + Input + Typed + AllocGlobal + Clone + Drop>(
+    rt: &R,
+) -> u8 {
     match words(rt) {
         Ok(words) => status_of_words(rt, words.as_slice()),
         Err(error) => refuse_unreadable_words(rt, &error),
@@ -55,7 +57,7 @@ fn words<R: Env + AllocGlobal>(rt: &R) -> io::Result<Vec<String>> {
     Ok(words)
 }
 
-fn status_of_words<R: Files + Print + Eprint + AllocGlobal + Clone + Drop>(
+fn status_of_words<R: Files + Print + Eprint + Input + Typed + AllocGlobal + Clone + Drop>(
     rt: &R,
     words: &[String],
 ) -> u8 {
