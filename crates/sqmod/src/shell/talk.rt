@@ -1,5 +1,6 @@
 //! What a shell has while it runs.
-ghost use Rattle.std.specs.Prelude.{◌≡◌, ◌≤◌};
+ghost use Rattle.std.specs.Prelude.{◌≤◌};
+ghost use Rattle.sq_store.specs.declared.store.TheConstants.{MOST_ROW_NUMBERS as MOST};
 
 use crate::fault::Fault;
 use crate::request::fault_of;
@@ -26,7 +27,7 @@ pub(crate) struct Talk {
     /// Whether something was refused.
     pub(crate) refused: bool,
     pub(crate) limits: Limits,
-    ghost limited: { limits.row_numbers ≤ MOST_ROW_NUMBERS },
+    ghost limited: { limits.row_numbers ≤ MOST },
 }
 
 impl Talk {
