@@ -3,6 +3,10 @@
 use Rattle.std.specs.Prelude.{ℕ, ◌+◌, Bool, true, false, ◌&&◌, ◌||◌, ◌==◌, List, [], ◌∷◌, if◌then◌else◌, Option, Some, None}
 use Rattle.std.specs.Option.{option_map}
 use Rattle.sq_lex.specs.Characters.{is_line_end, line_feed, minus, quote}
+use Rattle.sq_lex.specs.declared.lexeme.Lexeme.{Lexeme}
+use Rattle.sq_lex.specs.declared.lexeme.Lexeme.TheVariants as lexeme
+use Rattle.sq_lex.specs.declared.symbol.Symbol.TheVariants as symbol
+use Rattle.sq_lex.specs.declared.token.Token.{Token}
 use Rattle.sq_shell.specs.declared.item.Inside.{Inside}
 use Rattle.sq_shell.specs.declared.item.Inside.TheVariants.{Neither, Minus, Text, Comment}
 
@@ -38,3 +42,13 @@ size_from inside (b ∷ bytes) =
 
 abbrev pub item_size : List ℕ → Option ℕ
 item_size bytes = size_from Neither bytes
+
+-- ---- what the lexer reads: an item ends behind the first token that is a semicolon
+
+abbrev pub is_end : Lexeme → Bool
+is_end (lexeme.Symbol symbol.Semicolon) = true
+is_end _ = false
+
+abbrev pub lexed_size : List Token → Option ℕ
+lexed_size [] = None
+lexed_size (token ∷ tokens) = if is_end token.lexeme then Some (token.start + 1) else lexed_size tokens

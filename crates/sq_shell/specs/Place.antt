@@ -1,5 +1,5 @@
 -- Places in what was typed.
-use Rattle.std.specs.Prelude.{ℕ, ◌+◌, ◌-◌, ◌^◌, ◌==◌, min, if◌then◌else◌}
+use Rattle.std.specs.Prelude.{◌+◌, ◌-◌, ◌^◌, ◌==◌, min, if◌then◌else◌}
 use Rattle.sq_shell.specs.declared.place.Place.{Place}
 
 -- The place, as far behind the start as the other one is behind the place 1:1.

@@ -212,7 +212,7 @@ fn obey<R: Files + Print + Eprint + AllocGlobal>(
     let place = Place { line, column: 1 };
     match command {
         Command::Help => written(rt.print(HELP)),
-        Command::List(listing) => list(rt, talk, listing),
+        Command::List(listing) => list(rt, talk, file, place, listing),
         Command::Restart => talk.restart(rt),
         Command::LoadModule(name) => load_module(rt, talk, file, place, name),
         Command::Read(_) => {
@@ -237,13 +237,23 @@ fn obey<R: Files + Print + Eprint + AllocGlobal>(
     }
 }
 
-/// Prints what the session has.
-fn list<R: Print + AllocGlobal>(rt: &R, talk: &Talk, listing: Listing<'_>) -> Result<(), Fault> {
+/// Prints what the session has, or says that nothing of what is asked for is there.
+fn list<R: Print + Eprint + AllocGlobal>(
+    rt: &R,
+    talk: &mut Talk,
+    file: &str,
+    place: Place,
+    listing: Listing<'_>,
+) -> Result<(), Fault> {
     let mut lines = Vec::new(rt.alloc());
-    match write_listing(rt.alloc(), talk, listing, &mut lines) {
-        Ok(()) => written(rt.write_all(lines.as_slice())),
-        Err(_) => Err(Fault::NoMemory(talk.taken)),
+    if write_listing(rt.alloc(), talk, listing, &mut lines).is_err() {
+        return Err(Fault::NoMemory(talk.taken));
     }
+    if lines.is_empty() {
+        talk.refuse(rt, file, place, "there is none");
+        return Ok(());
+    }
+    written(rt.write_all(lines.as_slice()))
 }
 
 fn write_listing(
