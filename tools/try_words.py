@@ -86,6 +86,16 @@ CHECK_OPTIONS = """\
 Options:
       --schema <F>  A file with schemas
       --module <F>  A file with a module
+      --script <F>  A file with a script
+      --quiet       Says nothing but refusals and faults
+      --json        Prints an object of JSON for each line
+  -h, --help        Print help
+"""
+SHELL_OPTIONS = """\
+Options:
+      --schema <F>  A file with schemas
+      --module <F>  A file with a module
+      --rows <N>    The row numbers of each table, 1000000 when omitted
   -h, --help        Print help
 """
 
@@ -103,7 +113,7 @@ WORDS = (
     ("run --script c --script d",
      "error: the argument '--script <F>' cannot be used multiple times\n\nUsage: sqmod run [OPTIONS] --script <F>\n" + SEE_HELP),
     ("walk", "error: unrecognized subcommand 'walk'\n\nUsage: sqmod <COMMAND>\n" + SEE_HELP),
-    ("", "error: 'sqmod' requires a subcommand but one was not provided\n  [subcommands: run, check, explain, test, bind-c, bind-cobol, new, help]\n\n"
+    ("", "error: 'sqmod' requires a subcommand but one was not provided\n  [subcommands: run, check, trace, shell, explain, test, bind-c, bind-cobol, new, help]\n\n"
          "Usage: sqmod <COMMAND>\n" + SEE_HELP),
     ("--help", """\
 Processes SQL-92 schemas and modules, and runs a script of procedure calls
@@ -112,7 +122,9 @@ Usage: sqmod <COMMAND>
 
 Commands:
   run         Runs a script
-  check       Says which calls answer 42000 and why, and which cursors and views are updatable
+  check       Says what is wrong in texts, and which cursors and views are updatable
+  trace       Runs a script, and says beside the report what each call did, and why it failed
+  shell       Makes the calls that are typed, and writes what each one answers
   explain     Explains a status, a refusal or a fault, or lists their names
   test        Runs the cases below folders, and says which come to what they want
   bind-c      Prints a header for C with a function for each procedure
@@ -125,8 +137,10 @@ Options:
   -V, --version  Print version
 """),
     ("run --help", "Runs a script\n\nUsage: sqmod run [OPTIONS] --script <F>\n\n" + RUN_OPTIONS),
-    ("check --help", "Says which calls answer 42000 and why, and which cursors and views are updatable\n\n"
+    ("check --help", "Says what is wrong in texts, and which cursors and views are updatable\n\n"
                      "Usage: sqmod check [OPTIONS]\n\n" + CHECK_OPTIONS),
+    ("shell --help", "Makes the calls that are typed, and writes what each one answers\n\nUsage: sqmod shell [OPTIONS]\n\n" + SHELL_OPTIONS),
+    ("shell --rows 0", bad_rows("0", "0 is not in 1..=1000000000")),
     ("explain --help", """\
 Explains a status, a refusal or a fault, or lists their names
 

@@ -88,6 +88,14 @@ checked_without_rows : fault_of sqmod (codes "sqmod" ∷ codes "check" ∷ codes
 unfolding clap_on_literals
 checked_without_rows = refl
 
+traced_without_script : fault_of sqmod (codes "sqmod" ∷ codes "trace" ∷ codes "--tables" ∷ []) ≡ MissingRequiredArgument ∷ []
+unfolding clap_on_literals
+traced_without_script = refl
+
+shell_without_files : fault_of sqmod (codes "sqmod" ∷ codes "shell" ∷ []) ≡ []
+unfolding clap_on_literals
+shell_without_files = refl
+
 explained : List Text → Option (Text × Option Text)
 explained words = option_map (λ s. (s.0, first_of (codes "name") s.1)) (subcommand_of sqmod words)
 

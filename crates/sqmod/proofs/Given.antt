@@ -34,23 +34,29 @@ run_level = unwrap_or (slice_get whole.subs 0) (new_shape [])
 abbrev check_level : Shape
 check_level = unwrap_or (slice_get whole.subs 1) (new_shape [])
 
+abbrev trace_level : Shape
+trace_level = unwrap_or (slice_get whole.subs 2) (new_shape [])
+
+abbrev shell_level : Shape
+shell_level = unwrap_or (slice_get whole.subs 3) (new_shape [])
+
 abbrev explain_level : Shape
-explain_level = unwrap_or (slice_get whole.subs 2) (new_shape [])
+explain_level = unwrap_or (slice_get whole.subs 4) (new_shape [])
 
 abbrev test_level : Shape
-test_level = unwrap_or (slice_get whole.subs 3) (new_shape [])
+test_level = unwrap_or (slice_get whole.subs 5) (new_shape [])
 
 abbrev bind_c_level : Shape
-bind_c_level = unwrap_or (slice_get whole.subs 4) (new_shape [])
+bind_c_level = unwrap_or (slice_get whole.subs 6) (new_shape [])
 
 abbrev bind_cobol_level : Shape
-bind_cobol_level = unwrap_or (slice_get whole.subs 5) (new_shape [])
+bind_cobol_level = unwrap_or (slice_get whole.subs 7) (new_shape [])
 
 abbrev new_level : Shape
-new_level = unwrap_or (slice_get whole.subs 6) (new_shape [])
+new_level = unwrap_or (slice_get whole.subs 8) (new_shape [])
 
 abbrev help_level : Shape
-help_level = unwrap_or (slice_get whole.subs 7) (new_shape [])
+help_level = unwrap_or (slice_get whole.subs 9) (new_shape [])
 
 pub is_simple_command : is_simple sqmod ≡ true
 is_simple_command = refl
@@ -61,6 +67,14 @@ is_free_command = refl
 run_options : Each (IsOption run_level.rules) run_level.rules
 unfolding clap_on_literals
 run_options = ((refl, refl), ((refl, refl), ((refl, refl), ((refl, refl), ((refl, refl), tt)))))
+
+trace_options : Each (IsOption trace_level.rules) trace_level.rules
+unfolding clap_on_literals
+trace_options = ((refl, refl), ((refl, refl), ((refl, refl), ((refl, refl), ((refl, refl), ((refl, refl), ((refl, refl), ((refl, refl), tt))))))))
+
+shell_options : Each (IsOption shell_level.rules) shell_level.rules
+unfolding clap_on_literals
+shell_options = ((refl, refl), ((refl, refl), ((refl, refl), ((refl, refl), tt))))
 
 new_options : Each (IsOption new_level.rules) new_level.rules
 unfolding clap_on_literals
@@ -79,6 +93,12 @@ IsSound c required rows = AllPassed c rows × (is_given required rows ≡ true)
 abbrev pub IsSoundRun : List Row → Type 0
 IsSoundRun = IsSound run_level.rules (codes "script")
 
+abbrev pub IsSoundTrace : List Row → Type 0
+IsSoundTrace = IsSound trace_level.rules (codes "script")
+
+abbrev pub IsSoundShell : List Row → Type 0
+IsSoundShell = AllPassed shell_level.rules
+
 abbrev pub IsSoundNew : List Row → Type 0
 IsSoundNew = IsSound new_level.rules (codes "folder")
 
@@ -91,6 +111,14 @@ sound_run : (words : List Text) → level_fault run_level [] nothing_held words 
 sound_run words none =
     let level = level_passed run_level [] words false [] run_options none in
     (level.rows, is_required (is_given (codes "script") (rows_at run_level words).1) level.checked)
+
+sound_trace : (words : List Text) → level_fault trace_level [] nothing_held words false [] ≡ [] → IsSoundTrace (rows_at trace_level words).1
+sound_trace words none =
+    let level = level_passed trace_level [] words false [] trace_options none in
+    (level.rows, is_required (is_given (codes "script") (rows_at trace_level words).1) level.checked)
+
+sound_shell : (words : List Text) → level_fault shell_level [] nothing_held words false [] ≡ [] → IsSoundShell (rows_at shell_level words).1
+sound_shell words none = (level_passed shell_level [] words false [] shell_options none).rows
 
 sound_new : (words : List Text) → level_fault new_level [] nothing_held words false [] ≡ [] → IsSoundNew (rows_at new_level words).1
 sound_new words none =
@@ -111,6 +139,8 @@ no_help name other named = go (bytes_eq (codes "help") name) refl named
 -- what was given to a subcommand of this name passed
 pub record IsSoundFor (name : Text) (rows : List Row) : Type 0 where
   pub run : bytes_eq name (codes "run") ≡ true → IsSoundRun rows
+  pub trace : bytes_eq name (codes "trace") ≡ true → IsSoundTrace rows
+  pub shell : bytes_eq name (codes "shell") ≡ true → IsSoundShell rows
   pub new : bytes_eq name (codes "new") ≡ true → IsSoundNew rows
 
 -- the subcommand that was met is one of the program's, with what it was given
@@ -121,9 +151,9 @@ pub record MeetsOne (met : Option (Text × List Row)) : Type 0 where
   pub known : is_subcommand name ≡ true
   pub sound : IsSoundFor name rows
 
-abbrev level_by : Bool → Bool → Bool → Bool → Bool → Bool → Bool → Bool → Option Shape
-level_by is_run is_check is_explain is_test is_bind_c is_bind_cobol is_new is_help =
-    cond is_run (Some run_level) (cond is_check (Some check_level) (cond is_explain (Some explain_level) (cond is_test (Some test_level) (cond is_bind_c (Some bind_c_level) (cond is_bind_cobol (Some bind_cobol_level) (cond is_new (Some new_level) (cond is_help (Some help_level) None)))))))
+abbrev level_by : Bool → Bool → Bool → Bool → Bool → Bool → Bool → Bool → Bool → Bool → Option Shape
+level_by is_run is_check is_trace is_shell is_explain is_test is_bind_c is_bind_cobol is_new is_help =
+    cond is_run (Some run_level) (cond is_check (Some check_level) (cond is_trace (Some trace_level) (cond is_shell (Some shell_level) (cond is_explain (Some explain_level) (cond is_test (Some test_level) (cond is_bind_c (Some bind_c_level) (cond is_bind_cobol (Some bind_cobol_level) (cond is_new (Some new_level) (cond is_help (Some help_level) None)))))))))
 
 no_truth : {A : Type 0} → false ≡ true → A
 no_truth e = absurd (true≢false (sym e))
@@ -136,6 +166,8 @@ run_is_sound : (rows : List Row) → IsSoundRun rows → IsSoundFor (codes "run"
 unfolding clap_on_literals
 run_is_sound rows sound = record {
   run = λ _. sound;
+  trace = no_truth;
+  shell = no_truth;
   new = no_truth;
 }
 
@@ -147,6 +179,34 @@ check_is_sound : (rows : List Row) → IsSoundFor (codes "check") rows
 unfolding clap_on_literals
 check_is_sound rows = record {
   run = no_truth;
+  trace = no_truth;
+  shell = no_truth;
+  new = no_truth;
+}
+
+trace_is_one : is_subcommand (codes "trace") ≡ true
+unfolding clap_on_literals
+trace_is_one = refl
+
+trace_is_sound : (rows : List Row) → IsSoundTrace rows → IsSoundFor (codes "trace") rows
+unfolding clap_on_literals
+trace_is_sound rows sound = record {
+  run = no_truth;
+  trace = λ _. sound;
+  shell = no_truth;
+  new = no_truth;
+}
+
+shell_is_one : is_subcommand (codes "shell") ≡ true
+unfolding clap_on_literals
+shell_is_one = refl
+
+shell_is_sound : (rows : List Row) → IsSoundShell rows → IsSoundFor (codes "shell") rows
+unfolding clap_on_literals
+shell_is_sound rows sound = record {
+  run = no_truth;
+  trace = no_truth;
+  shell = λ _. sound;
   new = no_truth;
 }
 
@@ -158,6 +218,8 @@ explain_is_sound : (rows : List Row) → IsSoundFor (codes "explain") rows
 unfolding clap_on_literals
 explain_is_sound rows = record {
   run = no_truth;
+  trace = no_truth;
+  shell = no_truth;
   new = no_truth;
 }
 
@@ -169,6 +231,8 @@ test_is_sound : (rows : List Row) → IsSoundFor (codes "test") rows
 unfolding clap_on_literals
 test_is_sound rows = record {
   run = no_truth;
+  trace = no_truth;
+  shell = no_truth;
   new = no_truth;
 }
 
@@ -180,6 +244,8 @@ bind_c_is_sound : (rows : List Row) → IsSoundFor (codes "bind-c") rows
 unfolding clap_on_literals
 bind_c_is_sound rows = record {
   run = no_truth;
+  trace = no_truth;
+  shell = no_truth;
   new = no_truth;
 }
 
@@ -191,6 +257,8 @@ bind_cobol_is_sound : (rows : List Row) → IsSoundFor (codes "bind-cobol") rows
 unfolding clap_on_literals
 bind_cobol_is_sound rows = record {
   run = no_truth;
+  trace = no_truth;
+  shell = no_truth;
   new = no_truth;
 }
 
@@ -202,6 +270,8 @@ new_is_sound : (rows : List Row) → IsSoundNew rows → IsSoundFor (codes "new"
 unfolding clap_on_literals
 new_is_sound rows sound = record {
   run = no_truth;
+  trace = no_truth;
+  shell = no_truth;
   new = λ _. sound;
 }
 
@@ -211,6 +281,8 @@ met_one own None past under checked = some_kind _ _ checked
 met_one own (Some p) past under checked =
     go (answers_to p.0 (label_of run_level))
     (answers_to p.0 (label_of check_level))
+    (answers_to p.0 (label_of trace_level))
+    (answers_to p.0 (label_of shell_level))
     (answers_to p.0 (label_of explain_level))
     (answers_to p.0 (label_of test_level))
     (answers_to p.0 (label_of bind_c_level))
@@ -219,26 +291,30 @@ met_one own (Some p) past under checked =
     (answers_to p.0 (label_of help_level))
     (no_help p.0 (past refl)) under checked
   where
-    go : (is_run is_check is_explain is_test is_bind_c is_bind_cobol is_new is_help : Bool) → (is_help ≡ true → ⊥)
-        → option_map_or (λ s. level_fault s [] nothing_held p.1 false []) (level_by is_run is_check is_explain is_test is_bind_c is_bind_cobol is_new is_help) [] ≡ []
-        → check_fault whole.top own (is_some (option_map (λ s. rows_at s p.1) (level_by is_run is_check is_explain is_test is_bind_c is_bind_cobol is_new is_help))) ≡ []
-        → MeetsOne (option_map (λ s. rows_at s p.1) (level_by is_run is_check is_explain is_test is_bind_c is_bind_cobol is_new is_help))
-    go true is_check is_explain is_test is_bind_c is_bind_cobol is_new is_help other e checked =
+    go : (is_run is_check is_trace is_shell is_explain is_test is_bind_c is_bind_cobol is_new is_help : Bool) → (is_help ≡ true → ⊥)
+        → option_map_or (λ s. level_fault s [] nothing_held p.1 false []) (level_by is_run is_check is_trace is_shell is_explain is_test is_bind_c is_bind_cobol is_new is_help) [] ≡ []
+        → check_fault whole.top own (is_some (option_map (λ s. rows_at s p.1) (level_by is_run is_check is_trace is_shell is_explain is_test is_bind_c is_bind_cobol is_new is_help))) ≡ []
+        → MeetsOne (option_map (λ s. rows_at s p.1) (level_by is_run is_check is_trace is_shell is_explain is_test is_bind_c is_bind_cobol is_new is_help))
+    go true is_check is_trace is_shell is_explain is_test is_bind_c is_bind_cobol is_new is_help other e checked =
         record { name = codes "run"; rows = (rows_at run_level p.1).1; is = refl; known = run_is_one; sound = run_is_sound (rows_at run_level p.1).1 (sound_run p.1 e) }
-    go false true is_explain is_test is_bind_c is_bind_cobol is_new is_help other e checked =
+    go false true is_trace is_shell is_explain is_test is_bind_c is_bind_cobol is_new is_help other e checked =
         record { name = codes "check"; rows = (rows_at check_level p.1).1; is = refl; known = check_is_one; sound = check_is_sound (rows_at check_level p.1).1 }
-    go false false true is_test is_bind_c is_bind_cobol is_new is_help other e checked =
+    go false false true is_shell is_explain is_test is_bind_c is_bind_cobol is_new is_help other e checked =
+        record { name = codes "trace"; rows = (rows_at trace_level p.1).1; is = refl; known = trace_is_one; sound = trace_is_sound (rows_at trace_level p.1).1 (sound_trace p.1 e) }
+    go false false false true is_explain is_test is_bind_c is_bind_cobol is_new is_help other e checked =
+        record { name = codes "shell"; rows = (rows_at shell_level p.1).1; is = refl; known = shell_is_one; sound = shell_is_sound (rows_at shell_level p.1).1 (sound_shell p.1 e) }
+    go false false false false true is_test is_bind_c is_bind_cobol is_new is_help other e checked =
         record { name = codes "explain"; rows = (rows_at explain_level p.1).1; is = refl; known = explain_is_one; sound = explain_is_sound (rows_at explain_level p.1).1 }
-    go false false false true is_bind_c is_bind_cobol is_new is_help other e checked =
+    go false false false false false true is_bind_c is_bind_cobol is_new is_help other e checked =
         record { name = codes "test"; rows = (rows_at test_level p.1).1; is = refl; known = test_is_one; sound = test_is_sound (rows_at test_level p.1).1 }
-    go false false false false true is_bind_cobol is_new is_help other e checked =
+    go false false false false false false true is_bind_cobol is_new is_help other e checked =
         record { name = codes "bind-c"; rows = (rows_at bind_c_level p.1).1; is = refl; known = bind_c_is_one; sound = bind_c_is_sound (rows_at bind_c_level p.1).1 }
-    go false false false false false true is_new is_help other e checked =
+    go false false false false false false false true is_new is_help other e checked =
         record { name = codes "bind-cobol"; rows = (rows_at bind_cobol_level p.1).1; is = refl; known = bind_cobol_is_one; sound = bind_cobol_is_sound (rows_at bind_cobol_level p.1).1 }
-    go false false false false false false true is_help other e checked =
+    go false false false false false false false false true is_help other e checked =
         record { name = codes "new"; rows = (rows_at new_level p.1).1; is = refl; known = new_is_one; sound = new_is_sound (rows_at new_level p.1).1 (sound_new p.1 e) }
-    go false false false false false false false true other e checked = absurd (other refl)
-    go false false false false false false false false other e checked = some_kind _ _ checked
+    go false false false false false false false false false true other e checked = absurd (other refl)
+    go false false false false false false false false false false other e checked = some_kind _ _ checked
 
 -- words with no fault name a subcommand
 pub meets_one : (words : List Text) → fault_of sqmod words ≡ [] → MeetsOne (subcommand_of sqmod words)
@@ -282,6 +358,9 @@ first_given c id a at rows sound = go (find (λ r. bytes_eq r.id id) rows) refl 
 pub script_there : (rows : List Row) → IsSoundRun rows → is_some (first_of (codes "script") rows) ≡ true
 script_there = first_given run_level.rules (codes "script") _ refl
 
+pub traced_script_there : (rows : List Row) → IsSoundTrace rows → is_some (first_of (codes "script") rows) ≡ true
+traced_script_there = first_given trace_level.rules (codes "script") _ refl
+
 pub folder_there : (rows : List Row) → IsSoundNew rows → is_some (first_of (codes "folder") rows) ≡ true
 folder_there = first_given new_level.rules (codes "folder") _ refl
 
@@ -318,10 +397,18 @@ in_range c a at of rows sound = go (find (λ r. bytes_eq r.id (codes "rows")) ro
 pub rows_in_range : (rows : List Row) → IsSoundRun rows → HasRowNumbers rows
 rows_in_range rows sound = in_range run_level.rules _ refl (record { ignore_case = refl; parser = refl }) rows sound.0
 
+pub traced_rows_in_range : (rows : List Row) → IsSoundTrace rows → HasRowNumbers rows
+traced_rows_in_range rows sound = in_range trace_level.rules _ refl (record { ignore_case = refl; parser = refl }) rows sound.0
+
+pub shell_rows_in_range : (rows : List Row) → IsSoundShell rows → HasRowNumbers rows
+shell_rows_in_range = in_range shell_level.rules _ refl (record { ignore_case = refl; parser = refl })
+
 -- what a subcommand was given is what its request is made of
 pub given_for : (name : Text) (rows : List Row) → is_subcommand name ≡ true → IsSoundFor name rows → IsGiven name rows
 given_for name rows known sound = record {
   is = known;
   run = λ e. (script_there rows (sound.run e), rows_in_range rows (sound.run e));
+  trace = λ e. (traced_script_there rows (sound.trace e), traced_rows_in_range rows (sound.trace e));
+  shell = λ e. shell_rows_in_range rows (sound.shell e);
   new = λ e. folder_there rows (sound.new e);
 }

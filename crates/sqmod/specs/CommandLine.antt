@@ -11,13 +11,16 @@ use Rattle.clap.specs.declared.builder.action.ArgAction.TheVariants.{Append, Set
 use Rattle.clap.specs.declared.builder.value_parser.ValueParser.TheVariants.{Unsigned}
 use Rattle.sq_store.specs.declared.store.TheConstants.{MOST_ROW_NUMBERS}
 use Rattle.sqmod.specs.declared.command_line.TheConstants.{USUAL_ROW_NUMBERS}
+use Rattle.sqmod.specs.declared.command_line.CheckRequest.{CheckRequest}
 use Rattle.sqmod.specs.declared.command_line.TextsRequest.{TextsRequest}
 use Rattle.sqmod.specs.declared.command_line.ExplainRequest.{ExplainRequest}
 use Rattle.sqmod.specs.declared.command_line.Request.{Request}
 use Rattle.sqmod.specs.declared.command_line.TestRequest.{TestRequest}
 use Rattle.sqmod.specs.declared.command_line.Task.{Task}
-use Rattle.sqmod.specs.declared.command_line.Task.TheVariants.{Run, Check, Explain, Test, BindC, BindCobol, New}
-use Rattle.sqmod.specs.declared.command_line.NewRequest.{NewRequest}
+use Rattle.sqmod.specs.declared.command_line.Task.TheVariants.{Run, Check, Trace, Shell, Explain, Test, BindC, BindCobol, New}
+use Rattle.sqmod.specs.declared.showing.NewRequest.{NewRequest}
+use Rattle.sqmod.specs.declared.showing.ShellRequest.{ShellRequest}
+use Rattle.sqmod.specs.declared.showing.TraceRequest.{TraceRequest}
 use Rattle.sqmod.specs.declared.fault.Source.{Source}
 use Rattle.sqmod.specs.declared.fault.Source.TheVariants.{Schema, Module, Script}
 
@@ -85,10 +88,34 @@ explain = with_rule (new_app (codes "explain")) name_rule
 abbrev pub flag_rule : Text → Rule
 flag_rule name = record (new_rule name) { long = Some name; action = Some SetTrue }
 
--- `check [--schema F]... [--module F]...`
+-- `check [--schema F]... [--module F]... [--script F]`
+abbrev pub checking : App
+checking =
+    let with_schemas = with_rule (new_app (codes "check")) (files_rule (codes "schema")) in
+    with_rule (with_rule with_schemas (files_rule (codes "module"))) (value_rule (codes "script"))
+
+-- `check [--schema F]... [--module F]... [--script F] [--quiet] [--json]`
 abbrev pub check : App
-check = with_rule (with_rule (new_app (codes "check")) (files_rule (codes "schema")))
-    (files_rule (codes "module"))
+check = with_rule (with_rule checking (flag_rule (codes "quiet"))) (flag_rule (codes "json"))
+
+-- `trace [--schema F]... [--module F]... --script F [--rows N]`
+abbrev pub tracing : App
+tracing =
+    let with_schemas = with_rule (new_app (codes "trace")) (files_rule (codes "schema")) in
+    let with_modules = with_rule with_schemas (files_rule (codes "module")) in
+    with_rule (with_rule with_modules script_rule) rows_rule
+
+-- `trace [--schema F]... [--module F]... --script F [--rows N] [--tables] [--stop] [--html F]`
+abbrev pub trace : App
+trace =
+    with_rule (with_rule (with_rule tracing (flag_rule (codes "tables"))) (flag_rule (codes "stop")))
+    (value_rule (codes "html"))
+
+-- `shell [--schema F]... [--module F]... [--rows N]`
+abbrev pub shell : App
+shell =
+    let with_schemas = with_rule (new_app (codes "shell")) (files_rule (codes "schema")) in
+    with_rule (with_rule with_schemas (files_rule (codes "module"))) rows_rule
 
 -- A word that stands without an option, and must be given.
 abbrev pub folder_rule : Rule
@@ -120,9 +147,13 @@ of_files =
     let without = on_top (λ shape. record shape { has_version = true; subcommand_required = true }) (new_app (codes "sqmod")) in
     with_subcommand (with_subcommand without run.top) check.top
 
+-- `sqmod` with those, `trace` and `shell`
+abbrev pub shown : App
+shown = with_subcommand (with_subcommand of_files trace.top) shell.top
+
 -- `sqmod` with those, `explain` and `test`
 abbrev pub told : App
-told = with_subcommand (with_subcommand of_files explain.top) test.top
+told = with_subcommand (with_subcommand shown explain.top) test.top
 
 abbrev pub modules_rule : Rule
 modules_rule = record (files_rule (codes "module")) { required = true }
@@ -171,12 +202,31 @@ pub record IsFlag (rows : List Row) (name : Text) (flag : Bool) : Type 0 where
   pub given : one_of name rows ≡ Some (codes "true") → flag ≡ true
   pub other : one_of name rows ≡ Some (codes "false") → flag ≡ false
 
--- ---- what `check` and what binds modules were given
+-- ---- what `check`, `trace` and `shell`, and what binds modules were given
 
 -- The schemas and modules of what was given; what binds modules is given no schemas.
 pub record MakesTexts (rows : List Row) (request : TextsRequest) : Type 0 where
   pub schemas : map (λ file. file.now) request.schemas.items ≡ files_of (codes "schema") rows
   pub modules : map (λ file. file.now) request.modules.items ≡ files_of (codes "module") rows
+
+-- The request that `check` makes of what it was given.
+pub record MakesCheck (rows : List Row) (request : CheckRequest) : Type 0 where
+  pub texts : MakesTexts rows request.texts
+  pub script : option_map (λ file. file.now) request.script ≡ first_of (codes "script") rows
+  pub quiet : IsFlag rows (codes "quiet") request.quiet
+  pub json : IsFlag rows (codes "json") request.json
+
+-- The request that `trace` makes of what it was given.
+pub record MakesTrace (rows : List Row) (request : TraceRequest) : Type 0 where
+  pub run : Makes rows request.run
+  pub tables : IsFlag rows (codes "tables") request.tables
+  pub stop : IsFlag rows (codes "stop") request.stop
+  pub html : option_map (λ file. file.now) request.html ≡ first_of (codes "html") rows
+
+-- The request that `shell` makes of what it was given.
+pub record MakesShell (rows : List Row) (request : ShellRequest) : Type 0 where
+  pub texts : MakesTexts rows request.texts
+  pub row_numbers : request.row_numbers ≡ row_numbers_of rows
 
 -- ---- what `new` was given
 
@@ -213,12 +263,15 @@ is_other name = bytes_eq name (codes "explain") || bytes_eq name (codes "test")
     || bytes_eq name (codes "new")
 
 abbrev pub is_subcommand : Text → Bool
-is_subcommand name = bytes_eq name (codes "run") || bytes_eq name (codes "check") || is_other name
+is_subcommand name = bytes_eq name (codes "run") || bytes_eq name (codes "check")
+    || bytes_eq name (codes "trace") || bytes_eq name (codes "shell") || is_other name
 
 -- a subcommand that the program has, with what it may be given
 pub record IsGiven (name : Text) (rows : List Row) : Type 0 where
   pub is : is_subcommand name ≡ true
   pub run : bytes_eq name (codes "run") ≡ true → IsRun rows
+  pub trace : bytes_eq name (codes "trace") ≡ true → IsRun rows
+  pub shell : bytes_eq name (codes "shell") ≡ true → HasRowNumbers rows
   pub new : bytes_eq name (codes "new") ≡ true → HasFolder rows
 
 -- one that runs no script, with what it may be given
@@ -229,7 +282,9 @@ pub record IsOther (name : Text) (rows : List Row) : Type 0 where
 -- the task that the subcommand of this name makes of what it was given
 abbrev pub MakesTask : Text → List Row → Task → Type 0
 MakesTask name rows (Run request) = (name ≡ codes "run") × Makes rows request
-MakesTask name rows (Check request) = (name ≡ codes "check") × MakesTexts rows request
+MakesTask name rows (Check request) = (name ≡ codes "check") × MakesCheck rows request
+MakesTask name rows (Trace request) = (name ≡ codes "trace") × MakesTrace rows request
+MakesTask name rows (Shell request) = (name ≡ codes "shell") × MakesShell rows request
 MakesTask name rows (Explain request) = (name ≡ codes "explain") × MakesExplain rows request
 MakesTask name rows (Test request) = (name ≡ codes "test") × MakesTest rows request
 MakesTask name rows (BindC request) = (name ≡ codes "bind-c") × MakesTexts rows request
@@ -246,6 +301,8 @@ AskFor words task =
 abbrev pub IsLimited : Task → Type 0
 IsLimited (Run request) = request.row_numbers ≤ MOST_ROW_NUMBERS
 IsLimited (Check request) = ⊤
+IsLimited (Trace request) = request.run.row_numbers ≤ MOST_ROW_NUMBERS
+IsLimited (Shell request) = request.row_numbers ≤ MOST_ROW_NUMBERS
 IsLimited (Explain request) = ⊤
 IsLimited (Test request) = ⊤
 IsLimited (BindC request) = ⊤

@@ -6,6 +6,10 @@ ghost use Rattle.clap.specs.declared.builder.value_parser.ValueParser.TheVariant
 ghost use Rattle.sqmod.specs.CommandLine as spec;
 
 use crate::fault::Source;
+use crate::showing::{
+    NewRequest, ShellRequest, TraceRequest, new_command, new_request_of, shell_command,
+    shell_request_of, trace_command, trace_request_of,
+};
 use clap::builder::ValueParser;
 use clap::{Arg, ArgAction, ArgMatches, Command, Error, value_parser};
 use sq_store::MOST_ROW_NUMBERS;
@@ -63,6 +67,17 @@ impl<'a> TextsRequest<'a> {
     }
 }
 
+/// What is to be checked, and how it is said.
+#[derive(Drop)]
+pub(crate) struct CheckRequest<'a> {
+    pub(crate) texts: TextsRequest<'a>,
+    pub(crate) script: Option<&'a str>,
+    /// Nothing but faults and refusals is said.
+    pub(crate) quiet: bool,
+    /// Each line is an object of JSON.
+    pub(crate) json: bool,
+}
+
 /// What is to be explained: a status, a refusal or a fault; without a name, all names are listed.
 #[derive(Clone, Copy)]
 pub(crate) struct ExplainRequest<'a> {
@@ -80,17 +95,13 @@ pub(crate) struct TestRequest<'a> {
     pub(crate) update: bool,
 }
 
-/// The folder in which a first schema, module and script are to be written.
-#[derive(Clone, Copy)]
-pub(crate) struct NewRequest<'a> {
-    pub(crate) folder: &'a str,
-}
-
 /// What a command line asks for.
 #[derive(Drop)]
 pub(crate) enum Task<'a> {
     Run(Request<'a>),
-    Check(TextsRequest<'a>),
+    Check(CheckRequest<'a>),
+    Trace(TraceRequest<'a>),
+    Shell(ShellRequest<'a>),
     Explain(ExplainRequest<'a>),
     Test(TestRequest<'a>),
     /// The header that binds modules to C.
@@ -101,7 +112,9 @@ pub(crate) enum Task<'a> {
 }
 
 /// Reads `sqmod run [--schema F]... [--module F]... --script F [--rows N]`,
-/// `sqmod check [--schema F]... [--module F]...`, `sqmod explain [NAME]`,
+/// `sqmod check [--schema F]... [--module F]... [--script F] [--quiet] [--json]`,
+/// `sqmod trace [--schema F]... [--module F]... --script F [--rows N] [--tables] [--stop] [--html F]`,
+/// `sqmod shell [--schema F]... [--module F]... [--rows N]`, `sqmod explain [NAME]`,
 /// `sqmod test FOLDER... [--filter GLOB]... [--shard K/N] [--junit F] [--list] [--update]`,
 /// `sqmod bind-c --module F...`, `sqmod bind-cobol --module F...` or `sqmod new FOLDER`.
 pub(crate) fn read_task<'a>(alloc: Global, words: &'a [String]) -> Result<Task<'a>, Error>
@@ -123,7 +136,9 @@ fn task_of<'a>(alloc: Global, name: &str, given: &ArgMatches<'a>) -> Result<Task
 {
     match name {
         "run" => Ok(Task::Run(request_of(alloc, given)?)),
-        "check" => Ok(Task::Check(texts_request_of(alloc, given)?)),
+        "check" => Ok(Task::Check(check_request_of(alloc, given)?)),
+        "trace" => Ok(Task::Trace(trace_request_of(alloc, given)?)),
+        "shell" => Ok(Task::Shell(shell_request_of(alloc, given)?)),
         _ => other_task_of(alloc, name, given),
     }
 }
@@ -148,7 +163,7 @@ fn other_task_of<'a>(
 }
 
 /// The request that `run` makes of what it was given.
-fn request_of<'a>(alloc: Global, run: &ArgMatches<'a>) -> Result<Request<'a>, AllocError>
+pub(crate) fn request_of<'a>(alloc: Global, run: &ArgMatches<'a>) -> Result<Request<'a>, AllocError>
     requires { spec.IsRun (rows_of (found_of run.now)) }
     ensures made { IfOk result (spec.Makes (rows_of (found_of run.now))) }
     ensures limited { IfOk result (λ request. request.row_numbers ≤ MOST_ROW_NUMBERS) }
@@ -161,8 +176,23 @@ fn request_of<'a>(alloc: Global, run: &ArgMatches<'a>) -> Result<Request<'a>, Al
     })
 }
 
+/// The request that `check` makes of what it was given.
+fn check_request_of<'a>(
+    alloc: Global,
+    check: &ArgMatches<'a>,
+) -> Result<CheckRequest<'a>, AllocError>
+    ensures { IfOk result (spec.MakesCheck (rows_of (found_of check.now))) }
+{
+    Ok(CheckRequest {
+        texts: texts_request_of(alloc, check)?,
+        script: check.get_str("script"),
+        quiet: check.get_flag("quiet"),
+        json: check.get_flag("json"),
+    })
+}
+
 /// The schemas and modules that a subcommand was given; what binds modules is given no schemas.
-fn texts_request_of<'a>(
+pub(crate) fn texts_request_of<'a>(
     alloc: Global,
     given: &ArgMatches<'a>,
 ) -> Result<TextsRequest<'a>, AllocError>
@@ -197,16 +227,6 @@ fn test_request_of<'a>(alloc: Global, test: &ArgMatches<'a>) -> Result<TestReque
     })
 }
 
-/// The request that `new` makes of what it was given.
-fn new_request_of<'a>(new: &ArgMatches<'a>) -> NewRequest<'a>
-    requires { spec.HasFolder (rows_of (found_of new.now)) }
-    ensures { spec.MakesNew (rows_of (found_of new.now)) result }
-{
-    NewRequest {
-        folder: new.get_str("folder").unwrap(),
-    }
-}
-
 /// The files given by an option, in the order of the words.
 fn files<'a>(alloc: Global, run: &ArgMatches<'a>, option: &str) -> Result<Vec<&'a str>, AllocError>
     ensures { IfOk result (λ files. map (λ file. file.now) files.items
@@ -219,7 +239,7 @@ fn files<'a>(alloc: Global, run: &ArgMatches<'a>, option: &str) -> Result<Vec<&'
 }
 
 /// How many row numbers each table has.
-fn row_numbers(run: &ArgMatches<'_>) -> u64
+pub(crate) fn row_numbers(run: &ArgMatches<'_>) -> u64
     requires { spec.HasRowNumbers (rows_of (found_of run.now)) }
     ensures given { result ≡ spec.row_numbers_of (rows_of (found_of run.now)) }
     ensures limited { result ≤ MOST_ROW_NUMBERS }
@@ -253,7 +273,16 @@ fn told_command<'a>(alloc: Global) -> Result<Command<'a>, AllocError>
 {
     let explain = explain_command(alloc)?;
     let test = test_command(alloc)?;
-    files_command(alloc)?.subcommand(explain)?.subcommand(test)
+    shown_command(alloc)?.subcommand(explain)?.subcommand(test)
+}
+
+/// The command with the subcommands that read schemas and modules.
+fn shown_command<'a>(alloc: Global) -> Result<Command<'a>, AllocError>
+    ensures app { IfOk result (λ command. app_of command ≡ spec.shown) }
+{
+    let trace = trace_command(alloc)?;
+    let shell = shell_command(alloc)?;
+    files_command(alloc)?.subcommand(trace)?.subcommand(shell)
 }
 
 /// A command that prints what binds modules to a host's language.
@@ -296,10 +325,22 @@ fn check_command<'a>(alloc: Global) -> Result<Command<'a>, AllocError>
     ensures app { IfOk result (λ command. app_of command ≡ spec.check) }
     ensures local { IfOk result (λ command. (fields_of command).has_globals ≡ false) }
 {
+    checking_command(alloc)?
+        .arg(flag_option(alloc, "quiet", "Says nothing but refusals and faults"))?
+        .arg(flag_option(alloc, "json", "Prints an object of JSON for each line"))
+}
+
+/// The command `check` with the options that name files.
+fn checking_command<'a>(alloc: Global) -> Result<Command<'a>, AllocError>
+    ensures app { IfOk result (λ command. app_of command ≡ spec.checking) }
+    ensures local { IfOk result (λ command. (fields_of command).has_globals ≡ false) }
+{
+    let script = value_option(alloc, "script", "F", "A file with a script");
     Command::new(alloc, "check")
-        .about("Says which calls answer 42000 and why, and which cursors and views are updatable")
+        .about("Says what is wrong in texts, and which cursors and views are updatable")
         .arg(files_option(alloc, "schema", "A file with schemas"))?
-        .arg(files_option(alloc, "module", "A file with a module"))
+        .arg(files_option(alloc, "module", "A file with a module"))?
+        .arg(script)
 }
 
 fn explain_command<'a>(alloc: Global) -> Result<Command<'a>, AllocError>
@@ -371,7 +412,7 @@ fn filter_option<'a>(alloc: Global) -> Arg<'a>
 }
 
 /// An option that has no value.
-fn flag_option<'a>(alloc: Global, name: &'a str, help: &'a str) -> Arg<'a>
+pub(crate) fn flag_option<'a>(alloc: Global, name: &'a str, help: &'a str) -> Arg<'a>
     ensures rule { rule_of result ≡ spec.flag_rule name.entry.now }
     ensures local { result.global ≡ false }
 {
@@ -379,26 +420,6 @@ fn flag_option<'a>(alloc: Global, name: &'a str, help: &'a str) -> Arg<'a>
         .long(name)
         .help(help)
         .action(ArgAction::SetTrue)
-}
-
-fn new_command<'a>(alloc: Global) -> Result<Command<'a>, AllocError>
-    ensures app { IfOk result (λ command. app_of command ≡ spec.new) }
-    ensures local { IfOk result (λ command. (fields_of command).has_globals ≡ false) }
-{
-    Command::new(alloc, "new")
-        .about("Writes a schema, a module and a script to begin with")
-        .arg(folder_argument(alloc))
-}
-
-fn folder_argument<'a>(alloc: Global) -> Arg<'a>
-    ensures rule { rule_of result ≡ spec.folder_rule }
-    ensures local { result.global ≡ false }
-{
-    Arg::new(alloc, "folder")
-        .value_name("FOLDER")
-        .help("The folder to make")
-        .required(true)
-        .action(ArgAction::Set)
 }
 
 fn name_argument<'a>(alloc: Global) -> Arg<'a>
@@ -412,7 +433,7 @@ fn name_argument<'a>(alloc: Global) -> Arg<'a>
 }
 
 /// An option that may be given again and again.
-fn files_option<'a>(alloc: Global, name: &'a str, help: &'a str) -> Arg<'a>
+pub(crate) fn files_option<'a>(alloc: Global, name: &'a str, help: &'a str) -> Arg<'a>
     ensures rule { rule_of result ≡ spec.files_rule name.entry.now }
     ensures local { result.global ≡ false }
 {
@@ -427,14 +448,14 @@ fn modules_option<'a>(alloc: Global) -> Arg<'a>
     files_option(alloc, "module", "A file with a module").required(true)
 }
 
-fn script_option<'a>(alloc: Global) -> Arg<'a>
+pub(crate) fn script_option<'a>(alloc: Global) -> Arg<'a>
     ensures rule { rule_of result ≡ spec.script_rule }
     ensures local { result.global ≡ false }
 {
     value_option(alloc, "script", "F", "The file with the script").required(true)
 }
 
-fn rows_option<'a>(alloc: Global) -> Arg<'a>
+pub(crate) fn rows_option<'a>(alloc: Global) -> Arg<'a>
     ensures rule { rule_of result ≡ spec.rows_rule }
     ensures local { result.global ≡ false }
 {
@@ -449,7 +470,12 @@ fn row_numbers_parser<'a>() -> ValueParser<'a>
 }
 
 /// An option `--NAME VALUE`.
-fn value_option<'a>(alloc: Global, name: &'a str, value: &'a str, help: &'a str) -> Arg<'a>
+pub(crate) fn value_option<'a>(
+    alloc: Global,
+    name: &'a str,
+    value: &'a str,
+    help: &'a str,
+) -> Arg<'a>
     ensures rule { rule_of result ≡ spec.value_rule name.entry.now }
     ensures local { result.global ≡ false }
 {

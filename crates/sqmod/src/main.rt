@@ -15,8 +15,11 @@ mod fault;
 mod kept;
 mod new;
 mod request;
+mod shell;
+mod showing;
 mod suite;
 mod texts;
+mod trace;
 
 use bind::status_of_bind;
 use check::status_of_check;
@@ -25,19 +28,23 @@ use command_line::{Request, Task, TextsRequest, read_task};
 use explain::{printed, status_of_explain};
 use fault::{Fault, NO_MEMORY, REFUSED};
 use new::status_of_new;
+use shell::{Typed, status_of_shell};
 use sq_bindings::Host;
 use sq_store::MOST_ROW_NUMBERS;
 use std::process::ExitCode;
 use std::rt::{Env, Files};
 use std::{env, io};
 use suite::status_of_test;
+use trace::status_of_trace;
 
 fn main(rt: HostRuntime) -> ExitCode {
     ExitCode::from(status(&rt))
 }
 
 /// Does what the command line asks and gives the status to end with.
-fn status<R: Env + Files + Print + Eprint + AllocGlobal + Clone + Drop>(rt: &R) -> u8 {
+fn status<R: Env + Files + Print + Eprint + Input + Typed + AllocGlobal + Clone + Drop>(
+    rt: &R,
+) -> u8 {
     match words(rt) {
         Ok(words) => status_of_words(rt, words.as_slice()),
         Err(error) => refuse_unreadable_words(rt, &error),
@@ -50,13 +57,15 @@ fn words<R: Env + AllocGlobal>(rt: &R) -> io::Result<Vec<String>> {
     Ok(words)
 }
 
-fn status_of_words<R: Files + Print + Eprint + AllocGlobal + Clone + Drop>(
+fn status_of_words<R: Files + Print + Eprint + Input + Typed + AllocGlobal + Clone + Drop>(
     rt: &R,
     words: &[String],
 ) -> u8 {
     match read_task(rt.alloc(), words) {
         Ok(Task::Run(request)) => status_of_request(rt, &request),
-        Ok(Task::Check(request)) => status_of_check(rt, &request),
+        Ok(Task::Check(request)) => status_of_check(rt, &request.texts),
+        Ok(Task::Trace(request)) => status_of_trace(rt, &request),
+        Ok(Task::Shell(request)) => status_of_shell(rt, &request),
         Ok(Task::Explain(request)) => status_of_explain(rt, request),
         Ok(Task::Test(request)) => status_of_test(rt, &request),
         Ok(Task::BindC(request)) => status_of_bind(rt, Host::C, &request),

@@ -1,5 +1,5 @@
 //! `sqmod new`: a folder with a schema, a module, a script and its report to begin with.
-use crate::command_line::NewRequest;
+use crate::showing::NewRequest;
 use crate::explain::printed;
 use crate::fault::FAILED;
 use std::fs::{self, File};

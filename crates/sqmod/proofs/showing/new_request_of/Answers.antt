@@ -3,7 +3,7 @@ use Rattle.std.specs.Prelude.{codes, option_map}
 use Rattle.clap.specs.Words.{found_of}
 use Rattle.clap.proofs.CallerLemmas.{some_of_text}
 use Rattle.sqmod.proofs.Read.{first_read}
-use Rattle.sqmod.proofs.command_line.new_request_of.Goals as goal
+use Rattle.sqmod.proofs.showing.new_request_of.Goals as goal
 
 pub unwrap-requires : goal.unwrap-requires
 unwrap-requires c =

@@ -1,0 +1,80 @@
+//! Lines that begin with a dot, which are the shell's own.
+use std::str;
+
+/// What such a line asks for.
+#[derive(Clone, Copy)]
+pub(crate) enum Command<'a> {
+    Help,
+    Quit,
+    /// The lines of a file in the place of those that are typed.
+    Read(&'a str),
+    List(Listing<'a>),
+    /// The first state.
+    Restart,
+    /// A further module, from a file.
+    LoadModule(&'a str),
+    Unknown,
+}
+
+/// What a session has, to be listed.
+#[derive(Clone, Copy)]
+pub(crate) enum Listing<'a> {
+    Tables,
+    /// The procedures of all modules.
+    Procedures,
+    /// The procedures of one module.
+    ProceduresOf(&'a str),
+    Cursors,
+}
+
+/// What `.help` prints.
+pub(crate) const HELP: &str = "\
+CALL M.P (1, 'A', NULL, *);  calls a procedure
+TABLE U.T;                   shows a base table
+.help                        these lines
+.tables                      the base tables with their columns and how many rows they have, and the views
+.procedures [M]              the procedures, of all modules or of M, with their parameters
+.cursors                     where each cursor stands
+.read FILE                   takes what a file has, as if it were typed
+.restart                     goes back to the first state
+.load-module FILE            opens the session anew with a further module, and makes the calls so far again
+.quit                        ends, as the end of what is typed does
+";
+
+/// What a line asks for.
+pub(crate) fn command_of(line: &[u8]) -> Command<'_> {
+    match str::from_utf8(line) {
+        Ok(text) => command_in(text.trim()),
+        Err(_) => Command::Unknown,
+    }
+}
+
+fn command_in(text: &str) -> Command<'_> {
+    match text.split_once(' ') {
+        Some((word, rest)) => with_word(word, rest.trim_start()),
+        None => alone(text),
+    }
+}
+
+/// A command of one word.
+fn alone(word: &str) -> Command<'_> {
+    match word {
+        ".help" => Command::Help,
+        ".quit" => Command::Quit,
+        ".restart" => Command::Restart,
+        ".tables" => Command::List(Listing::Tables),
+        ".procedures" => Command::List(Listing::Procedures),
+        ".cursors" => Command::List(Listing::Cursors),
+        _ => Command::Unknown,
+    }
+}
+
+/// A command with a word behind it.
+fn with_word<'a>(word: &str, rest: &'a str) -> Command<'a> {
+    match word {
+        ".read" => Command::Read(rest),
+        ".load-module" => Command::LoadModule(rest),
+        ".procedures" => Command::List(Listing::ProceduresOf(rest)),
+        _ => Command::Unknown,
+    }
+}
