@@ -1,0 +1,39 @@
+//! What is said beside a line of `check`.
+
+use sq_lex::LexFaultKind;
+use thiserror::Error;
+
+/// What is said beside a line of `check`.
+#[derive(Drop)]
+pub struct Advice {
+    /// The first byte of what it is about.
+    pub start: usize,
+    /// How many bytes it has.
+    pub length: usize,
+    /// What stands there; empty where the line says it.
+    pub found: Vec<u8>,
+    /// What may stand there, where that is known.
+    pub expected: Vec<&'static [u8]>,
+    /// What to do, or nothing.
+    pub hint: Vec<u8>,
+}
+
+/// Why a text is refused for its tokens or its grammar.
+#[derive(Clone, Copy, Debug, PartialEq, Eq, Error)]
+pub enum What {
+    #[error("{0:?}")]
+    Lexical(LexFaultKind),
+    #[error("Unexpected")]
+    Unexpected,
+    #[error("TooDeep")]
+    TooDeep,
+    #[error("EndOfText")]
+    EndOfText,
+}
+
+/// A refusal of a text, and what is said beside it.
+#[derive(Drop)]
+pub struct Trouble {
+    pub what: What,
+    pub advice: Advice,
+}

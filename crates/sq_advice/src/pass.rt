@@ -1,0 +1,241 @@
+//! The errors of a text, one after the other: behind each, reading goes on at the next element.
+
+use crate::advice::{Advice, Trouble, What};
+use crate::expected::{called, expected, goes_on, tried};
+use crate::hint::{Spot, hint_of};
+use crate::kind::{TextKind, refusal_of};
+use crate::lexical::{MOST, tokens_of};
+use crate::spelled::spelled;
+use crate::stands::found_at;
+use sq_lex::{Lexeme, LexError, Symbol, Token, Word, lex};
+use sq_parse::ParseError;
+use std::alloc::{AllocError, Global};
+
+/// Why a text is refused for its tokens and its grammar, and what more would be if each error were mended: first the pieces that
+/// are no tokens, then at most one error in each element without such a piece. At most a hundred of each are told.
+pub fn troubles_of(
+    alloc: Global,
+    kind: TextKind,
+    text: &[u8],
+) -> Result<Vec<Trouble>, AllocError> {
+    let mut troubles = Vec::new(alloc);
+    let Some(mut rest) = tokens_of(alloc, text, &mut troubles)? else {
+        return Ok(troubles);
+    };
+    for _ in 0..MOST {
+        match refusal_of(alloc, kind, rest.as_slice())? {
+            Some(refusal) => rest = pass(alloc, kind, text, rest, refusal, &mut troubles)?,
+            None => return Ok(troubles),
+        }
+    }
+    Ok(troubles)
+}
+
+/// Adds a refusal, unless its element has a piece that is no token, and gives the tokens of a text that goes on behind it.
+fn pass(
+    alloc: Global,
+    kind: TextKind,
+    text: &[u8],
+    tokens: Vec<Token>,
+    refusal: ParseError,
+    troubles: &mut Vec<Trouble>,
+) -> Result<Vec<Token>, AllocError> {
+    let mut before = tokens;
+    let index = index_of(refusal, before.len());
+    let mut rest = before.split_off(index)?;
+    let next = next_start(kind, rest.as_slice());
+    let from = start_of_element(kind, before.as_slice());
+    let to = match rest.get(next) {
+        Some(token) => token.start,
+        None => text.len(),
+    };
+    if !has_trouble(troubles.as_slice(), from, to) {
+        let trouble = trouble_at(alloc, kind, text, &mut before, rest.first(), refusal)?;
+        troubles.push(trouble)?;
+    }
+    drop(before);
+    let after = rest.split_off(next)?;
+    drop(rest);
+    behind_head(alloc, kind, after)
+}
+
+/// The number of the token that is refused; that of a text which ends too early is behind the last one.
+fn index_of(refusal: ParseError, count: usize) -> usize {
+    match refusal {
+        ParseError::Unexpected(index) | ParseError::TooDeep(index) => index.min(count),
+        ParseError::EndOfText | ParseError::NoMemory => count,
+    }
+}
+
+fn what_of(refusal: ParseError) -> What {
+    match refusal {
+        ParseError::Unexpected(_) => What::Unexpected,
+        ParseError::TooDeep(_) => What::TooDeep,
+        ParseError::EndOfText | ParseError::NoMemory => What::EndOfText,
+    }
+}
+
+/// Whether one of these stands between two bytes.
+fn has_trouble(troubles: &[Trouble], from: usize, to: usize) -> bool {
+    troubles
+        .iter()
+        .any(|trouble| from <= trouble.advice.start && trouble.advice.start < to)
+}
+
+/// How many tokens stand before the next element.
+fn next_start(kind: TextKind, tokens: &[Token]) -> usize {
+    let found = match kind {
+        TextKind::Script => tokens.iter().position(|token| ends_item(token)),
+        _ => (0..tokens.len()).find(|index| begins_at(kind, tokens, *index)),
+    };
+    match (found, kind) {
+        (Some(index), TextKind::Script) => (index.saturating_add(1)).min(tokens.len()),
+        (Some(index), _) => index.min(tokens.len()),
+        (None, _) => tokens.len(),
+    }
+}
+
+/// The first byte of the last element that begins among these tokens.
+fn start_of_element(kind: TextKind, tokens: &[Token]) -> usize {
+    let found = match kind {
+        TextKind::Script => tokens.iter().rev().find(|token| ends_item(token)),
+        _ => tokens
+            .iter()
+            .rev()
+            .find(|token| begins_element(kind, token)),
+    };
+    match found {
+        Some(token) => token.start,
+        None => 0,
+    }
+}
+
+/// Whether an element begins at the token of this number; none does at the second word of WITH GRANT OPTION.
+fn begins_at(kind: TextKind, tokens: &[Token], index: usize) -> bool {
+    let is_option = match tokens.get(index.saturating_add(1)) {
+        Some(next) => matches!(next.lexeme, Lexeme::Word(Word::Option)),
+        None => false,
+    };
+    match tokens.get(index) {
+        Some(token) => begins_element(kind, token) && !is_option,
+        None => false,
+    }
+}
+
+fn ends_item(token: &Token) -> bool {
+    matches!(token.lexeme, Lexeme::Symbol(Symbol::Semicolon))
+}
+
+/// Whether a token begins an element of a text.
+fn begins_element(kind: TextKind, token: &Token) -> bool {
+    match (kind, &token.lexeme) {
+        (TextKind::Schema, Lexeme::Word(Word::Create | Word::Grant)) => true,
+        (TextKind::Module, Lexeme::Word(Word::Declare | Word::Procedure)) => true,
+        _ => false,
+    }
+}
+
+/// The tokens behind the head of a text that has them alone.
+fn behind_head(
+    alloc: Global,
+    kind: TextKind,
+    tokens: Vec<Token>,
+) -> Result<Vec<Token>, AllocError> {
+    let mut all = head_of(alloc, kind)?;
+    for token in tokens {
+        all.push(token)?;
+    }
+    Ok(all)
+}
+
+/// The tokens of a head with which a text of a kind may begin.
+fn head_of(alloc: Global, kind: TextKind) -> Result<Vec<Token>, AllocError> {
+    let head: &[u8] = match kind {
+        TextKind::Schema => b"CREATE SCHEMA AUTHORIZATION U",
+        TextKind::Module => b"MODULE M LANGUAGE C AUTHORIZATION U",
+        TextKind::Script => b"",
+    };
+    match lex(alloc, head) {
+        Ok(tokens) => Ok(tokens),
+        Err(LexError::NoMemory) => Err(AllocError),
+        Err(LexError::Fault(_)) => Ok(Vec::new(alloc)),
+    }
+}
+
+/// A refusal at a token, and what is said beside it.
+fn trouble_at(
+    alloc: Global,
+    kind: TextKind,
+    text: &[u8],
+    before: &mut Vec<Token>,
+    at: Option<&Token>,
+    refusal: ParseError,
+) -> Result<Trouble, AllocError> {
+    let fit = expected(alloc, kind, before, tried(alloc)?)?;
+    let spot = Spot {
+        kind,
+        text,
+        before: before.last(),
+        at,
+        expected: fit.as_slice(),
+    };
+    let advice = match refusal {
+        ParseError::TooDeep(_) => too_deep(alloc, &spot),
+        _ => advice_at(alloc, &spot),
+    };
+    drop(fit);
+    match advice {
+        Ok(advice) => Ok(Trouble {
+            what: what_of(refusal),
+            advice,
+        }),
+        Err(error) => Err(error),
+    }
+}
+
+/// What is said where a token is unexpected or missing.
+fn advice_at(alloc: Global, spot: &Spot<'_>) -> Result<Advice, AllocError> {
+    let hint = hint_of(spot);
+    let found = found_at(alloc, spot, hint)?;
+    let says = match hint {
+        Some(hint) => Vec::from_slice(alloc, hint.says.as_bytes())?,
+        None => Vec::new(alloc),
+    };
+    let expected = names_of(alloc, spot.expected)?;
+    let (start, length) = place_of(spot);
+    Ok(Advice {
+        start,
+        length,
+        found,
+        expected,
+        hint: says,
+    })
+}
+
+fn too_deep(alloc: Global, spot: &Spot<'_>) -> Result<Advice, AllocError> {
+    let (start, length) = place_of(spot);
+    Ok(Advice {
+        start,
+        length,
+        found: Vec::from_slice(alloc, b"32 round brackets are open already")?,
+        expected: Vec::new(alloc),
+        hint: Vec::new(alloc),
+    })
+}
+
+/// The first byte and the length of the token that is refused; where the text ends, of its last one.
+fn place_of(spot: &Spot<'_>) -> (usize, usize) {
+    match spot.at.or(spot.before) {
+        Some(token) => (token.start, spelled(spot.text, token).len()),
+        None => (0, 1),
+    }
+}
+
+/// What tokens are called, in their order.
+fn names_of(alloc: Global, tokens: &[Token]) -> Result<Vec<&'static [u8]>, AllocError> {
+    let mut names = Vec::new(alloc);
+    for token in tokens {
+        names.push(called(token))?;
+    }
+    Ok(names)
+}
