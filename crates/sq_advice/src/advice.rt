@@ -1,6 +1,8 @@
 //! What is said beside a line of `check`.
 
+use crate::spelled::{behind, length_of_word};
 use sq_lex::LexFaultKind;
+use std::alloc::Global;
 use thiserror::Error;
 
 /// What is said beside a line of `check`.
@@ -16,6 +18,19 @@ pub struct Advice {
     pub expected: Vec<&'static [u8]>,
     /// What to do, or nothing.
     pub hint: Vec<u8>,
+}
+
+impl Advice {
+    /// An advice without words, about the word that begins at a byte of a text, or that byte alone.
+    pub fn at(alloc: Global, text: &[u8], start: usize) -> Advice {
+        Advice {
+            start,
+            length: length_of_word(behind(text, start)).max(1),
+            found: Vec::new(alloc),
+            expected: Vec::new(alloc),
+            hint: Vec::new(alloc),
+        }
+    }
 }
 
 /// Why a text is refused for its tokens or its grammar.

@@ -56,7 +56,7 @@ fn try_token(
 }
 
 /// Whether a text of the kind may begin with these tokens.
-pub(crate) fn goes_on(alloc: Global, kind: TextKind, tokens: &[Token]) -> Result<bool, AllocError> {
+fn goes_on(alloc: Global, kind: TextKind, tokens: &[Token]) -> Result<bool, AllocError> {
     match refusal_of(alloc, kind, tokens) {
         Ok(refusal) => Ok(may_go_on(refusal)),
         Err(error) => Err(error),
@@ -66,6 +66,15 @@ pub(crate) fn goes_on(alloc: Global, kind: TextKind, tokens: &[Token]) -> Result
 /// Whether a text is taken, or refused only because it ends.
 fn may_go_on(refusal: Option<ParseError>) -> bool {
     matches!(refusal, None | Some(ParseError::EndOfText))
+}
+
+pub(crate) fn is_name(token: &Token) -> bool {
+    matches!(token.lexeme, Lexeme::Name(_))
+}
+
+/// Whether a token that was tried stands for all names.
+pub(crate) fn stands_for_names(token: &Token) -> bool {
+    is_name(token) && token.start == 0
 }
 
 /// What a token that was tried is called: its spelling, or what it stands for.

@@ -24,6 +24,8 @@ pub enum Weight {
 pub enum Form {
     /// Refusals and faults, in a line each.
     Quiet,
+    /// Refusals, faults and remarks, in a line each.
+    Lines,
     /// All, each with the line of its text and with words.
     Words,
     /// All, each as an object of JSON in a line.
@@ -60,6 +62,7 @@ pub fn write_item(
 ) -> Result<(), AllocError> {
     match form {
         Form::Quiet => write_grave(out, alloc, item),
+        Form::Lines => write_sure(out, alloc, item),
         Form::Words => write_with_words(out, alloc, item),
         Form::Json => write_object(out, alloc, item),
     }
@@ -73,6 +76,15 @@ fn write_grave(out: &mut Vec<u8>, alloc: Global, item: &Item<'_>) -> Result<(), 
     }
 }
 
+/// Adds an item's line, if it is no warning.
+fn write_sure(out: &mut Vec<u8>, alloc: Global, item: &Item<'_>) -> Result<(), AllocError> {
+    match item.weight {
+        Weight::Warning => Ok(()),
+        _ => write_line(out, alloc, item),
+    }
+}
+
+/// Adds an item's line and its advice.
 fn write_with_words(out: &mut Vec<u8>, alloc: Global, item: &Item<'_>) -> Result<(), AllocError> {
     write_line(out, alloc, item)?;
     match item.advice {

@@ -13,7 +13,7 @@ pub enum TextKind {
 }
 
 /// Why a text of these tokens is refused for its grammar, if it is.
-pub fn refusal_of(
+pub(crate) fn refusal_of(
     alloc: Global,
     kind: TextKind,
     tokens: &[Token],

@@ -2,6 +2,7 @@
 
 use crate::advice::{Advice, Trouble, What};
 use crate::line::first_line;
+use crate::offset::offset_of;
 use crate::spelled::{behind, is_of_word, length_of_literal, length_of_word};
 use sq_lex::{LexError, LexFault, LexFaultKind, Token, lex};
 use std::alloc::{AllocError, Global};
@@ -46,20 +47,6 @@ fn pass_piece(
     })?;
     blank(text.as_mut_slice(), start, length);
     Ok(())
-}
-
-/// The byte at a line and column, both from 1.
-fn offset_of(text: &[u8], line: usize, column: usize) -> usize {
-    let mut left = line;
-    for (index, byte) in text.iter().enumerate() {
-        if left <= 1 {
-            return index.saturating_add(column.saturating_sub(1));
-        }
-        if *byte == b'\n' {
-            left -= 1;
-        }
-    }
-    text.len()
 }
 
 fn blank(text: &mut [u8], start: usize, length: usize) {

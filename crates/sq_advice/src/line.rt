@@ -1,7 +1,7 @@
 //! The lines of a text.
 
 /// The line of a text with this number, from 1, without its end; past the last one it is empty.
-pub fn line_of(text: &[u8], number: usize) -> &[u8] {
+pub(crate) fn line_of(text: &[u8], number: usize) -> &[u8] {
     let mut rest = text;
     for _ in 1..number {
         rest = behind_line(rest);

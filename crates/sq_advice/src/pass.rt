@@ -1,7 +1,7 @@
 //! The errors of a text, one after the other: behind each, reading goes on at the next element.
 
 use crate::advice::{Advice, Trouble, What};
-use crate::expected::{called, expected, goes_on, tried};
+use crate::expected::{called, expected, is_name, stands_for_names, tried};
 use crate::hint::{Spot, hint_of};
 use crate::kind::{TextKind, refusal_of};
 use crate::lexical::{MOST, tokens_of};
@@ -22,22 +22,25 @@ pub fn troubles_of(
     let Some(mut rest) = tokens_of(alloc, text, &mut troubles)? else {
         return Ok(troubles);
     };
+    let pieces = troubles.len();
     for _ in 0..MOST {
         match refusal_of(alloc, kind, rest.as_slice())? {
-            Some(refusal) => rest = pass(alloc, kind, text, rest, refusal, &mut troubles)?,
+            Some(refusal) => rest = pass(alloc, kind, text, rest, refusal, pieces, &mut troubles)?,
             None => return Ok(troubles),
         }
     }
     Ok(troubles)
 }
 
-/// Adds a refusal, unless its element has a piece that is no token, and gives the tokens of a text that goes on behind it.
+/// Adds a refusal, unless its element has one of the pieces that are no tokens, of which there are so many, and gives the tokens of a
+/// text that goes on behind it.
 fn pass(
     alloc: Global,
     kind: TextKind,
     text: &[u8],
     tokens: Vec<Token>,
     refusal: ParseError,
+    pieces: usize,
     troubles: &mut Vec<Trouble>,
 ) -> Result<Vec<Token>, AllocError> {
     let mut before = tokens;
@@ -49,7 +52,7 @@ fn pass(
         Some(token) => token.start,
         None => text.len(),
     };
-    if !has_trouble(troubles.as_slice(), from, to) {
+    if !has_piece(troubles.as_slice(), pieces, from, to) {
         let trouble = trouble_at(alloc, kind, text, &mut before, rest.first(), refusal)?;
         troubles.push(trouble)?;
     }
@@ -75,10 +78,11 @@ fn what_of(refusal: ParseError) -> What {
     }
 }
 
-/// Whether one of these stands between two bytes.
-fn has_trouble(troubles: &[Trouble], from: usize, to: usize) -> bool {
+/// Whether one of the first so many troubles stands between two bytes.
+fn has_piece(troubles: &[Trouble], pieces: usize, from: usize, to: usize) -> bool {
     troubles
         .iter()
+        .take(pieces)
         .any(|trouble| from <= trouble.advice.start && trouble.advice.start < to)
 }
 
@@ -98,7 +102,7 @@ fn next_start(kind: TextKind, tokens: &[Token]) -> usize {
 /// The first byte of the last element that begins among these tokens.
 fn start_of_element(kind: TextKind, tokens: &[Token]) -> usize {
     let found = match kind {
-        TextKind::Script => tokens.iter().rev().find(|token| ends_item(token)),
+        TextKind::Script => start_of_item(tokens),
         _ => tokens
             .iter()
             .rev()
@@ -108,6 +112,16 @@ fn start_of_element(kind: TextKind, tokens: &[Token]) -> usize {
         Some(token) => token.start,
         None => 0,
     }
+}
+
+/// The first token of the last item of a script that begins among these tokens.
+fn start_of_item(tokens: &[Token]) -> Option<&Token> {
+    let count = tokens
+        .iter()
+        .rev()
+        .take_while(|token| !ends_item(token))
+        .count();
+    tokens.get(tokens.len().saturating_sub(count))
 }
 
 /// Whether an element begins at the token of this number; none does at the second word of WITH GRANT OPTION.
@@ -231,11 +245,14 @@ fn place_of(spot: &Spot<'_>) -> (usize, usize) {
     }
 }
 
-/// What tokens are called, in their order.
+/// What tokens are called, in their order; CALL is left out where any name may stand.
 fn names_of(alloc: Global, tokens: &[Token]) -> Result<Vec<&'static [u8]>, AllocError> {
     let mut names = Vec::new(alloc);
+    let has_name = tokens.iter().any(|token| stands_for_names(token));
     for token in tokens {
-        names.push(called(token))?;
+        if !has_name || stands_for_names(token) || !is_name(token) {
+            names.push(called(token))?;
+        }
     }
     Ok(names)
 }
