@@ -1,7 +1,13 @@
 //! The tokens that may follow others.
 
+ghost use Rattle.std.specs.Prelude.{◌≡◌, IfOk, OnOk};
+ghost use Rattle.std.specs.List.{filter};
+ghost use Rattle.sq_lex.specs.Token.{lexemes};
+ghost use Rattle.sq_advice.specs.Expected as spec;
+
 use crate::kind::{TextKind, refusal_of};
-use sq_lex::{Lexeme, LexError, Token, lex};
+use sq_items::Boxed;
+use sq_lex::{Characters, LexError, Lexeme, Token, lex};
 use sq_parse::ParseError;
 use std::alloc::{AllocError, Global};
 
@@ -24,39 +30,78 @@ pub(crate) fn tried(alloc: Global) -> Result<Vec<Token>, AllocError> {
 }
 
 /// The tokens, of these, that may follow others in a text of a kind.
+#[tactic(auto, using(crate::proofs::Fit::fit_next))]
 pub(crate) fn expected(
     alloc: Global,
     kind: TextKind,
     before: &mut Vec<Token>,
-    tried: Vec<Token>,
-) -> Result<Vec<Token>, AllocError> {
+    tried: &[Token],
+) -> Result<Vec<Token>, AllocError>
+    ensures before { OnOk result (before.new.items ≡ before.old.items) }
+    ensures fit { IfOk result (λ fit. lexemes fit.items
+        ≡ filter (spec.may_follow kind (lexemes before.old.items)) (lexemes tried.now)) }
+{
     let mut fit = Vec::new(alloc);
     for token in tried {
-        try_token(alloc, kind, before, token, &mut fit)?;
+        if may_follow(alloc, kind, before, token)? {
+            fit.push(copied(alloc, token)?)?;
+        }
     }
     Ok(fit)
 }
 
-/// Adds a token, if it may follow others.
-fn try_token(
+/// Whether a token may follow others in a text of a kind.
+fn may_follow(
     alloc: Global,
     kind: TextKind,
     before: &mut Vec<Token>,
-    token: Token,
-    fit: &mut Vec<Token>,
-) -> Result<(), AllocError> {
-    before.push(token)?;
-    let fits = goes_on(alloc, kind, before.as_slice())?;
-    if let Some(token) = before.pop() {
-        if fits {
-            fit.push(token)?;
-        }
+    token: &Token,
+) -> Result<bool, AllocError>
+    ensures before { OnOk result (before.new.items ≡ before.old.items) }
+    ensures follows { IfOk result
+        (λ follows. follows ≡ spec.may_follow kind (lexemes before.old.items) token.now.lexeme) }
+{
+    before.push(copied(alloc, token)?)?;
+    let goes = goes_on(alloc, kind, before.as_slice());
+    if let Some(last) = before.pop() {
+        drop(last);
     }
-    Ok(())
+    goes
+}
+
+/// A copy of a token.
+fn copied(alloc: Global, token: &Token) -> Result<Token, AllocError>
+    ensures { IfOk result (λ copy. copy ≡ token.now) }
+{
+    Ok(Token {
+        lexeme: copied_lexeme(alloc, &token.lexeme)?,
+        start: token.start,
+    })
+}
+
+fn copied_lexeme(alloc: Global, lexeme: &Lexeme) -> Result<Lexeme, AllocError>
+    ensures { IfOk result (λ copy. copy ≡ lexeme.now) }
+{
+    match lexeme {
+        Lexeme::Word(word) => Ok(Lexeme::Word(*word)),
+        Lexeme::Name(name) => Ok(Lexeme::Name(*name)),
+        Lexeme::Number(number) => Ok(Lexeme::Number(*number)),
+        Lexeme::Symbol(symbol) => Ok(Lexeme::Symbol(*symbol)),
+        Lexeme::Text(characters) => copied_text(alloc, characters.get()),
+    }
+}
+
+fn copied_text(alloc: Global, characters: &Characters) -> Result<Lexeme, AllocError>
+    ensures { IfOk result (λ copy. copy ≡ Lexeme.Text characters.now) }
+{
+    let copy = characters.copy(alloc)?;
+    Ok(Lexeme::Text(Boxed::new(alloc, copy)?))
 }
 
 /// Whether a text of the kind may begin with these tokens.
-fn goes_on(alloc: Global, kind: TextKind, tokens: &[Token]) -> Result<bool, AllocError> {
+fn goes_on(alloc: Global, kind: TextKind, tokens: &[Token]) -> Result<bool, AllocError>
+    ensures { IfOk result (λ goes. goes ≡ spec.may_go_on (spec.refusal_of kind (lexemes tokens.now))) }
+{
     match refusal_of(alloc, kind, tokens) {
         Ok(refusal) => Ok(may_go_on(refusal)),
         Err(error) => Err(error),
@@ -64,7 +109,9 @@ fn goes_on(alloc: Global, kind: TextKind, tokens: &[Token]) -> Result<bool, Allo
 }
 
 /// Whether a text is taken, or refused only because it ends.
-fn may_go_on(refusal: Option<ParseError>) -> bool {
+fn may_go_on(refusal: Option<ParseError>) -> bool
+    ensures { result ≡ spec.may_go_on refusal }
+{
     matches!(refusal, None | Some(ParseError::EndOfText))
 }
 

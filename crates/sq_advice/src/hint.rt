@@ -1,6 +1,6 @@
 //! What to write in place of what a text may not have.
 
-use crate::expected::TRIED;
+use crate::expected::{TRIED, stands_for_names};
 use crate::hints::{ANYWHERE, MODULES, QUERIES, SCHEMAS, SCRIPTS, TYPES};
 use crate::kind::TextKind;
 use crate::spelled::is_of;
@@ -34,8 +34,13 @@ pub(crate) struct Spot<'t> {
 }
 
 impl Spot<'_> {
+    /// Whether any name may stand here.
+    pub(crate) fn takes_names(&self) -> bool {
+        self.expected.iter().any(|token| stands_for_names(token))
+    }
+
     /// Whether a token of this pattern may stand here.
-    pub(crate) fn expects(&self, pattern: &str) -> bool {
+    fn expects(&self, pattern: &str) -> bool {
         self.expected
             .iter()
             .any(|token| is_of(pattern, TRIED, token))
@@ -48,11 +53,6 @@ impl Hint {
         fits(self.at, spot.text, spot.at)
             && fits(self.before, spot.text, spot.before)
             && (self.expected.is_empty() || spot.expects(self.expected))
-    }
-
-    /// Whether it is about the token before the one that is refused.
-    pub(crate) fn is_about_before(&self) -> bool {
-        self.at.is_empty() || self.at.starts_with("a ")
     }
 }
 

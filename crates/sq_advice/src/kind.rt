@@ -1,5 +1,14 @@
 //! The kinds of texts, and why one is refused for its grammar.
 
+ghost use Rattle.std.specs.Prelude.{◌≡◌, ◌-◌, IfOk};
+ghost use Rattle.sq_lex.specs.Token.{lexemes};
+ghost use Rattle.sq_grammar.specs.declared.brackets.TheConstants.{MAX_DEPTH};
+ghost use Rattle.sq_grammar.specs.Module.{module_text};
+ghost use Rattle.sq_grammar.specs.Schema.{schema_text};
+ghost use Rattle.sq_grammar.specs.Script.{script_text};
+ghost use Rattle.sq_parse.specs.Refusal.{parsed};
+ghost use Rattle.sq_advice.specs.Expected as spec;
+
 use sq_lex::Token;
 use sq_parse::{ParseError, parse_module, parse_schema, parse_script};
 use std::alloc::{AllocError, Global};
@@ -13,11 +22,14 @@ pub enum TextKind {
 }
 
 /// Why a text of these tokens is refused for its grammar, if it is.
+#[tactic(auto, unfolding(crate::specs::Expected::refusal_of))]
 pub(crate) fn refusal_of(
     alloc: Global,
     kind: TextKind,
     tokens: &[Token],
-) -> Result<Option<ParseError>, AllocError> {
+) -> Result<Option<ParseError>, AllocError>
+    ensures { IfOk result (λ refusal. refusal ≡ spec.refusal_of kind (lexemes tokens.now)) }
+{
     match kind {
         TextKind::Schema => schema_refusal(alloc, tokens),
         TextKind::Module => module_refusal(alloc, tokens),
@@ -25,7 +37,9 @@ pub(crate) fn refusal_of(
     }
 }
 
-fn schema_refusal(alloc: Global, tokens: &[Token]) -> Result<Option<ParseError>, AllocError> {
+fn schema_refusal(alloc: Global, tokens: &[Token]) -> Result<Option<ParseError>, AllocError>
+    ensures { IfOk result (λ refusal. refusal ≡ spec.error_of (parsed (schema_text MAX_DEPTH (MAX_DEPTH - 1)) (lexemes tokens.now))) }
+{
     match parse_schema(alloc, tokens) {
         Ok(tree) => {
             drop(tree);
@@ -36,7 +50,9 @@ fn schema_refusal(alloc: Global, tokens: &[Token]) -> Result<Option<ParseError>,
     }
 }
 
-fn module_refusal(alloc: Global, tokens: &[Token]) -> Result<Option<ParseError>, AllocError> {
+fn module_refusal(alloc: Global, tokens: &[Token]) -> Result<Option<ParseError>, AllocError>
+    ensures { IfOk result (λ refusal. refusal ≡ spec.error_of (parsed (module_text MAX_DEPTH) (lexemes tokens.now))) }
+{
     match parse_module(alloc, tokens) {
         Ok(tree) => {
             drop(tree);
@@ -47,7 +63,9 @@ fn module_refusal(alloc: Global, tokens: &[Token]) -> Result<Option<ParseError>,
     }
 }
 
-fn script_refusal(alloc: Global, tokens: &[Token]) -> Result<Option<ParseError>, AllocError> {
+fn script_refusal(alloc: Global, tokens: &[Token]) -> Result<Option<ParseError>, AllocError>
+    ensures { IfOk result (λ refusal. refusal ≡ spec.error_of (parsed script_text (lexemes tokens.now))) }
+{
     match parse_script(alloc, tokens) {
         Ok(tree) => {
             drop(tree);

@@ -115,6 +115,11 @@ impl<'t> Module<'t> {
         subject: Subject,
     ) -> Result<Vec<u8>, AllocError> {
         let mut words = Vec::new(alloc);
+        if subject.kind == NameKind::Column && declares(part, subject.name) {
+            words.extend_from_slice(b"the parameter is :")?;
+            words.extend_from_slice(subject.name.codes())?;
+            return Ok(words);
+        }
         let near = match subject.kind {
             NameKind::Table => nearest(self.tables.as_slice(), subject.name),
             NameKind::Column => nearest(self.columns.as_slice(), subject.name),
@@ -127,6 +132,15 @@ impl<'t> Module<'t> {
         }
         Ok(words)
     }
+}
+
+/// Whether a part declares a parameter of this name.
+fn declares(part: &[Token], name: Name) -> bool {
+    (0..part.len()).any(|index| {
+        is_name(part, index, name)
+            && is_parameter(part, index)
+            && is_type(part, behind(index))
+    })
 }
 
 fn nearest_parameter(

@@ -1,5 +1,7 @@
 //! The errors of a text, one after the other: behind each, reading goes on at the next element.
 
+ghost use Rattle.std.specs.Prelude.{◌≤◌, length};
+
 use crate::advice::{Advice, Trouble, What};
 use crate::expected::{called, expected, is_name, stands_for_names, tried};
 use crate::hint::{Spot, hint_of};
@@ -63,7 +65,9 @@ fn pass(
 }
 
 /// The number of the token that is refused; that of a text which ends too early is behind the last one.
-fn index_of(refusal: ParseError, count: usize) -> usize {
+fn index_of(refusal: ParseError, count: usize) -> usize
+    ensures { result ≤ count }
+{
     match refusal {
         ParseError::Unexpected(index) | ParseError::TooDeep(index) => index.min(count),
         ParseError::EndOfText | ParseError::NoMemory => count,
@@ -87,7 +91,9 @@ fn has_piece(troubles: &[Trouble], pieces: usize, from: usize, to: usize) -> boo
 }
 
 /// How many tokens stand before the next element.
-fn next_start(kind: TextKind, tokens: &[Token]) -> usize {
+fn next_start(kind: TextKind, tokens: &[Token]) -> usize
+    ensures { result ≤ length tokens.now }
+{
     let found = match kind {
         TextKind::Script => tokens.iter().position(|token| ends_item(token)),
         _ => (0..tokens.len()).find(|index| begins_at(kind, tokens, *index)),
@@ -185,7 +191,9 @@ fn trouble_at(
     at: Option<&Token>,
     refusal: ParseError,
 ) -> Result<Trouble, AllocError> {
-    let fit = expected(alloc, kind, before, tried(alloc)?)?;
+    let tried = tried(alloc)?;
+    let fit = expected(alloc, kind, before, tried.as_slice())?;
+    drop(tried);
     let spot = Spot {
         kind,
         text,

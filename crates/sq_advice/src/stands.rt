@@ -19,7 +19,7 @@ pub(crate) fn found_at(
     Ok(words)
 }
 
-/// Adds that a feature is not there; or that a word is reserved, where a name may stand.
+/// Adds that a feature is not there; or, where nothing else is said, that a word is reserved where a name may stand.
 fn add_found(
     words: &mut Vec<u8>,
     spot: &Spot<'_>,
@@ -27,25 +27,9 @@ fn add_found(
     hint: Option<&Hint>,
 ) -> Result<(), AllocError> {
     match hint {
-        Some(hint) if !hint.missing.is_empty() => add_missing(words, spot, token, hint),
-        _ => add_reserved(words, spot, token),
+        Some(hint) => words.extend_from_slice(hint.missing.as_bytes()),
+        None => add_reserved(words, spot, token),
     }
-}
-
-/// Adds the token that a hint is about, and what is not there.
-fn add_missing(
-    words: &mut Vec<u8>,
-    spot: &Spot<'_>,
-    token: &Token,
-    hint: &Hint,
-) -> Result<(), AllocError> {
-    let about = match spot.before {
-        Some(before) if hint.is_about_before() => before,
-        _ => token,
-    };
-    add_upper(words, spelled(spot.text, about))?;
-    words.extend_from_slice(b": ")?;
-    words.extend_from_slice(hint.missing.as_bytes())
 }
 
 /// Adds that a word is reserved, where a name may stand.
@@ -54,7 +38,7 @@ fn add_reserved(
     spot: &Spot<'_>,
     token: &Token,
 ) -> Result<(), AllocError> {
-    if !is_word(token) || !spot.expects("a name") {
+    if !is_word(token) || !spot.takes_names() {
         return Ok(());
     }
     add_upper(words, spelled(spot.text, token))?;
@@ -66,7 +50,7 @@ fn is_word(token: &Token) -> bool {
 }
 
 /// Adds a text in capitals.
-pub(crate) fn add_upper(words: &mut Vec<u8>, text: &[u8]) -> Result<(), AllocError> {
+fn add_upper(words: &mut Vec<u8>, text: &[u8]) -> Result<(), AllocError> {
     for byte in text {
         words.push(byte.to_ascii_uppercase())?;
     }

@@ -13,6 +13,7 @@ mod command_line;
 mod explain;
 mod fault;
 mod kept;
+mod meanings;
 mod new;
 mod refusals;
 mod remarks;

@@ -1,6 +1,7 @@
 //! The refusals of texts that are checked, each with what stands there, what may, and what to write.
 use crate::check::Checking;
 use crate::fault::Source;
+use crate::meanings::meaning_of;
 use sq_advice::{Advice, Form, Item, TextKind, Trouble, Weight, offset_of, troubles_of, write_item};
 use sq_lex::Position;
 use sq_perform::{Refusal, RefusalName};
@@ -82,7 +83,10 @@ fn write_refusal(
         return Ok(());
     };
     let says = format!(in alloc; "{}", refusal.what)?;
-    let advice = Advice::at(alloc, text, offset_of(text, refusal.line, refusal.column));
+    let mut advice = Advice::at(alloc, text, offset_of(text, refusal.line, refusal.column));
+    advice
+        .found
+        .extend_from_slice(meaning_of(says.as_str(), part_of(source)).as_bytes())?;
     let item = Item {
         weight: Weight::Refusal,
         file,
@@ -94,6 +98,15 @@ fn write_refusal(
         advice: Some(&advice),
     };
     write_item(out, alloc, &item, checking.form)
+}
+
+/// What the entries of `explain` call the texts of a kind.
+fn part_of(source: Source) -> &'static str {
+    match source {
+        Source::Schema(_) => "schema",
+        Source::Module(_) => "module",
+        Source::Script => "script",
+    }
 }
 
 /// Adds each error in the tokens and the grammar of a text.

@@ -1,5 +1,6 @@
 //! What is said of texts that are not refused: faults, whether cursors and views are updatable, and warnings.
 use crate::check::Checking;
+use crate::meanings::meaning_of;
 use sq_advice::{
     Doubt, Form, Item, Module, NameKind, Part, Slip, Subject, Weight, slips_of, write_item,
 };
@@ -139,7 +140,12 @@ fn write_fault(
         Some(about) => Some(subject_of(rule, about)),
         None => None,
     };
-    let advice = module.advice(alloc, note.line, note.column, subject)?;
+    let mut advice = module.advice(alloc, note.line, note.column, subject)?;
+    if advice.found.is_empty() && advice.hint.is_empty() {
+        let name = format!(in alloc; "{rule:?}")?;
+        let meaning = meaning_of(name.as_str(), "statement");
+        advice.found.extend_from_slice(meaning.as_bytes())?;
+    }
     let item = Item {
         weight: Weight::Fault,
         file,
