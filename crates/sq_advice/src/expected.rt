@@ -1,6 +1,6 @@
 //! The tokens that may follow others.
 
-ghost use Rattle.std.specs.Prelude.{◌≡◌, IfOk, OnOk};
+ghost use Rattle.std.specs.Prelude.{◌≡◌, ◌++◌, ◌∷◌, [], IfOk, OnOk};
 ghost use Rattle.std.specs.List.{filter};
 ghost use Rattle.sq_lex.specs.Token.{lexemes};
 ghost use Rattle.sq_advice.specs.Expected as spec;
@@ -43,11 +43,27 @@ pub(crate) fn expected(
 {
     let mut fit = Vec::new(alloc);
     for token in tried {
-        if may_follow(alloc, kind, before, token)? {
-            fit.push(copied(alloc, token)?)?;
-        }
+        add_if_fit(alloc, kind, before, token, &mut fit)?;
     }
     Ok(fit)
+}
+
+/// Adds a token, if it may follow others in a text of a kind.
+fn add_if_fit(
+    alloc: Global,
+    kind: TextKind,
+    before: &mut Vec<Token>,
+    token: &Token,
+    fit: &mut Vec<Token>,
+) -> Result<(), AllocError>
+    ensures before { OnOk result (before.new.items ≡ before.old.items) }
+    ensures fit { OnOk result (lexemes fit.new.items ≡ lexemes fit.old.items
+        ++ filter (spec.may_follow kind (lexemes before.old.items)) (token.now.lexeme ∷ [])) }
+{
+    if may_follow(alloc, kind, before, token)? {
+        fit.push(copied(alloc, token)?)?;
+    }
+    Ok(())
 }
 
 /// Whether a token may follow others in a text of a kind.

@@ -113,7 +113,7 @@ pub(crate) static SCHEMAS: [Hint; 32] = [
     Hint {
         before: "",
         at: "ON",
-        expected: "",
+        expected: ",",
         missing: "referential actions are left out",
         says: "a procedure deletes or changes the referring rows first",
     },

@@ -4,6 +4,7 @@ ghost use Rattle.std.specs.Prelude.{◌≡◌, ◌-◌};
 ghost use Rattle.sq_advice.specs.Line as spec;
 
 /// The line of a text with this number, from 1, without its end; past the last one it is empty.
+#[tactic(auto, using(crate::proofs::Lines::turn))]
 pub(crate) fn line_of(text: &[u8], number: usize) -> &[u8]
     ensures { result.now ≡ spec.line_behind (number - 1) text.now }
 {

@@ -69,7 +69,7 @@ impl<'t> Module<'t> {
         let part = part_at(self.tokens.as_slice(), start);
         match subject {
             Some(subject) => self.advice_about(alloc, part, subject),
-            None => at_token(alloc, self.text, part.first()),
+            None => Ok(at_token(alloc, self.text, part.first())),
         }
     }
 
@@ -80,20 +80,20 @@ impl<'t> Module<'t> {
         part: &[Token],
         subject: Subject,
     ) -> Result<Advice, AllocError> {
-        let mut advice = at_token(alloc, self.text, token_of(part, subject))?;
-        if subject.is_unknown {
-            advice.found = self.declared_cursor(alloc, subject)?;
-            if advice.found.is_empty() {
-                advice.hint = self.nearest_name(alloc, part, subject)?;
-            }
+        let token = token_of(part, subject);
+        let found = self.declared_cursor(alloc, subject)?;
+        if !subject.is_unknown || !found.is_empty() {
+            return Ok(with_words(alloc, self.text, token, found));
         }
-        Ok(advice)
+        drop(found);
+        let hint = self.nearest_name(alloc, part, subject)?;
+        Ok(with_hint(alloc, self.text, token, hint))
     }
 
     /// That a cursor is declared and has a fault, where it is.
     fn declared_cursor(&self, alloc: Global, subject: Subject) -> Result<Vec<u8>, AllocError> {
         let mut words = Vec::new(alloc);
-        if subject.kind != NameKind::Cursor {
+        if subject.kind != NameKind::Cursor || !subject.is_unknown {
             return Ok(words);
         }
         if let Some(token) = declaration_of(self.tokens.as_slice(), subject.name) {
@@ -204,16 +204,38 @@ fn is_use(part: &[Token], index: usize, subject: Subject) -> bool {
 }
 
 /// An advice at a token, without words.
-fn at_token(alloc: Global, text: &[u8], token: Option<&Token>) -> Result<Advice, AllocError> {
-    let (start, length) = match token {
-        Some(token) => (token.start, spelled(text, token).len()),
-        None => (0, 1),
-    };
-    Ok(Advice {
+fn at_token(alloc: Global, text: &[u8], token: Option<&Token>) -> Advice {
+    with_words(alloc, text, token, Vec::new(alloc))
+}
+
+/// An advice at a token that says what stands there.
+fn with_words(alloc: Global, text: &[u8], token: Option<&Token>, found: Vec<u8>) -> Advice {
+    let (start, length) = place_of(text, token);
+    Advice {
+        start,
+        length,
+        found,
+        expected: Vec::new(alloc),
+        hint: Vec::new(alloc),
+    }
+}
+
+/// An advice at a token with a hint.
+fn with_hint(alloc: Global, text: &[u8], token: Option<&Token>, hint: Vec<u8>) -> Advice {
+    let (start, length) = place_of(text, token);
+    Advice {
         start,
         length,
         found: Vec::new(alloc),
         expected: Vec::new(alloc),
-        hint: Vec::new(alloc),
-    })
+        hint,
+    }
+}
+
+/// The first byte and the length of a token; of none, those of the text's first byte.
+pub(crate) fn place_of(text: &[u8], token: Option<&Token>) -> (usize, usize) {
+    match token {
+        Some(token) => (token.start, spelled(text, token).len()),
+        None => (0, 1),
+    }
 }

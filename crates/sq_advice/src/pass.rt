@@ -7,7 +7,7 @@ use crate::expected::{called, expected, is_name, stands_for_names, tried};
 use crate::hint::{Spot, hint_of};
 use crate::kind::{TextKind, refusal_of};
 use crate::lexical::{MOST, tokens_of};
-use crate::spelled::spelled;
+use crate::meaning::place_of;
 use crate::stands::found_at;
 use sq_lex::{Lexeme, LexError, Symbol, Token, Word, lex};
 use sq_parse::ParseError;
@@ -224,7 +224,7 @@ fn advice_at(alloc: Global, spot: &Spot<'_>) -> Result<Advice, AllocError> {
         None => Vec::new(alloc),
     };
     let expected = names_of(alloc, spot.expected)?;
-    let (start, length) = place_of(spot);
+    let (start, length) = place_of(spot.text, spot.at.or(spot.before));
     Ok(Advice {
         start,
         length,
@@ -235,7 +235,7 @@ fn advice_at(alloc: Global, spot: &Spot<'_>) -> Result<Advice, AllocError> {
 }
 
 fn too_deep(alloc: Global, spot: &Spot<'_>) -> Result<Advice, AllocError> {
-    let (start, length) = place_of(spot);
+    let (start, length) = place_of(spot.text, spot.at.or(spot.before));
     Ok(Advice {
         start,
         length,
@@ -243,14 +243,6 @@ fn too_deep(alloc: Global, spot: &Spot<'_>) -> Result<Advice, AllocError> {
         expected: Vec::new(alloc),
         hint: Vec::new(alloc),
     })
-}
-
-/// The first byte and the length of the token that is refused; where the text ends, of its last one.
-fn place_of(spot: &Spot<'_>) -> (usize, usize) {
-    match spot.at.or(spot.before) {
-        Some(token) => (token.start, spelled(spot.text, token).len()),
-        None => (0, 1),
-    }
 }
 
 /// What tokens are called, in their order; CALL is left out where any name may stand.

@@ -2,12 +2,11 @@
 
 use crate::advice::Advice;
 use crate::item::Part;
-use crate::meaning::Module;
+use crate::meaning::{Module, place_of};
 use crate::names::{
     before, behind, is_name, is_parameter, is_symbol, is_type, is_word, name_at,
 };
 use crate::part::{begins_part, first_part};
-use crate::spelled::spelled;
 use sq_lex::{Name, Symbol, Token, Word};
 use std::alloc::{AllocError, Global};
 
@@ -108,11 +107,26 @@ fn add_unused(
 ) -> Result<(), AllocError> {
     let opened = opened_by(module.tokens.as_slice(), part);
     for index in 0..part.len() {
-        if is_unused(part, opened, index) {
-            let slip = slip_at(alloc, module, named, part, index, Doubt::UnusedParameter)?;
-            slips.push(slip)?;
-        }
+        add_if_unused(alloc, module, named, part, opened, index, slips)?;
     }
+    Ok(())
+}
+
+/// Adds the parameter that is declared at the token of this number, if it is one that is not used.
+fn add_if_unused(
+    alloc: Global,
+    module: &Module<'_>,
+    named: Part,
+    part: &[Token],
+    opened: &[Token],
+    index: usize,
+    slips: &mut Vec<Slip>,
+) -> Result<(), AllocError> {
+    if !is_unused(part, opened, index) {
+        return Ok(());
+    }
+    let slip = slip_at(alloc, module, named, part, index, Doubt::UnusedParameter)?;
+    slips.push(slip)?;
     Ok(())
 }
 
@@ -183,13 +197,6 @@ fn slip_at(
             hint: hint_on(alloc, module, part, name, doubt)?,
         },
     })
-}
-
-fn place_of(text: &[u8], token: Option<&Token>) -> (usize, usize) {
-    match token {
-        Some(token) => (token.start, spelled(text, token).len()),
-        None => (0, 1),
-    }
 }
 
 /// What to look at: the name without a colon in the procedure, or in the cursor that it opens; or how to fetch.

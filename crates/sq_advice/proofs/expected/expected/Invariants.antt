@@ -7,5 +7,5 @@ use Rattle.sq_advice.proofs.expected.expected.Given as goal
 abbrev pub invariant-loop-token : goal.invariant-loop-token
 invariant-loop-token l = record {
   before : l.before.items ≡ l.initial.before.items;
-  fit : lexemes l.fit.items ≡ filter (may_follow l.kind (lexemes l.initial.before.items)) (take l.token-index (lexemes l.tried));
+  fit : lexemes l.fit.items ≡ filter (may_follow l.kind (lexemes l.initial.before.items)) (lexemes (take l.token-index l.tried));
 }
