@@ -1,5 +1,5 @@
 -- Lines counted down to the one that is wanted.
-use Rattle.std.proofs.Common.{◌≡◌, ℕ, suc, ◌+◌, ◌-◌, ◌<◌, arith, omega}
+use Rattle.std.proofs.Common.{◌≡◌, ℕ, suc, ◌+◌, ◌-◌, ◌<◌, arith}
 
 -- what is left to count, before and behind one turn
 pub turn : (number at : ℕ) → at < number → number - at ≡ suc (number - (at + 1))
