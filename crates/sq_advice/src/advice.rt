@@ -2,7 +2,7 @@
 
 use crate::spelled::{behind, length_of_word};
 use sq_lex::LexFaultKind;
-use std::alloc::Global;
+use std::alloc::{AllocError, Global};
 use thiserror::Error;
 
 /// What is said beside a line of `check`.
@@ -30,6 +30,27 @@ impl Advice {
             expected: Vec::new(alloc),
             hint: Vec::new(alloc),
         }
+    }
+
+    /// The advice; one without words says what the line means.
+    pub fn explained(self, meaning: &[u8]) -> Result<Advice, AllocError> {
+        let Advice {
+            start,
+            length,
+            mut found,
+            expected,
+            hint,
+        } = self;
+        if found.is_empty() && hint.is_empty() {
+            found.extend_from_slice(meaning)?;
+        }
+        Ok(Advice {
+            start,
+            length,
+            found,
+            expected,
+            hint,
+        })
     }
 }
 

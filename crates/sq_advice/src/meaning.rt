@@ -67,7 +67,7 @@ impl<'t> Module<'t> {
     ) -> Result<Advice, AllocError> {
         let start = offset_of(self.text, line, column);
         let part = part_at(self.tokens.as_slice(), start);
-        match subject {
+        match &subject {
             Some(subject) => self.advice_about(alloc, part, subject),
             None => Ok(at_token(alloc, self.text, part.first())),
         }
@@ -78,7 +78,7 @@ impl<'t> Module<'t> {
         &self,
         alloc: Global,
         part: &[Token],
-        subject: Subject,
+        subject: &Subject,
     ) -> Result<Advice, AllocError> {
         let token = token_of(part, subject);
         let found = self.declared_cursor(alloc, subject)?;
@@ -91,7 +91,7 @@ impl<'t> Module<'t> {
     }
 
     /// That a cursor is declared and has a fault, where it is.
-    fn declared_cursor(&self, alloc: Global, subject: Subject) -> Result<Vec<u8>, AllocError> {
+    fn declared_cursor(&self, alloc: Global, subject: &Subject) -> Result<Vec<u8>, AllocError> {
         let mut words = Vec::new(alloc);
         if subject.kind != NameKind::Cursor || !subject.is_unknown {
             return Ok(words);
@@ -112,7 +112,7 @@ impl<'t> Module<'t> {
         &self,
         alloc: Global,
         part: &[Token],
-        subject: Subject,
+        subject: &Subject,
     ) -> Result<Vec<u8>, AllocError> {
         let mut words = Vec::new(alloc);
         if subject.kind == NameKind::Column && declares(part, subject.name) {
@@ -178,7 +178,7 @@ fn declaration_of(tokens: &[Token], name: Name) -> Option<&Token> {
 
 /// The token of a part that a fault is about: the first use of the name there, or the last where it stands twice; else the
 /// part's first token.
-fn token_of(part: &[Token], subject: Subject) -> Option<&Token> {
+fn token_of<'t>(part: &'t [Token], subject: &Subject) -> Option<&'t Token> {
     let found = if subject.is_twice {
         (0..part.len())
             .rev()
@@ -190,7 +190,7 @@ fn token_of(part: &[Token], subject: Subject) -> Option<&Token> {
 }
 
 /// Whether a name is used, and not declared, at the token of this number of a part.
-fn is_use(part: &[Token], index: usize, subject: Subject) -> bool {
+fn is_use(part: &[Token], index: usize, subject: &Subject) -> bool {
     let is_here = is_name(part, index, subject.name) && index > 1;
     match subject.kind {
         NameKind::Parameter => {

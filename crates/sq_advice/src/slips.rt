@@ -7,7 +7,7 @@ use crate::names::{
     before, behind, is_name, is_parameter, is_symbol, is_type, is_word, name_at,
 };
 use crate::part::{begins_part, first_part};
-use sq_lex::{Name, Symbol, Token, Word};
+use sq_lex::{Name, Position, Symbol, Token, Word};
 use std::alloc::{AllocError, Global};
 
 /// What may be wrong with a part of a module.
@@ -67,9 +67,9 @@ fn add_slips(
     };
     let named = Part { owner, name };
     if is_word(part, 0, Word::Declare) {
-        add_unfetched(alloc, module, named, part, slips)
+        add_unfetched(alloc, module, &named, part, slips)
     } else {
-        add_unused(alloc, module, named, part, slips)
+        add_unused(alloc, module, &named, part, slips)
     }
 }
 
@@ -77,7 +77,7 @@ fn add_slips(
 fn add_unfetched(
     alloc: Global,
     module: &Module<'_>,
-    named: Part,
+    named: &Part,
     part: &[Token],
     slips: &mut Vec<Slip>,
 ) -> Result<(), AllocError> {
@@ -101,7 +101,7 @@ fn is_fetch_of(tokens: &[Token], index: usize, cursor: Name) -> bool {
 fn add_unused(
     alloc: Global,
     module: &Module<'_>,
-    named: Part,
+    named: &Part,
     part: &[Token],
     slips: &mut Vec<Slip>,
 ) -> Result<(), AllocError> {
@@ -116,7 +116,7 @@ fn add_unused(
 fn add_if_unused(
     alloc: Global,
     module: &Module<'_>,
-    named: Part,
+    named: &Part,
     part: &[Token],
     opened: &[Token],
     index: usize,
@@ -176,7 +176,7 @@ fn cursor_part(tokens: &[Token], cursor: Name) -> &[Token] {
 fn slip_at(
     alloc: Global,
     module: &Module<'_>,
-    named: Part,
+    named: &Part,
     part: &[Token],
     index: usize,
     doubt: Doubt,
@@ -186,7 +186,7 @@ fn slip_at(
     let first = place_of(module.text, part.first()).0;
     Ok(Slip {
         doubt,
-        part: named,
+        part: *named,
         start: first,
         name,
         advice: Advice {
@@ -210,17 +210,51 @@ fn hint_on(
     let mut words = Vec::new(alloc);
     if doubt == Doubt::NeverFetched {
         words.extend_from_slice(b"FETCH is the statement of a procedure of its own")?;
-    } else if is_bare(part, name) || is_bare(opened_by(module.tokens.as_slice(), part), name) {
-        words.extend_from_slice(name.codes())?;
-        words.extend_from_slice(b" without a colon is a column: the parameter is :")?;
-        words.extend_from_slice(name.codes())?;
+        return Ok(words);
+    }
+    let opened = opened_by(module.tokens.as_slice(), part);
+    if let Some(token) = bare_in(part, name).or(bare_in(opened, name)) {
+        add_bare(&mut words, alloc, module.text, token, name)?;
     }
     Ok(words)
 }
 
-/// Whether these tokens have a name without a colon, behind the name of the part.
-fn is_bare(tokens: &[Token], name: Name) -> bool {
-    (0..tokens.len()).any(|index| {
-        index > 1 && is_name(tokens, index, name) && !is_symbol(tokens, before(index), Symbol::Colon)
-    })
+/// Adds that a name stands without a colon.
+fn add_bare(
+    words: &mut Vec<u8>,
+    alloc: Global,
+    text: &[u8],
+    token: &Token,
+    name: Name,
+) -> Result<(), AllocError> {
+    let place = Position::of(text, token.start);
+    let says = format!(in alloc; " at {}:{} is a column: the parameter is :", place.line, place.column)?;
+    words.extend_from_slice(name.codes())?;
+    words.extend_from_slice(says.as_bytes())?;
+    words.extend_from_slice(name.codes())
+}
+
+/// The first token that is a name without a colon, behind the name of the part.
+fn bare_in(tokens: &[Token], name: Name) -> Option<&Token> {
+    let found = (0..tokens.len()).find(|index| is_bare(tokens, *index, name));
+    tokens.get(found?)
+}
+
+fn is_bare(tokens: &[Token], index: usize, name: Name) -> bool {
+    index > 1
+        && is_name(tokens, index, name)
+        && !is_symbol(tokens, before(index), Symbol::Colon)
+        && !is_symbol(tokens, before(index), Symbol::Dot)
+        && !is_set(tokens, index)
+}
+
+/// Whether a column is set at the token of this number, which a parameter cannot be.
+fn is_set(tokens: &[Token], index: usize) -> bool {
+    is_symbol(tokens, behind(index), Symbol::Equal) && !is_compared(tokens, index)
+}
+
+/// Whether a comparison may begin at the token of this number: it is not behind SET or a comma.
+fn is_compared(tokens: &[Token], index: usize) -> bool {
+    !is_word(tokens, before(index), Word::Set)
+        && !is_symbol(tokens, before(index), Symbol::Comma)
 }

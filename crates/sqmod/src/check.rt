@@ -54,39 +54,43 @@ fn status_of_files<R: Files + Print + Eprint + AllocGlobal>(
     asked: &CheckRequest<'_>,
     sources: &Sources,
 ) -> u8 {
-    let checking = Checking {
-        request: &asked.texts,
-        sources,
-        script: None,
-        form: form_of(asked),
-    };
-    let Some(file) = asked.script else {
-        return status_of_texts(rt, rt.alloc(), &checking);
-    };
+    match asked.script {
+        Some(file) => status_of_script(rt, asked, sources, file),
+        None => status_of_texts(rt, rt.alloc(), &checking_of(asked, sources, None)),
+    }
+}
+
+/// Reads the script, and gives the status of the check.
+fn status_of_script<R: Files + Print + Eprint + AllocGlobal>(
+    rt: &R,
+    asked: &CheckRequest<'_>,
+    sources: &Sources,
+    file: &str,
+) -> u8 {
     match fs::read(rt, file) {
         Ok(text) => {
-            let status = status_of_script(rt, rt.alloc(), checking, file, text.as_slice());
-            drop(text);
-            status
+            let script = Script {
+                file,
+                text: text.as_slice(),
+            };
+            let checking = checking_of(asked, sources, Some(script));
+            status_of_texts(rt, rt.alloc(), &checking)
         }
         Err(_) => report_of_file(rt, file, Fault::Unread(Source::Script)),
     }
 }
 
-fn status_of_script<R: Print + Eprint>(
-    rt: &R,
-    alloc: Global,
-    checking: Checking<'_>,
-    file: &str,
-    text: &[u8],
-) -> u8 {
-    let with_script = Checking {
-        request: checking.request,
-        sources: checking.sources,
-        script: Some(Script { file, text }),
-        form: checking.form,
-    };
-    status_of_texts(rt, alloc, &with_script)
+fn checking_of<'a>(
+    asked: &'a CheckRequest<'a>,
+    sources: &'a Sources,
+    script: Option<Script<'a>>,
+) -> Checking<'a> {
+    Checking {
+        request: &asked.texts,
+        sources,
+        script,
+        form: form_of(asked),
+    }
 }
 
 fn form_of(asked: &CheckRequest<'_>) -> Form {

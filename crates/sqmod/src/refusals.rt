@@ -54,21 +54,31 @@ fn is_of_tokens(what: RefusalName) -> bool {
 }
 
 /// The name of the file of one of the texts, and the text.
-fn text_of<'a>(checking: &Checking<'a>, source: Source) -> Option<(&'a str, &'a [u8])> {
+pub(crate) fn text_of<'a>(checking: &Checking<'a>, source: Source) -> Option<(&'a str, &'a [u8])> {
+    let request = checking.request;
+    let sources = checking.sources;
     match source {
-        Source::Schema(index) => Some((
-            checking.request.schemas.get(index)?,
-            checking.sources.schemas.get(index)?.as_slice(),
-        )),
-        Source::Module(index) => Some((
-            checking.request.modules.get(index)?,
-            checking.sources.modules.get(index)?.as_slice(),
-        )),
-        Source::Script => {
-            let script = checking.script?;
-            Some((script.file, script.text))
+        Source::Schema(index) => {
+            text_at(request.schemas.as_slice(), sources.schemas.as_slice(), index)
         }
+        Source::Module(index) => {
+            text_at(request.modules.as_slice(), sources.modules.as_slice(), index)
+        }
+        Source::Script => match checking.script {
+            Some(script) => Some((script.file, script.text)),
+            None => None,
+        },
     }
+}
+
+fn text_at<'a>(
+    files: &'a [&'a str],
+    texts: &'a [Vec<u8>],
+    index: usize,
+) -> Option<(&'a str, &'a [u8])> {
+    let file = files.get(index)?;
+    let text = texts.get(index)?;
+    Some((*file, text.as_slice()))
 }
 
 /// Adds a refusal of a text for what it means.
@@ -83,10 +93,9 @@ fn write_refusal(
         return Ok(());
     };
     let says = format!(in alloc; "{}", refusal.what)?;
-    let mut advice = Advice::at(alloc, text, offset_of(text, refusal.line, refusal.column));
-    advice
-        .found
-        .extend_from_slice(meaning_of(says.as_str(), part_of(source)).as_bytes())?;
+    let start = offset_of(text, refusal.line, refusal.column);
+    let meaning = meaning_of(says.as_str(), part_of(source));
+    let advice = Advice::at(alloc, text, start).explained(meaning.as_bytes())?;
     let item = Item {
         weight: Weight::Refusal,
         file,

@@ -1,6 +1,8 @@
 //! What is said of texts that are not refused: faults, whether cursors and views are updatable, and warnings.
 use crate::check::Checking;
+use crate::fault::Source;
 use crate::meanings::meaning_of;
+use crate::refusals::text_of;
 use sq_advice::{
     Doubt, Form, Item, Module, NameKind, Part, Slip, Subject, Weight, slips_of, write_item,
 };
@@ -54,14 +56,11 @@ fn write_module(
     index: usize,
     notes: &Items<Note>,
 ) -> Result<(), AllocError> {
-    let (Some(file), Some(text)) = (
-        checking.request.modules.get(index),
-        checking.sources.modules.get(index),
-    ) else {
+    let source = Source::Module(index);
+    let Some((file, text)) = text_of(checking, source) else {
         return Ok(());
     };
-    let schemas = checking.sources.schemas.as_slice();
-    let module = Module::new(alloc, schemas, text.as_slice())?;
+    let module = Module::new(alloc, checking.sources.schemas.as_slice(), text)?;
     let written = write_notes(out, alloc, checking.form, file, &module, notes.as_slice());
     drop(module);
     written
@@ -133,19 +132,18 @@ fn write_fault(
     };
     let rule = fault.rule;
     let says = match fault.about {
-        Some(about) => format!(in alloc; "{rule:?} {}", text_of(&about))?,
+        Some(about) => format!(in alloc; "{rule:?} {}", name_text(&about))?,
         None => format!(in alloc; "{rule:?}")?,
     };
     let subject = match fault.about {
         Some(about) => Some(subject_of(rule, about)),
         None => None,
     };
-    let mut advice = module.advice(alloc, note.line, note.column, subject)?;
-    if advice.found.is_empty() && advice.hint.is_empty() {
-        let name = format!(in alloc; "{rule:?}")?;
-        let meaning = meaning_of(name.as_str(), "statement");
-        advice.found.extend_from_slice(meaning.as_bytes())?;
-    }
+    let name = format!(in alloc; "{rule:?}")?;
+    let meaning = meaning_of(name.as_str(), "statement");
+    let advice = module
+        .advice(alloc, note.line, note.column, subject)?
+        .explained(meaning.as_bytes())?;
     let item = Item {
         weight: Weight::Fault,
         file,
@@ -212,7 +210,7 @@ fn write_slip(
     let place = Position::of(module.text(), slip.start);
     let says = match slip.doubt {
         Doubt::UnusedParameter => {
-            format!(in alloc; "parameter {} is never used", text_of(&slip.name))?
+            format!(in alloc; "parameter {} is never used", name_text(&slip.name))?
         }
         Doubt::NeverFetched => format!(in alloc; "the cursor is never fetched")?,
     };
@@ -230,6 +228,6 @@ fn write_slip(
 }
 
 /// A name as a text; its characters are letters, digits and underscores.
-fn text_of(name: &Name) -> &str {
+fn name_text(name: &Name) -> &str {
     str::from_utf8(name.codes()).unwrap_or("")
 }
