@@ -10,5 +10,5 @@ pub fit_next : {X Y : Type 0} (p : X → Bool) (f : Y → X) (ys : List Y) (befo
 fit_next p f ys before i y lt e is =
     let more : take (i + 1) ys ≡ take i ys ++ y ∷ [] = grind (arith, take_more ys i y lt, e) in
     let split : filter p (map f (take i ys ++ y ∷ [])) ≡ filter p (map f (take i ys)) ++ filter p (f y ∷ []) =
-        ap (filter p) (map-append f (take i ys) (y ∷ [])) ∙ filter-append p (map f (take i ys)) (f y ∷ []) in
+    ap (filter p) (map-append f (take i ys) (y ∷ [])) ∙ filter-append p (map f (take i ys)) (f y ∷ []) in
     ap (λ l. l ++ filter p (f y ∷ [])) is ∙ sym split ∙ ap (λ l. filter p (map f l)) (sym more)

@@ -1207,12 +1207,10 @@ pub(crate) static SCRIPTS: [Hint; 18] = [
 ];
 
 /// In all texts.
-pub(crate) static ANYWHERE: [Hint; 1] = [
-    Hint {
-        before: "",
-        at: "a name",
-        expected: ":",
-        missing: "",
-        says: "a parameter has a colon before its name, everywhere",
-    },
-];
+pub(crate) static ANYWHERE: [Hint; 1] = [Hint {
+    before: "",
+    at: "a name",
+    expected: ":",
+    missing: "",
+    says: "a parameter has a colon before its name, everywhere",
+}];

@@ -13,7 +13,10 @@ pub(crate) fn write_object(
 ) -> Result<(), AllocError> {
     out.extend_from_slice(b"{\"file\":")?;
     write_text(out, item.file.as_bytes())?;
-    let place = format!(in alloc; ",\"line\":{},\"column\":{},\"weight\":", item.line, item.column)?;
+    let place = format!(in alloc;
+        ",\"line\":{},\"column\":{},\"weight\":",
+        item.line, item.column
+    )?;
     out.extend_from_slice(place.as_bytes())?;
     write_text(out, name_of(item.weight))?;
     write_owner(out, item.part)?;
@@ -53,7 +56,10 @@ fn write_advice(
     advice: &Advice,
 ) -> Result<(), AllocError> {
     let place = Position::of(text, advice.start);
-    let at = format!(in alloc; ",\"at\":{{\"line\":{},\"column\":{},\"length\":{}}}", place.line, place.column, advice.length)?;
+    let at = format!(in alloc;
+        ",\"at\":{{\"line\":{},\"column\":{},\"length\":{}}}",
+        place.line, place.column, advice.length
+    )?;
     out.extend_from_slice(at.as_bytes())?;
     write_member(out, b",\"found\":", advice.found.as_slice())?;
     write_expected(out, advice.expected.as_slice())?;

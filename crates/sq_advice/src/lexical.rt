@@ -40,7 +40,13 @@ fn pass_piece(
 ) -> Result<(), AllocError> {
     let start = offset_of(text.as_slice(), fault.line, fault.column);
     let length = length_of_piece(behind(text.as_slice(), start), fault.kind);
-    let advice = advice_on(alloc, behind(text.as_slice(), start), fault.kind, start, length)?;
+    let advice = advice_on(
+        alloc,
+        behind(text.as_slice(), start),
+        fault.kind,
+        start,
+        length,
+    )?;
     troubles.push(Trouble {
         what: What::Lexical(fault.kind),
         advice,
@@ -159,7 +165,9 @@ fn hint_of(alloc: Global, piece: &[u8], kind: LexFaultKind) -> Result<Vec<u8>, A
         LexFaultKind::OpenText => words.extend_from_slice(b"a quote inside a text is doubled")?,
         LexFaultKind::LongName => add_short(&mut words, piece)?,
         LexFaultKind::NumberThenLetter => {
-            words.extend_from_slice(b"there are no exponents; between a number and a word stands a blank")?;
+            words.extend_from_slice(
+                b"there are no exponents; between a number and a word stands a blank",
+            )?;
         }
         LexFaultKind::LongNumber | LexFaultKind::LongText => {}
     }
@@ -201,8 +209,5 @@ fn add_short(words: &mut Vec<u8>, name: &[u8]) -> Result<(), AllocError> {
 }
 
 fn is_vowel(byte: u8) -> bool {
-    matches!(
-        byte.to_ascii_uppercase(),
-        b'A' | b'E' | b'I' | b'O' | b'U'
-    )
+    matches!(byte.to_ascii_uppercase(), b'A' | b'E' | b'I' | b'O' | b'U')
 }

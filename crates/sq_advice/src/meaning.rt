@@ -100,7 +100,8 @@ impl<'t> Module<'t> {
             let place = Position::of(self.text, token.start);
             words.extend_from_slice(subject.name.codes())?;
             let says = format!(in alloc;
-                " is declared at {}:{}, with a fault", place.line, place.column
+                " is declared at {}:{}, with a fault",
+                place.line, place.column
             )?;
             words.extend_from_slice(says.as_bytes())?;
         }
@@ -137,9 +138,7 @@ impl<'t> Module<'t> {
 /// Whether a part declares a parameter of this name.
 fn declares(part: &[Token], name: Name) -> bool {
     (0..part.len()).any(|index| {
-        is_name(part, index, name)
-            && is_parameter(part, index)
-            && is_type(part, behind(index))
+        is_name(part, index, name) && is_parameter(part, index) && is_type(part, behind(index))
     })
 }
 

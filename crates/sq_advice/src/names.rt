@@ -1,6 +1,6 @@
 //! The names that texts declare.
 
-use sq_lex::{Lexeme, LexError, Name, Symbol, Token, Word, lex};
+use sq_lex::{LexError, Lexeme, Name, Symbol, Token, Word, lex};
 use std::alloc::{AllocError, Global};
 
 /// What a name is of.

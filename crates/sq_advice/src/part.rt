@@ -20,8 +20,5 @@ pub(crate) fn first_part(tokens: &[Token]) -> &[Token] {
 }
 
 pub(crate) fn begins_part(token: &Token) -> bool {
-    matches!(
-        token.lexeme,
-        Lexeme::Word(Word::Declare | Word::Procedure)
-    )
+    matches!(token.lexeme, Lexeme::Word(Word::Declare | Word::Procedure))
 }

@@ -9,17 +9,13 @@ use crate::kind::{TextKind, refusal_of};
 use crate::lexical::{MOST, tokens_of};
 use crate::meaning::place_of;
 use crate::stands::found_at;
-use sq_lex::{Lexeme, LexError, Symbol, Token, Word, lex};
+use sq_lex::{LexError, Lexeme, Symbol, Token, Word, lex};
 use sq_parse::ParseError;
 use std::alloc::{AllocError, Global};
 
 /// Why a text is refused for its tokens and its grammar, and what more would be if each error were mended: first the pieces that
 /// are no tokens, then at most one error in each element without such a piece. At most a hundred of each are told.
-pub fn troubles_of(
-    alloc: Global,
-    kind: TextKind,
-    text: &[u8],
-) -> Result<Vec<Trouble>, AllocError> {
+pub fn troubles_of(alloc: Global, kind: TextKind, text: &[u8]) -> Result<Vec<Trouble>, AllocError> {
     let mut troubles = Vec::new(alloc);
     let Some(mut rest) = tokens_of(alloc, text, &mut troubles)? else {
         return Ok(troubles);
@@ -84,10 +80,8 @@ fn what_of(refusal: ParseError) -> What {
 
 /// Whether one of the first so many troubles stands between two bytes.
 fn has_piece(troubles: &[Trouble], pieces: usize, from: usize, to: usize) -> bool {
-    troubles
-        .iter()
-        .take(pieces)
-        .any(|trouble| from <= trouble.advice.start && trouble.advice.start < to)
+    troubles.iter().take(pieces).any(|trouble| from <= trouble.advice.start
+        && trouble.advice.start < to)
 }
 
 /// How many tokens stand before the next element.

@@ -3,9 +3,7 @@
 use crate::advice::Advice;
 use crate::item::Part;
 use crate::meaning::{Module, place_of};
-use crate::names::{
-    before, behind, is_name, is_parameter, is_symbol, is_type, is_word, name_at,
-};
+use crate::names::{before, behind, is_name, is_parameter, is_symbol, is_type, is_word, name_at};
 use crate::part::{begins_part, first_part};
 use sq_lex::{Name, Position, Symbol, Token, Word};
 use std::alloc::{AllocError, Global};
@@ -228,7 +226,10 @@ fn add_bare(
     name: Name,
 ) -> Result<(), AllocError> {
     let place = Position::of(text, token.start);
-    let says = format!(in alloc; " at {}:{} is a column: the parameter is :", place.line, place.column)?;
+    let says = format!(in alloc;
+        " at {}:{} is a column: the parameter is :",
+        place.line, place.column
+    )?;
     words.extend_from_slice(name.codes())?;
     words.extend_from_slice(says.as_bytes())?;
     words.extend_from_slice(name.codes())
@@ -255,6 +256,5 @@ fn is_set(tokens: &[Token], index: usize) -> bool {
 
 /// Whether a comparison may begin at the token of this number: it is not behind SET or a comma.
 fn is_compared(tokens: &[Token], index: usize) -> bool {
-    !is_word(tokens, before(index), Word::Set)
-        && !is_symbol(tokens, before(index), Symbol::Comma)
+    !is_word(tokens, before(index), Word::Set) && !is_symbol(tokens, before(index), Symbol::Comma)
 }

@@ -33,11 +33,7 @@ fn add_found(
 }
 
 /// Adds that a word is reserved, where a name may stand.
-fn add_reserved(
-    words: &mut Vec<u8>,
-    spot: &Spot<'_>,
-    token: &Token,
-) -> Result<(), AllocError> {
+fn add_reserved(words: &mut Vec<u8>, spot: &Spot<'_>, token: &Token) -> Result<(), AllocError> {
     if !is_word(token) || !spot.takes_names() {
         return Ok(());
     }
