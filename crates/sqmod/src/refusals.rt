@@ -2,7 +2,9 @@
 use crate::check::Checking;
 use crate::fault::Source;
 use crate::meanings::meaning_of;
-use sq_advice::{Advice, Form, Item, TextKind, Trouble, Weight, offset_of, troubles_of, write_item};
+use sq_advice::{
+    Advice, Form, Item, TextKind, Trouble, Weight, offset_of, troubles_of, write_item,
+};
 use sq_lex::Position;
 use sq_perform::{Refusal, RefusalName};
 use std::alloc::{AllocError, Global};
@@ -24,10 +26,24 @@ pub(crate) fn write_refusals(
     let request = checking.request;
     let sources = checking.sources;
     for (file, text) in request.schemas.iter().zip(sources.schemas.as_slice()) {
-        write_troubles(out, alloc, checking.form, TextKind::Schema, file, text.as_slice())?;
+        write_troubles(
+            out,
+            alloc,
+            checking.form,
+            TextKind::Schema,
+            file,
+            text.as_slice(),
+        )?;
     }
     for (file, text) in request.modules.iter().zip(sources.modules.as_slice()) {
-        write_troubles(out, alloc, checking.form, TextKind::Module, file, text.as_slice())?;
+        write_troubles(
+            out,
+            alloc,
+            checking.form,
+            TextKind::Module,
+            file,
+            text.as_slice(),
+        )?;
     }
     match checking.script {
         Some(script) => write_troubles(
@@ -59,10 +75,18 @@ pub(crate) fn text_of<'a>(checking: &Checking<'a>, source: Source) -> Option<(&'
     let sources = checking.sources;
     match source {
         Source::Schema(index) => {
-            text_at(request.schemas.as_slice(), sources.schemas.as_slice(), index)
+            text_at(
+                request.schemas.as_slice(),
+                sources.schemas.as_slice(),
+                index,
+            )
         }
         Source::Module(index) => {
-            text_at(request.modules.as_slice(), sources.modules.as_slice(), index)
+            text_at(
+                request.modules.as_slice(),
+                sources.modules.as_slice(),
+                index,
+            )
         }
         Source::Script => match checking.script {
             Some(script) => Some((script.file, script.text)),

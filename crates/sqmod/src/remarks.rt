@@ -176,9 +176,8 @@ fn subject_of(rule: BindingFault, name: Name) -> Subject {
 fn kind_of(rule: BindingFault) -> NameKind {
     match rule {
         BindingFault::UnknownTable | BindingFault::NotUpdatable => NameKind::Table,
-        BindingFault::UnknownParameter
-        | BindingFault::BadIndicator
-        | BindingFault::TargetTwice => NameKind::Parameter,
+        BindingFault::UnknownParameter | BindingFault::BadIndicator | BindingFault::TargetTwice =>
+            NameKind::Parameter,
         BindingFault::UnknownCursor => NameKind::Cursor,
         _ => NameKind::Column,
     }
