@@ -12,11 +12,11 @@ from pathlib import Path
 ROOT = Path(__file__).resolve().parent.parent
 PARTS = {
     "Status": "## Statuses\n\nSQLSTATE (ISO/IEC 9075:1992, 22.1) and SQLCODE of a call. `S1L00` and the codes below zero are own choices.",
-    "Text": "## Refusals of any text\n\nFor its tokens or its grammar. Exit status 2; nothing is written.",
+    "Text": "## Refusals of any text\n\nFor its tokens or its grammar. Exit status 2; nothing is written. `./sqmod check` says what may stand there, and goes on.",
     "Schema": "## Refusals of schemas\n\nOf several in one element, the first of this list is answered.",
     "Module": "## Refusals of modules\n\nIf a module has several, `TwoModules` is reported first, then the others in the order below.",
     "Script": "## Refusals of scripts",
-    "Fault": "## Statements that are not well formed\n\nEach call of the procedure answers 42000. `./sqmod check` prints the name of the fault, and behind it that of the table,\ncolumn, parameter or cursor that it is about, if it is about one.",
+    "Fault": "## Statements that are not well formed\n\nEach call of the procedure answers 42000. `./sqmod check` prints the name of the fault, and behind it that of the table,\ncolumn, parameter or cursor that it is about, if it is about one; and below it the line of the text, a caret and the nearest name.",
 }
 # What a text is of: a name may be both a refusal and a fault of a statement.
 OF = {"Schema": " of a schema", "Module": " of a module", "Script": " of a script", "Fault": " of a statement"}

@@ -1,12 +1,15 @@
 #!/usr/bin/env python3
 """Tries `check` on texts with their wanted lines, and on the texts of every run of crates/sq_cases/data.
 
-try_check.py PROGRAM: the status is 0 if each of tools/checks.txt comes to its lines, which show each fault of a name with one; and of
+try_check.py PROGRAM: the status is 0 if each of tools/checks.txt comes to its lines, which show each fault of a name with one; each of
+tools/words.txt to its lines and words; each text of tools/hints.txt to its hint, and each hint of the program has a text there; and of
 each run: the schemas and modules are refused as the run says; or each procedure that
 a call of the run answers with 42000 has a fault, by the name that the run gives it, no procedure that answers otherwise has one,
 behind the faults of a name stands one that the texts have, and the exit status says whether there is a fault.
+Of each of all these texts `--quiet` prints the lines of refusals and faults alone, and `--json` an object for each line.
 """
 
+import json
 import re
 import subprocess
 import sys
@@ -15,6 +18,7 @@ from pathlib import Path
 
 from print_runs import runs_of
 from run_program import written
+from try_rows import TEXTS
 
 ROOT = Path(__file__).resolve().parent.parent
 DATA = ROOT / "crates/sq_cases/data"
@@ -27,9 +31,38 @@ OF_A_NAME = {
 }
 
 
-def checked(program, words, room):
+def said(program, words, room):
     done = subprocess.run([program, "check", *words], cwd=room, capture_output=True, timeout=120)
     return done.stdout.decode("latin-1"), done.stderr.decode("latin-1"), done.returncode
+
+
+def plain(text):
+    """The lines of a text that are no words beside one."""
+    return [line for line in text.splitlines() if not line.startswith("  ")]
+
+
+def are_same(words, quiet, objects):
+    """Whether the three forms say the same: with words, with `--quiet` and with `--json`."""
+    lines = plain(words[0]) + plain(words[1])
+    grave = [line for line in lines if not re.search(r": (warning: .*|updatable|not updatable: .*)$", line)]
+    read = [json.loads(line) for line in objects[0].splitlines()]
+    weights = [it["weight"] for it in read]
+    return (
+        quiet[0].splitlines() + quiet[1].splitlines() == grave
+        and len(read) == len(lines)
+        and sum(weight in ("refusal", "fault") for weight in weights) == len(grave)
+        and all(f"{it['file']}:{it['line']}:{it['column']}: " in line and line.endswith(it["says"]) for it, line in zip(read, lines))
+        and words[2] == quiet[2] == objects[2]
+    )
+
+
+def checked(program, words, room):
+    """What `check` answers, without words and warnings; of a refused text its first line."""
+    found = said(program, words, room)
+    if not are_same(found, said(program, [*words, "--quiet"], room), said(program, [*words, "--json"], room)):
+        return "the forms differ", "", 0
+    out = [line for line in plain(found[0]) if ": warning: " not in line]
+    return "".join(line + "\n" for line in out), "".join(line + "\n" for line in plain(found[1])[:1]), found[2]
 
 
 def words_of(run, room):
@@ -38,11 +71,47 @@ def words_of(run, room):
     return words[: words.index("--script")]
 
 
-def own_cases():
-    """The cases of tools/checks.txt: a run of each, and the wanted lines."""
-    text = (ROOT / "tools/checks.txt").read_text()
+def own_cases(path):
+    """The cases of tools/checks.txt or tools/words.txt: a run of each, and the wanted lines."""
+    text = path.read_text()
     wanted = [re.findall(r"^\|(.*)$", case.split("\nreport\n")[1], re.M) for case in text.split("\nrun ")[1:]]
-    return list(zip(runs_of(ROOT / "tools/checks.txt"), wanted))
+    return list(zip(runs_of(path), wanted))
+
+
+def says(program, run, lines):
+    """Whether a case of tools/words.txt comes to its lines and words, of standard error and then of standard output."""
+    with tempfile.TemporaryDirectory() as room:
+        words = written(run, room)[1:-2]
+        found = said(program, words if run.script else words[:-2], room)
+        forms = are_same(found, *(said(program, [*(words if run.script else words[:-2]), form], room) for form in ("--quiet", "--json")))
+    return forms and (found[1] + found[0]).splitlines() == lines
+
+
+def hints():
+    """The heading, the text and the wanted words of each text of tools/hints.txt."""
+    for case in (ROOT / "tools/hints.txt").read_text().split("\n\n")[1:]:
+        first, *words = case.strip("\n").split("\n")
+        heading, text = first.split(": ", 1)
+        yield heading, text, words
+
+
+def is_hinted(program, heading, text, words):
+    """Whether the first refusal of a text in its surroundings has these words."""
+    texts = (text, "", "") if heading == "Schema texts" else TEXTS[heading](text)
+    with tempfile.TemporaryDirectory() as room:
+        given = []
+        for kind, written_text in zip(("schema", "module", "script"), texts):
+            if written_text:
+                Path(room, kind).write_text(written_text)
+                given += [f"--{kind}", kind]
+        out, err, status = said(program, given, room)
+    first = re.split(r"\n(?=sqmod: )", err)[0].splitlines()[3:]
+    return (out, status) == ("", 2) and [line for line in first if not line.startswith("  expected: ")] == words
+
+
+def hints_of_program():
+    """What each hint of the program says."""
+    return set(re.findall(r'^        says: "(.*)",$', (ROOT / "crates/sq_advice/src/hints.rt").read_text(), re.M))
 
 
 def faults_in(lines):
@@ -103,10 +172,16 @@ def answers_as_run(found, run, named):
 
 def tried(program):
     """The name of each run and each case, with whether it comes out."""
-    cases = own_cases()
+    cases = own_cases(ROOT / "tools/checks.txt")
     yield "names_behind", names_behind(cases) == OF_A_NAME
     for run, lines in cases:
         yield run.name, is_listed(program, run, lines)
+    for run, lines in own_cases(ROOT / "tools/words.txt"):
+        yield run.name, says(program, run, lines)
+    tried_hints = list(hints())
+    yield "hints", {line.removeprefix("  hint: ") for _, _, words in tried_hints for line in words[-1:]} >= hints_of_program()
+    for heading, text, words in tried_hints:
+        yield f"`{text}`", is_hinted(program, heading, text, words)
     for path in sorted(DATA.glob("runs-*.txt")):
         named = faults_by_call(path)
         for place, run in enumerate(runs_of(path)):

@@ -70,8 +70,10 @@ TAKEN = (
     Run("run --script fill --module m --schema a --schema b", FILLED + NO_NUMBER),
     Run("run --script fill --module m --schema a --schema b --rows 1000000000", FILLED + ADDED),
     Run("check --schema a --module m --schema=b", "a:2:3: U.S: updatable\nb:2:3: V.D: not updatable: DISTINCT\n"),
-    Run("check --schema b --module n --module m --schema a",
-        "b:2:3: V.D: not updatable: DISTINCT\na:2:3: U.S: updatable\nn:2:2: N.ADD: UnknownTable X\n", "", 4),
+    Run("check --quiet --schema b --module n --module m --schema a", "n:2:2: N.ADD: UnknownTable X\n", "", 4),
+    Run("check --json --schema b --schema a --script c",
+        '{"file":"b","line":2,"column":3,"weight":"remark","part":"V.D","says":"not updatable: DISTINCT"}\n'
+        '{"file":"a","line":2,"column":3,"weight":"remark","part":"U.S","says":"updatable"}\n'),
     Run("check"),
 )
 RUN_OPTIONS = """\
@@ -175,13 +177,15 @@ UNREAD = (
     unread("run --schema a --schema t --module m --script c", "t"),
     unread("check --module /dev/null/a --schema /dev/null/b", "/dev/null/b"),
     unread("check --schema a --module m --module /dev/null/a", "/dev/null/a"),
+    unread("check --schema a --module m --script /dev/null/a", "/dev/null/a"),
 )
 REFUSED = (
     refused("run --schema bad-schema --schema b --module m --script c", "bad-schema:2:10: Unexpected"),
     refused("run --schema a --schema bad-schema --module bad-module --script c", "bad-schema:2:10: Unexpected"),
     refused("run --schema a --module m --module bad-module --script bad-script", "bad-module:2:2: StatusParameter"),
     refused("run --schema a --module m --script bad-script", "bad-script:2:10: BadArguments"),
-    refused("check --schema a --module m --module bad-module", "bad-module:2:2: StatusParameter"),
+    refused("check --quiet --schema a --module m --module bad-module", "bad-module:2:2: StatusParameter"),
+    refused("check --quiet --schema a --module m --script bad-script", "bad-script:2:10: BadArguments"),
 )
 # A refusal writes nothing, so no output can fail.
 FULL_OUTPUT = tuple(

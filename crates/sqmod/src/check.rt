@@ -1,49 +1,221 @@
-//! What is to be said of schema and module texts, on standard output.
+//! What is to be said of schema and module texts, and of a script, on standard output.
 ghost use Rattle.std.specs.Prelude.{◌≡◌, IfErr, length};
-ghost use Rattle.sqmod.specs.Request.{NamesCheckedFile, NamesOneOf};
+ghost use Rattle.sqmod.specs.Request.{NamesOneOf};
 
-use crate::command_line::TextsRequest;
-use crate::fault::{FAULTY, Fault};
-use crate::report_checked;
+use crate::command_line::{CheckRequest, TextsRequest, USUAL_ROW_NUMBERS};
+use crate::fault::{FAULTY, Fault, REFUSED, Source};
+use crate::refusals::write_refusals;
+use crate::remarks::write_checked;
 use crate::request::fault_of;
 use crate::texts::{Sources, read_sources};
-use sq_items::Items;
-use sq_lex::Name;
-use sq_perform::{Checked, Note, Remark, check};
+use crate::{refuse_for_memory, report_checked, report_of_file};
+use sq_advice::Form;
+use sq_heap::HeapStore;
+use sq_perform::{Checked, Limits, Refusal, RunFault, check, open_session, read_script};
 use std::alloc::Global;
 use std::rt::Files;
-use std::{io, str};
+use std::{fs, str};
+
+/// The texts of a check, and how it is said what is to be said of them.
+#[derive(Clone, Copy)]
+pub(crate) struct Checking<'a> {
+    pub(crate) request: &'a TextsRequest<'a>,
+    pub(crate) sources: &'a Sources,
+    pub(crate) script: Option<Script<'a>>,
+    pub(crate) form: Form,
+}
+
+/// A script's file and text.
+#[derive(Clone, Copy)]
+pub(crate) struct Script<'a> {
+    pub(crate) file: &'a str,
+    pub(crate) text: &'a [u8],
+}
 
 /// Reads the files, checks their texts, prints what is to be said of them, and gives the status to end with.
 pub(crate) fn status_of_check<R: Files + Print + Eprint + AllocGlobal>(
     rt: &R,
-    request: &TextsRequest<'_>,
+    asked: &CheckRequest<'_>,
 ) -> u8 {
-    match checked(rt, request) {
-        Ok(checked) => status_of_checked(rt, request, &checked),
+    let request = &asked.texts;
+    match read_sources(rt, request.schemas.as_slice(), request.modules.as_slice()) {
+        Ok(sources) => {
+            let status = status_of_files(rt, asked, &sources);
+            drop(sources);
+            status
+        }
         Err(fault) => report_checked(rt, request, fault),
     }
 }
 
-pub(crate) fn status_of_checked<R: Print + Eprint>(
+/// Reads the script, if there is one, and gives the status of the check.
+fn status_of_files<R: Files + Print + Eprint + AllocGlobal>(
     rt: &R,
-    request: &TextsRequest<'_>,
+    asked: &CheckRequest<'_>,
+    sources: &Sources,
+) -> u8 {
+    match asked.script {
+        Some(file) => status_of_script(rt, asked, sources, file),
+        None => status_of_texts(rt, rt.alloc(), &checking_of(asked, sources, None)),
+    }
+}
+
+/// Reads the script, and gives the status of the check.
+fn status_of_script<R: Files + Print + Eprint + AllocGlobal>(
+    rt: &R,
+    asked: &CheckRequest<'_>,
+    sources: &Sources,
+    file: &str,
+) -> u8 {
+    match fs::read(rt, file) {
+        Ok(text) => {
+            let script = Script {
+                file,
+                text: text.as_slice(),
+            };
+            let checking = checking_of(asked, sources, Some(script));
+            status_of_texts(rt, rt.alloc(), &checking)
+        }
+        Err(_) => report_of_file(rt, file, Fault::Unread(Source::Script)),
+    }
+}
+
+fn checking_of<'a>(
+    asked: &'a CheckRequest<'a>,
+    sources: &'a Sources,
+    script: Option<Script<'a>>,
+) -> Checking<'a> {
+    Checking {
+        request: &asked.texts,
+        sources,
+        script,
+        form: form_of(asked),
+    }
+}
+
+fn form_of(asked: &CheckRequest<'_>) -> Form {
+    if asked.json {
+        Form::Json
+    } else if asked.quiet {
+        Form::Quiet
+    } else {
+        Form::Words
+    }
+}
+
+/// Checks texts, prints what is to be said of them, and gives the status to end with.
+pub(crate) fn status_of_texts<R: Print + Eprint>(
+    rt: &R,
+    alloc: Global,
+    checking: &Checking<'_>,
+) -> u8 {
+    match check_sources(alloc, checking.sources) {
+        Ok(checked) => {
+            let status = status_of_checked(rt, alloc, checking, &checked);
+            drop(checked);
+            status
+        }
+        Err(fault) => status_of_fault(rt, alloc, checking, fault),
+    }
+}
+
+/// Prints what is to be said of texts that are not refused, and of the script.
+fn status_of_checked<R: Print + Eprint>(
+    rt: &R,
+    alloc: Global,
+    checking: &Checking<'_>,
     checked: &Checked,
 ) -> u8 {
-    if print_checked(rt, request, checked).is_err() {
-        return report_checked(rt, request, Fault::Output);
+    let mut out = Vec::new(alloc);
+    if write_checked(&mut out, alloc, checking, checked).is_err() {
+        return refuse_for_memory(rt);
     }
+    if rt.write_all(out.as_slice()).is_err() {
+        return report_of_file(rt, "", Fault::Output);
+    }
+    drop(out);
+    match fault_of_script(alloc, checking) {
+        Some(fault) => status_of_fault(rt, alloc, checking, fault),
+        None => status_by_faults(checked),
+    }
+}
+
+fn status_by_faults(checked: &Checked) -> u8 {
     if checked.has_fault() { FAULTY } else { 0 }
 }
 
-/// What is to be said of the texts of a request.
-fn checked<R: Files + AllocGlobal>(rt: &R, request: &TextsRequest<'_>) -> Result<Checked, Fault>
-    ensures { IfErr result (NamesCheckedFile request.now) }
-{
-    let sources = read_sources(rt, request.schemas.as_slice(), request.modules.as_slice())?;
-    let answer = check_sources(rt.alloc(), &sources);
-    drop(sources);
-    answer
+/// What keeps the script from running over texts that are not refused, if anything does.
+fn fault_of_script(alloc: Global, checking: &Checking<'_>) -> Option<Fault> {
+    let script = checking.script?;
+    match refused_script(alloc, checking.sources, script.text) {
+        Ok(()) => None,
+        Err(fault) => Some(fault_of(fault)),
+    }
+}
+
+fn refused_script(alloc: Global, sources: &Sources, script: &[u8]) -> Result<(), RunFault> {
+    let limits = Limits {
+        row_numbers: USUAL_ROW_NUMBERS,
+    };
+    let session = open_session::<HeapStore>(
+        alloc,
+        sources.schemas.as_slice(),
+        sources.modules.as_slice(),
+        limits,
+    )?;
+    let answer = read_script(alloc, &session, script);
+    drop(session);
+    match answer {
+        Ok(actions) => {
+            drop(actions);
+            Ok(())
+        }
+        Err(fault) => Err(fault),
+    }
+}
+
+/// Says why texts are not checked, and gives the status for it.
+fn status_of_fault<R: Print + Eprint>(
+    rt: &R,
+    alloc: Global,
+    checking: &Checking<'_>,
+    fault: Fault,
+) -> u8 {
+    match fault {
+        Fault::Refused(source, refusal) => {
+            status_of_refusal(rt, alloc, checking, source, refusal)
+        }
+        _ => report_of_file(rt, "", fault),
+    }
+}
+
+/// Prints the refusal of a text, and every other error in the tokens and the grammar of the texts.
+fn status_of_refusal<R: Print + Eprint>(
+    rt: &R,
+    alloc: Global,
+    checking: &Checking<'_>,
+    source: Source,
+    refusal: Refusal,
+) -> u8 {
+    let mut out = Vec::new(alloc);
+    if write_refusals(&mut out, alloc, checking, source, refusal).is_err() {
+        return refuse_for_memory(rt);
+    }
+    let text = str::from_utf8(out.as_slice()).unwrap_or("");
+    match checking.form {
+        Form::Json => status_of_print(rt, text),
+        _ => {
+            let _ = rt.eprint(text);
+            REFUSED
+        }
+    }
+}
+
+fn status_of_print<R: Print + Eprint>(rt: &R, text: &str) -> u8 {
+    match rt.print(text) {
+        Ok(()) => REFUSED,
+        Err(_) => report_of_file(rt, "", Fault::Output),
+    }
 }
 
 #[tactic(auto, using(crate::proofs::Named::checked_one))]
@@ -59,59 +231,4 @@ pub(crate) fn check_sources(alloc: Global, sources: &Sources) -> Result<Checked,
         Ok(checked) => Ok(checked),
         Err(fault) => Err(fault_of(fault)),
     }
-}
-
-fn print_checked<R: Print>(
-    rt: &R,
-    request: &TextsRequest<'_>,
-    checked: &Checked,
-) -> io::Result<()> {
-    print_texts(rt, request.schemas.as_slice(), checked.schemas.as_slice())?;
-    print_texts(rt, request.modules.as_slice(), checked.modules.as_slice())
-}
-
-/// Prints what is to be said of the text of each file.
-fn print_texts<R: Print>(rt: &R, files: &[&str], texts: &[Items<Note>]) -> io::Result<()> {
-    for (file, notes) in files.iter().zip(texts) {
-        print_notes(rt, file, notes.as_slice())?;
-    }
-    Ok(())
-}
-
-fn print_notes<R: Print>(rt: &R, file: &str, notes: &[Note]) -> io::Result<()> {
-    for note in notes {
-        if let Some(remark) = note.remark {
-            print_note(rt, file, note, remark)?;
-        }
-    }
-    Ok(())
-}
-
-/// Prints a line: where a part of a text stands, its names, and what is to be said of it.
-fn print_note<R: Print>(rt: &R, file: &str, note: &Note, remark: Remark) -> io::Result<()> {
-    let line = note.line;
-    let column = note.column;
-    let owner = text_of(&note.owner);
-    let name = text_of(&note.name);
-    match remark {
-        Remark::Fault(fault) => {
-            let rule = fault.rule;
-            match fault.about {
-                Some(about) => {
-                    let about = text_of(&about);
-                    println!(rt; "{file}:{line}:{column}: {owner}.{name}: {rule:?} {about}")
-                }
-                None => println!(rt; "{file}:{line}:{column}: {owner}.{name}: {rule:?}"),
-            }
-        }
-        Remark::Updatable => println!(rt; "{file}:{line}:{column}: {owner}.{name}: updatable"),
-        Remark::NotUpdatable(rule) => {
-            println!(rt; "{file}:{line}:{column}: {owner}.{name}: not updatable: {rule}")
-        }
-    }
-}
-
-/// A name as a text; its characters are letters, digits and underscores.
-fn text_of(name: &Name) -> &str {
-    str::from_utf8(name.codes()).unwrap_or("")
 }

@@ -13,7 +13,10 @@ mod command_line;
 mod explain;
 mod fault;
 mod kept;
+mod meanings;
 mod new;
+mod refusals;
+mod remarks;
 mod request;
 mod shell;
 mod showing;
@@ -63,7 +66,7 @@ fn status_of_words<R: Files + Print + Eprint + Input + Typed + AllocGlobal + Clo
 ) -> u8 {
     match read_task(rt.alloc(), words) {
         Ok(Task::Run(request)) => status_of_request(rt, &request),
-        Ok(Task::Check(request)) => status_of_check(rt, &request.texts),
+        Ok(Task::Check(request)) => status_of_check(rt, &request),
         Ok(Task::Trace(request)) => status_of_trace(rt, &request),
         Ok(Task::Shell(request)) => status_of_shell(rt, &request),
         Ok(Task::Explain(request)) => status_of_explain(rt, request),

@@ -1,7 +1,7 @@
 //! What a case comes to, by the calls that `sqmod run` and `sqmod check` make.
 ghost use Rattle.std.specs.Prelude.{◌≡◌, ◌≤◌, OnOk, drop};
 
-use crate::check::{check_sources, status_of_checked};
+use crate::check::{Checking, status_of_texts};
 use crate::command_line::TextsRequest;
 use crate::fault::{Fault, Source};
 use crate::kept::Kept;
@@ -9,7 +9,7 @@ use crate::report_of_file;
 use crate::request::run_texts;
 use crate::suite::files::CaseFiles;
 use crate::texts::{Sources, Texts, read_sources};
-use sq_perform::Checked;
+use sq_advice::Form;
 use sq_run::{Limits, Refusal};
 use sq_store::MOST_ROW_NUMBERS;
 use sq_suite::Outcome;
@@ -185,23 +185,28 @@ fn status_of_files<R: Files + AllocGlobal>(
         schemas: names(rt.alloc(), files.schemas.as_slice(), case)?,
         modules: names(rt.alloc(), files.modules.as_slice(), case)?,
     };
-    Ok(match checked(rt, files) {
-        Ok(checked) => status_of_checked(kept, &request, &checked),
+    let status = match sources_of(rt, files) {
+        Ok(sources) => status_of_sources(kept, rt.alloc(), &request, &sources),
         Err(stop) => report_of_file(kept, said(stop.path, case), stop.fault),
-    })
+    };
+    drop(request);
+    Ok(status)
 }
 
-fn checked<'a, R: Files + AllocGlobal>(rt: &R, files: &'a CaseFiles) -> Result<Checked, Stop<'a>> {
-    let sources = sources_of(rt, files)?;
-    let answer = check_sources(rt.alloc(), &sources);
-    drop(sources);
-    match answer {
-        Ok(checked) => Ok(checked),
-        Err(fault) => Err(Stop {
-            path: files.path(fault).unwrap_or(""),
-            fault,
-        }),
-    }
+/// Checks texts, in a line for each thing that is said.
+fn status_of_sources(
+    kept: &Kept,
+    alloc: Global,
+    request: &TextsRequest<'_>,
+    sources: &Sources,
+) -> u8 {
+    let checking = Checking {
+        request,
+        sources,
+        script: None,
+        form: Form::Lines,
+    };
+    status_of_texts(kept, alloc, &checking)
 }
 
 fn strs<'a>(alloc: Global, texts: &'a [String]) -> Result<Vec<&'a str>, AllocError> {

@@ -1,0 +1,75 @@
+//! What is said beside a line of `check`.
+
+use crate::spelled::{behind, length_of_word};
+use sq_lex::LexFaultKind;
+use std::alloc::{AllocError, Global};
+use thiserror::Error;
+
+/// What is said beside a line of `check`.
+#[derive(Drop)]
+pub struct Advice {
+    /// The first byte of what it is about.
+    pub start: usize,
+    /// How many bytes it has.
+    pub length: usize,
+    /// What stands there; empty where the line says it.
+    pub found: Vec<u8>,
+    /// What may stand there, where that is known.
+    pub expected: Vec<&'static [u8]>,
+    /// What to do, or nothing.
+    pub hint: Vec<u8>,
+}
+
+impl Advice {
+    /// An advice without words, about the word that begins at a byte of a text, or that byte alone.
+    pub fn at(alloc: Global, text: &[u8], start: usize) -> Advice {
+        Advice {
+            start,
+            length: length_of_word(behind(text, start)).max(1),
+            found: Vec::new(alloc),
+            expected: Vec::new(alloc),
+            hint: Vec::new(alloc),
+        }
+    }
+
+    /// The advice; one without words says what the line means.
+    pub fn explained(self, meaning: &[u8]) -> Result<Advice, AllocError> {
+        let Advice {
+            start,
+            length,
+            mut found,
+            expected,
+            hint,
+        } = self;
+        if found.is_empty() && hint.is_empty() {
+            found.extend_from_slice(meaning)?;
+        }
+        Ok(Advice {
+            start,
+            length,
+            found,
+            expected,
+            hint,
+        })
+    }
+}
+
+/// Why a text is refused for its tokens or its grammar.
+#[derive(Clone, Copy, Debug, PartialEq, Eq, Error)]
+pub enum What {
+    #[error("{0:?}")]
+    Lexical(LexFaultKind),
+    #[error("Unexpected")]
+    Unexpected,
+    #[error("TooDeep")]
+    TooDeep,
+    #[error("EndOfText")]
+    EndOfText,
+}
+
+/// A refusal of a text, and what is said beside it.
+#[derive(Drop)]
+pub struct Trouble {
+    pub what: What,
+    pub advice: Advice,
+}

@@ -1,0 +1,54 @@
+//! What stands where a text is refused for its grammar.
+
+use crate::hint::{Hint, Spot};
+use crate::spelled::spelled;
+use sq_lex::{Lexeme, Token};
+use std::alloc::{AllocError, Global};
+
+/// What stands at a spot, in words; empty where its line says all.
+pub(crate) fn found_at(
+    alloc: Global,
+    spot: &Spot<'_>,
+    hint: Option<&Hint>,
+) -> Result<Vec<u8>, AllocError> {
+    let mut words = Vec::new(alloc);
+    match spot.at {
+        None => words.extend_from_slice(b"the text ends here")?,
+        Some(token) => add_found(&mut words, spot, token, hint)?,
+    }
+    Ok(words)
+}
+
+/// Adds that a feature is not there; or, where nothing else is said, that a word is reserved where a name may stand.
+fn add_found(
+    words: &mut Vec<u8>,
+    spot: &Spot<'_>,
+    token: &Token,
+    hint: Option<&Hint>,
+) -> Result<(), AllocError> {
+    match hint {
+        Some(hint) => words.extend_from_slice(hint.missing.as_bytes()),
+        None => add_reserved(words, spot, token),
+    }
+}
+
+/// Adds that a word is reserved, where a name may stand.
+fn add_reserved(words: &mut Vec<u8>, spot: &Spot<'_>, token: &Token) -> Result<(), AllocError> {
+    if !is_word(token) || !spot.takes_names() {
+        return Ok(());
+    }
+    add_upper(words, spelled(spot.text, token))?;
+    words.extend_from_slice(b" is a reserved word")
+}
+
+fn is_word(token: &Token) -> bool {
+    matches!(token.lexeme, Lexeme::Word(_))
+}
+
+/// Adds a text in capitals.
+fn add_upper(words: &mut Vec<u8>, text: &[u8]) -> Result<(), AllocError> {
+    for byte in text {
+        words.push(byte.to_ascii_uppercase())?;
+    }
+    Ok(())
+}
