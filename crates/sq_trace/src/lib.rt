@@ -11,4 +11,5 @@ mod notes;
 mod table;
 mod trace;
 
+pub use sq_session::Session;
 pub use trace::{TraceFault, TraceOptions, trace_action, trace_all};
