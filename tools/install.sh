@@ -51,7 +51,7 @@ put "$room/completions/sqmod.bash" share/bash-completion/completions/sqmod
 put "$room/completions/_sqmod" share/zsh/site-functions/_sqmod
 put "$room/completions/sqmod.fish" share/fish/vendor_completions.d/sqmod.fish
 
-for page in README.md CHANGELOG.md LICENSE NOTICES docs/{TOUR,LANGUAGE,COMING_FROM,STATUSES,SUITES,HOST}.md; do
+for page in README.md CHANGELOG.md LICENSE NOTICES docs/{TOUR,LANGUAGE,COMING_FROM,STATUSES,SUITES,HOST}.md docs/trace.png; do
   put "$root/$page" "share/doc/sqmod/$page"
 done
 (cd "$root" && git ls-files examples 2>/dev/null || find examples -type f) | while read -r file; do

@@ -1,5 +1,5 @@
 -- What a host's processor is, what is asked of it, and how a call of a handle changes it (own rules).
-use Rattle.std.specs.Prelude.{◌≡◌, ◌<◌, ◌⊎◌, ℕ, Bool, List, [], ◌∷◌, map, Option, Some, None, option_map, Result, Ok, Err, IsErr, if◌then◌else◌, tt, ⊤}
+use Rattle.std.specs.Prelude.{◌≡◌, ◌<◌, ◌⊎◌, ℕ, Bool, List, [], ◌∷◌, map, Option, Some, None, option_map, Result, Ok, Err, IsErr, if◌then◌else◌, ⊤}
 use Rattle.sq_lex.specs.declared.name.Name.{Name}
 use Rattle.sq_value.specs.declared.value.Value.{Value}
 use Rattle.sq_store.specs.declared.store.TheConstants.{MOST_ROW_NUMBERS}

@@ -118,7 +118,7 @@ fn rows_of_table(
 
 /// Copies of the rows that are still to come, the first one last.
 fn copy_reversed(alloc: Global, rows: TableRows<'_, HeapStore>) -> Result<Vec<Row>, AllocError>
-    ensures { IfOk result (λ copies. reverse copies.items ≡ values_in rows) }
+    ensures { IfOk result (λ copies. reverse copies.items ≡ values_in rows.entry) }
 {
     let mut copies = copied(alloc, rows)?;
     copies.as_mut_slice().reverse();
@@ -127,7 +127,7 @@ fn copy_reversed(alloc: Global, rows: TableRows<'_, HeapStore>) -> Result<Vec<Ro
 
 /// Copies of the rows that are still to come.
 fn copied(alloc: Global, mut rows: TableRows<'_, HeapStore>) -> Result<Vec<Row>, AllocError>
-    ensures { IfOk result (λ copies. copies.items ≡ values_in rows) }
+    ensures { IfOk result (λ copies. copies.items ≡ values_in rows.entry) }
 {
     let mut copies = Vec::new(alloc);
     while let Some((_, row)) = rows.next() {

@@ -1,5 +1,5 @@
 -- What comes of a request.
-use Rattle.std.specs.Prelude.{◌≡◌, ℕ, ⊤, length, Result, Ok, Err}
+use Rattle.std.specs.Prelude.{◌≡◌, ℕ, ⊤, length, Option, Result, Ok, Err}
 use Rattle.sq_perform.specs.declared.refusal.RunFault.{RunFault}
 use Rattle.sq_perform.specs.declared.refusal.RunFault.TheVariants as run
 use Rattle.sqmod.specs.CommandLine.{IsAmong}
@@ -29,6 +29,12 @@ abbrev pub ended_with : Result ⊤ Fault → Result ⊤ Fault → Result ⊤ Fau
 ended_with (Err (Refused source refusal)) flushed = Err (Refused source refusal)
 ended_with ran (Err fault) = Err fault
 ended_with ran (Ok done) = ran
+
+-- How a trace ends with the flush after it, in the same way.
+abbrev pub trace_ended_with : Result (Option ℕ) Fault → Result ⊤ Fault → Result (Option ℕ) Fault
+trace_ended_with (Err (Refused source refusal)) flushed = Err (Refused source refusal)
+trace_ended_with traced (Err fault) = Err fault
+trace_ended_with traced (Ok done) = traced
 
 -- If a fault names a text, it is one of this many schemas and modules, or the script.
 abbrev pub NamesOneOf : ℕ → ℕ → Fault → Type 0

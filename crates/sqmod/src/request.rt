@@ -48,7 +48,7 @@ fn report_of_texts<R: Print + AllocGlobal>(
     ended(ran, flushed)
 }
 
-fn flush<W: Write>(writer: &mut W) -> Result<(), Fault>
+pub(crate) fn flush<W: Write>(writer: &mut W) -> Result<(), Fault>
     ensures { IfErr result (λ fault. fault ≡ Output) }
 {
     match writer.flush() {

@@ -1,0 +1,4 @@
+pub mod Mark
+pub mod CallWords
+pub mod Json
+pub mod Traced
