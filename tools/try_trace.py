@@ -1,8 +1,8 @@
 #!/usr/bin/env python3
 """Tries `trace` on texts with their wanted lines, and on every run of crates/sq_cases/data.
 
-try_trace.py PROGRAM: the status is 0 if each of tools/traces.txt comes to its lines, with status 5 where `--stop` ends it, and if
-each run of the data comes to its report, status and refusal without the lines that begin with two blanks and `--`; and each
+try_trace.py PROGRAM: the status is 0 if each of tools/traces.txt, and examples/first, comes to its lines, with status 5 where
+`--stop` ends it, and if each run of the data comes to its report, status and refusal without the lines that begin with two blanks and `--`; and each
 eighth, with `--stop`, to the start of its report up to the first call that fails.
 """
 
@@ -17,6 +17,8 @@ from run_program import written
 
 ROOT = Path(__file__).resolve().parent.parent
 DATA = ROOT / "crates/sq_cases/data"
+FIRST = ROOT / "examples/first"
+TEXTS = (("schema", "schema.sql"), ("module", "module.sql"), ("script", "script.txt"))
 NOTE = "  --"
 CALL = re.compile(r"\w+\.\w+ (\w{5}) -?\d+( |$)")
 GOOD = ("00000", "01004", "02000")
@@ -57,6 +59,12 @@ def up_to_failure(report):
     return report, False
 
 
+def first(program):
+    """The trace of the first example."""
+    words = [word for kind, file in TEXTS for word in (f"--{kind}", FIRST / file)]
+    return subprocess.run([program, "trace", *words], capture_output=True, text=True, timeout=60).stdout
+
+
 def without_notes(text):
     return "".join(line for line in text.splitlines(keepends=True) if not line.startswith(NOTE))
 
@@ -81,6 +89,8 @@ def main():
     cases = own_cases()
     runs = [run for path in sorted(DATA.glob("runs-*.txt")) for run in runs_of(path)]
     wrong = [run.name for run, options in cases if not is_as_wanted(program, run, options)]
+    if first(program) != (FIRST / "trace.txt").read_text():
+        wrong.append("examples/first")
     wrong += [run.name for place, run in enumerate(runs) if not is_report(program, run, place % 8 == 0)]
     print(f"trace: {len(cases)} texts with their lines, {len(runs)} runs, {len(wrong)} differ")
     sys.exit("these differ: " + " ".join(wrong) if wrong else 0)

@@ -73,6 +73,10 @@ TAKEN = (
     Run("check --schema b --module n --module m --schema a",
         "b:2:3: V.D: not updatable: DISTINCT\na:2:3: U.S: updatable\nn:2:2: N.ADD: UnknownTable X\n", "", 4),
     Run("check"),
+    Run("trace --rows 1 --stop --schema a --module m --script five --schema b",
+        ADDED + "  -- CALL M.ADD (0)\n  -- U.T row 1 is new: K=0\n" + NO_NUMBER + "  -- CALL M.ADD (1)\n", "", 5),
+    Run("trace --schema a --schema b --script c --html page --tables", NO_ROWS),
+    Run("trace --schema a --schema b --script c --html /dev/null/page", NO_ROWS, "sqmod: /dev/null/page: cannot be written\n", 1),
 )
 RUN_OPTIONS = """\
 Options:
@@ -160,6 +164,7 @@ UNREAD = (
     unread("run --script /dev/null/a --schema /dev/null --module /dev/null", "/dev/null/a"),
     unread("run --schema a --schema t --module m --script c", "t"),
     unread("check --module /dev/null/a --schema /dev/null/b", "/dev/null/b"),
+    unread("trace --schema a --module m --script /dev/null/a --html /dev/null/page", "/dev/null/a"),
     unread("check --schema a --module m --module /dev/null/a", "/dev/null/a"),
 )
 REFUSED = (
@@ -168,11 +173,13 @@ REFUSED = (
     refused("run --schema a --module m --module bad-module --script bad-script", "bad-module:2:2: StatusParameter"),
     refused("run --schema a --module m --script bad-script", "bad-script:2:10: BadArguments"),
     refused("check --schema a --module m --module bad-module", "bad-module:2:2: StatusParameter"),
+    refused("trace --schema a --module m --script bad-script --html /dev/null/page", "bad-script:2:10: BadArguments"),
 )
 # A refusal writes nothing, so no output can fail.
 FULL_OUTPUT = tuple(
     Run(words, "", "sqmod: output fault\n", 1, FULL)
-    for words in ("run --schema a --schema b --script c", "check --schema a", "explain", "explain 22001")
+    for words in ("run --schema a --schema b --script c", "check --schema a", "explain", "explain 22001",
+                  "trace --schema a --schema b --script c --html /dev/null/page")
 ) + (refused("run --schema a --module m --script bad-script", "bad-script:2:10: BadArguments")._replace(to=FULL),)
 
 RUNS = (*TAKEN, *(Run(words, "", text, 2) for words, text in WORDS), *UNREAD, *REFUSED, *FULL_OUTPUT)

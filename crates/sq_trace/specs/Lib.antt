@@ -1,3 +1,4 @@
 pub mod Mark
 pub mod CallWords
+pub mod Json
 pub mod Traced

@@ -1,5 +1,5 @@
 -- Notes beside a report: lines that begin with two blanks and `--`, as a comment does.
-use Rattle.std.specs.Prelude.{ℕ, Bool, true, false, ◌==◌, ◌++◌, List, [], ◌∷◌, codes, if◌then◌else◌}
+use Rattle.std.specs.Prelude.{ℕ, Bool, true, false, ◌==◌, ◌++◌, List, [], ◌∷◌, codes}
 
 -- What stands before a byte: at the start of a line the mark of a note.
 abbrev pub mark : Bool → List ℕ

@@ -1,5 +1,5 @@
 -- A report with notes beside it: what an action's lines are, and what those of a run are.
-use Rattle.std.specs.Prelude.{◌≡◌, ℕ, Bool, true, false, List, [], ◌∷◌, ◌++◌, flat_map, take, Option, None, Some}
+use Rattle.std.specs.Prelude.{◌≡◌, ℕ, Bool, true, false, List, ◌++◌, flat_map, take, Option, None, Some}
 use Rattle.std.specs.Io.KnownBytes.{Appends}
 use Rattle.sq_meaning.specs.Report.{Bytes, call_line}
 use Rattle.sq_meaning.specs.declared.status.Status.{Status}

@@ -23,11 +23,7 @@ pub(crate) fn push_call(
 }
 
 /// Adds the values of a call in brackets, if there are any.
-fn push_arguments(
-    alloc: Global,
-    values: &[Value],
-    notes: &mut Vec<u8>,
-) -> Result<(), AllocError>
+fn push_arguments(alloc: Global, values: &[Value], notes: &mut Vec<u8>) -> Result<(), AllocError>
     ensures { OnOk result (notes.new.items ≡ notes.old.items ++ spec.arguments values.now) }
 {
     match values {

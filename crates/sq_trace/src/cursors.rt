@@ -33,7 +33,7 @@ pub(crate) fn stands_of(alloc: Global, cursors: &[CursorState]) -> Result<Vec<St
     Ok(stands)
 }
 
-fn stand_of(cursor: &CursorState) -> Stand {
+pub(crate) fn stand_of(cursor: &CursorState) -> Stand {
     match cursor {
         CursorState::Closed => Stand::Closed,
         CursorState::Numbers(numbers) => {
@@ -113,7 +113,7 @@ fn push_stand<S: Store>(
     notes.extend_from_slice(b"\n")
 }
 
-fn push_stand_words<S: Store>(
+pub(crate) fn push_stand_words<S: Store>(
     session: &Session<S>,
     stand: Stand,
     notes: &mut Vec<u8>,

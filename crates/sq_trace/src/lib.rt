@@ -5,11 +5,15 @@
 mod call_words;
 mod changes;
 mod cursors;
+mod json;
 mod look;
 mod mark;
 mod notes;
+mod page;
 mod table;
+mod template;
 mod trace;
 
+pub use page::trace_page;
 pub use sq_session::Session;
 pub use trace::{TraceFault, TraceOptions, trace_action, trace_all};

@@ -89,7 +89,7 @@ fn width_of(
     Ok(width)
 }
 
-fn number_cell(alloc: Global, number: u64) -> Result<Vec<u8>, AllocError> {
+pub(crate) fn number_cell(alloc: Global, number: u64) -> Result<Vec<u8>, AllocError> {
     let mut cell = Vec::new(alloc);
     match write!(cell, "{number}") {
         Ok(()) => Ok(cell),
@@ -100,7 +100,7 @@ fn number_cell(alloc: Global, number: u64) -> Result<Vec<u8>, AllocError> {
     }
 }
 
-fn value_cell(alloc: Global, value: &Value) -> Result<Vec<u8>, AllocError> {
+pub(crate) fn value_cell(alloc: Global, value: &Value) -> Result<Vec<u8>, AllocError> {
     let mut cell = Vec::new(alloc);
     match write_value(alloc, value, &mut cell) {
         Ok(()) => Ok(cell),
@@ -135,7 +135,13 @@ fn push_heading(
     push_right(ROW, layout.row, notes)?;
     for (place, column) in columns.iter().enumerate() {
         let is_last = columns.len().saturating_sub(place) == 1;
-        push_cell(column, column.name.codes(), layout.width(place), is_last, notes)?;
+        push_cell(
+            column,
+            column.name.codes(),
+            layout.width(place),
+            is_last,
+            notes,
+        )?;
     }
     notes.extend_from_slice(b"\n")
 }

@@ -2,7 +2,7 @@
 ghost use Rattle.std.specs.Prelude.{◌≡◌, ◌≤◌, ℕ, length, IfErr};
 ghost use Rattle.sqmod.specs.Request as spec;
 
-use crate::fault::Fault;
+use crate::fault::{FAILED, Fault};
 use crate::report;
 use crate::request::{fault_of, flush};
 use crate::showing::TraceRequest;
@@ -11,13 +11,22 @@ use sq_heap::HeapStore;
 use sq_perform::{open_session, read_script};
 use sq_run::{Limits, OutOf};
 use sq_store::MOST_ROW_NUMBERS;
-use sq_trace::{Session, TraceFault, TraceOptions, trace_all};
+use sq_trace::{Session, TraceFault, TraceOptions, trace_all, trace_page};
 use std::alloc::Global;
+use std::fs;
 use std::io::{self, BufWriter, Write};
 use std::rt::Files;
 
 /// The status where a trace stops at a call that fails.
 const STOPPED: u8 = 5;
+
+/// A run that was traced: whether it stopped at a call that failed, and the page that steps through it, or nothing where
+/// none is asked for.
+#[derive(Drop)]
+struct TracedRun {
+    stopped: bool,
+    page: Vec<u8>,
+}
 
 /// Runs a script as `run` does, and writes the report with what is to be said of each call. Gives the status to end with.
 pub(crate) fn status_of_trace<R: Files + Print + Eprint + AllocGlobal>(
@@ -27,17 +36,31 @@ pub(crate) fn status_of_trace<R: Files + Print + Eprint + AllocGlobal>(
     requires { request.now.run.row_numbers ≤ MOST_ROW_NUMBERS }
 {
     match trace_request(rt, request) {
-        Ok(None) => 0,
-        Ok(Some(_)) => STOPPED,
+        Ok(traced) => status_of_traced(rt, request, &traced),
         Err(fault) => report(rt, &request.run, fault),
     }
+}
+
+/// Writes the page, where one is asked for, and gives the status to end with.
+fn status_of_traced<R: Files + Eprint>(
+    rt: &R,
+    request: &TraceRequest<'_>,
+    traced: &TracedRun,
+) -> u8 {
+    if let Some(file) = request.html
+        && fs::write(rt, file, traced.page.as_slice()).is_err()
+    {
+        let _ = eprintln!(rt; "sqmod: {file}: cannot be written");
+        return FAILED;
+    }
+    if traced.stopped { STOPPED } else { 0 }
 }
 
 /// Reads a request's files, and traces the run.
 fn trace_request<R: Files + Print + AllocGlobal>(
     rt: &R,
     request: &TraceRequest<'_>,
-) -> Result<Option<usize>, Fault>
+) -> Result<TracedRun, Fault>
     requires { request.now.run.row_numbers ≤ MOST_ROW_NUMBERS }
     ensures { IfErr result (spec.NamesFile request.now.run) }
 {
@@ -52,7 +75,7 @@ fn trace_of_texts<R: Print + AllocGlobal>(
     rt: &R,
     request: &TraceRequest<'_>,
     texts: &Texts,
-) -> Result<Option<usize>, Fault>
+) -> Result<TracedRun, Fault>
     requires { request.now.run.row_numbers ≤ MOST_ROW_NUMBERS }
     ensures { IfErr result
         (spec.NamesOneOf (length texts.now.schemas.items) (length texts.now.modules.items)) }
@@ -62,7 +85,10 @@ fn trace_of_texts<R: Print + AllocGlobal>(
     };
     let traced = trace_texts(rt.alloc(), request, texts, &mut writer);
     let flushed = flush(&mut writer);
-    ended(traced, flushed)
+    match ended(traced, flushed) {
+        Ok(stopped) => page_of_texts(rt.alloc(), request, texts, stopped.is_some()),
+        Err(fault) => Err(fault),
+    }
 }
 
 /// How a trace ends with the flush after it: a refusal, which wrote nothing, stays; after any other end a flush that fails takes
@@ -139,6 +165,73 @@ fn trace_script<W: Write>(
                 Err(TraceFault::Output) => Err(Fault::Output),
             }
         }
+        Err(fault) => Err(fault_of(fault)),
+    }
+}
+
+/// Runs the script once more for the page, if one is asked for.
+fn page_of_texts(
+    alloc: Global,
+    request: &TraceRequest<'_>,
+    texts: &Texts,
+    stopped: bool,
+) -> Result<TracedRun, Fault>
+    requires { request.now.run.row_numbers ≤ MOST_ROW_NUMBERS }
+    ensures { IfErr result
+        (spec.NamesOneOf (length texts.now.schemas.items) (length texts.now.modules.items)) }
+{
+    if request.html.is_none() {
+        let page = Vec::new(alloc);
+        return Ok(TracedRun { stopped, page });
+    }
+    match page_texts(alloc, request, texts) {
+        Ok(page) => Ok(TracedRun { stopped, page }),
+        Err(fault) => Err(fault),
+    }
+}
+
+/// The page of a run of texts.
+#[tactic(auto, using(crate::proofs::Named::checked_one))]
+fn page_texts(alloc: Global, request: &TraceRequest<'_>, texts: &Texts) -> Result<Vec<u8>, Fault>
+    requires { request.now.run.row_numbers ≤ MOST_ROW_NUMBERS }
+    ensures { IfErr result
+        (spec.NamesOneOf (length texts.now.schemas.items) (length texts.now.modules.items)) }
+{
+    let limits = Limits {
+        row_numbers: request.run.row_numbers,
+    };
+    let opened = open_session::<HeapStore>(
+        alloc,
+        texts.schemas.as_slice(),
+        texts.modules.as_slice(),
+        limits,
+    );
+    match opened {
+        Ok(mut session) => page_script(
+            alloc,
+            &mut session,
+            texts.script.as_slice(),
+            options_of(request),
+        ),
+        Err(fault) => Err(fault_of(fault)),
+    }
+}
+
+/// The page of what a script asks a session for.
+#[tactic(auto, using(crate::proofs::Named::script_one))]
+fn page_script(
+    alloc: Global,
+    session: &mut Session<HeapStore>,
+    script: &[u8],
+    options: TraceOptions,
+) -> Result<Vec<u8>, Fault>
+    ensures { (schemas modules : ℕ) → IfErr result (spec.NamesOneOf schemas modules) }
+{
+    match read_script(alloc, session, script) {
+        Ok(actions) => match trace_page(alloc, session, actions.as_slice(), options) {
+            Ok(page) => Ok(page),
+            Err(_) => Err(Fault::NoMemory(actions.len())),
+        },
         Err(fault) => Err(fault_of(fault)),
     }
 }

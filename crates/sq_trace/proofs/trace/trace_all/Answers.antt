@@ -1,8 +1,7 @@
-use Rattle.std.proofs.Common.{◌≡◌, ◌∙◌, ◌+◌}
-use Rattle.std.specs.Io.KnownBytes.{Appends}
+use Rattle.std.proofs.Common.{◌∙◌, ◌+◌}
 use Rattle.sq_perform.proofs.Prepared.{prepared_at}
 use Rattle.sq_trace.specs.Traced.{Told}
-use Rattle.sq_trace.proofs.SoFar.{SoFar, traced_first, traced_more}
+use Rattle.sq_trace.proofs.SoFar.{traced_first, traced_more}
 use Rattle.sq_trace.proofs.trace.trace_all.Goals as goal
 
 pub trace_action-requires : goal.trace_action-requires
