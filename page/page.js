@@ -22,23 +22,24 @@ function number(kind) {
 }
 
 function addBox(kind, text) {
-  const label = document.createElement('label');
+  const part = document.createElement('div');
   const remove = document.createElement('button');
+  const label = document.createElement('label');
   const box = document.createElement('textarea');
-  label.className = 'text';
+  part.className = 'text';
   remove.className = 'remove';
   remove.textContent = 'Remove';
-  remove.onclick = event => {
-    event.preventDefault();
-    label.remove();
+  remove.onclick = () => {
+    part.remove();
     number(kind);
     outdate();
   };
   box.spellcheck = false;
   box.value = text;
   box.rows = Math.min(12, Math.max(3, text.split('\n').length));
-  label.append('', remove, box);
-  field(kind).append(label);
+  label.append('', box);
+  part.append(remove, label);
+  field(kind).append(part);
   number(kind);
 }
 
@@ -102,10 +103,8 @@ const given = run => ({
 
 // Asks the library about the texts in the boxes, and shows what it answers by a function of the text that comes.
 async function show(question, shown) {
-  const chosen = field('tour').value;
   const run = texts();
   clear();
-  field('tour').value = chosen;
   const begun = performance.now();
   try {
     const { answer, bytes } = question(await library, given(run));

@@ -47,9 +47,9 @@ def crates_below(crate=NAME):
     return found
 
 
-def libraries():
+def libraries(crate=NAME):
     """The folders with the libraries that `rt ci` left, which have no stamp; none where another command built one of them."""
-    folders = [ROOT / f"crates/{name}/out/rlib" for name in crates_below()]
+    folders = [ROOT / f"crates/{name}/out/rlib" for name in crates_below(crate)]
     is_left = all((it / f"{it.parent.parent.name}.rlib").is_dir() and not (it / "stamp").exists() for it in folders)
     return folders if is_left else None
 

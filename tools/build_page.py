@@ -1,8 +1,8 @@
 #!/usr/bin/env python3
 """Builds the page that runs sqmod in a browser: one file, page/index.html, with the proved library as a WebAssembly module in it.
 
-build_page.py FOLDER: leaves FOLDER/index.html. The libraries below crates/sq_page_c have to be there, as `rt ci` or `rt lib` leaves
-them. Where the system lacks what it takes, it prints a line with the word SKIPPED, and the status is 0.
+build_page.py FOLDER: leaves FOLDER/index.html. Where `rt ci` has just left the libraries below crates/sq_page_c, it is built over these;
+else what is lacking is proved first. Where the system lacks what it takes, a line with the word SKIPPED says so, and the status is 0.
 
 Rattle proves the library and lowers it to one module of LLVM, for 64-bit pointers. The kit's own clang then compiles that module for
 x86-64; here it is compiled for wasm64 in its place. That is sound as long as nothing in it is of x86-64, which is looked at below.
@@ -91,12 +91,18 @@ def toolchain(folder):
     return folder
 
 
+def libraries():
+    """The folders with the libraries below the crate: those that `rt ci` left, or what `rt check` makes of them now."""
+    folders = build_library.libraries(NAME)
+    if folders is None:
+        subprocess.run(["rt", "check"], cwd=CRATE, stdin=subprocess.DEVNULL, stdout=subprocess.DEVNULL, check=True)
+        folders = [ROOT / f"crates/{name}/out/rlib" for name in build_library.crates_below(NAME)]
+    return folders
+
+
 def archive(room):
     """The crate, proved, as an archive for wasm64."""
-    folders = [ROOT / f"crates/{name}/out/rlib" for name in build_library.crates_below(NAME)]
-    lacks = [str(it) for it in folders if not it.is_dir()]
-    if lacks:
-        sys.exit("build_page: these libraries are not built: " + " ".join(lacks))
+    folders = libraries()
     words = build_library.build_over(folders, NAME, room / "library.a", toolchain(room / "toolchain"))
     done = subprocess.run(words, cwd=CRATE, stdin=subprocess.DEVNULL, capture_output=True, text=True)
     if done.returncode:
