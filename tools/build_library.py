@@ -35,10 +35,10 @@ def crate_uses():
     return {name.split()[0]: rest.split() for name, _, rest in lines if name.split()}
 
 
-def crates_below():
-    """The crates of the repository that the archive stands on."""
+def crates_below(crate=NAME):
+    """The crates of the repository that an archive stands on."""
     uses = crate_uses()
-    found, left = [], list(uses[NAME])
+    found, left = [], list(uses[crate])
     while left:
         name = left.pop()
         if name in uses and name not in found:
@@ -47,22 +47,22 @@ def crates_below():
     return found
 
 
-def libraries():
+def libraries(crate=NAME):
     """The folders with the libraries that `rt ci` left, which have no stamp; none where another command built one of them."""
-    folders = [ROOT / f"crates/{name}/out/rlib" for name in crates_below()]
+    folders = [ROOT / f"crates/{name}/out/rlib" for name in crates_below(crate)]
     is_left = all((it / f"{it.parent.parent.name}.rlib").is_dir() and not (it / "stamp").exists() for it in folders)
     return folders if is_left else None
 
 
-def build_over(folders):
-    """The words that prove and build the crate over libraries that are there."""
+def build_over(folders, crate=NAME, made=ARCHIVE, toolchain=None):
+    """The words that prove and build a static library over libraries that are there, with the kit's toolchain or another."""
     top = kit()
-    words = [top / "bin/rattle", "build", "--crate-name", NAME, "src/lib.rt", "--crate-type", "staticlib", "--links", f"{NAME}="]
+    words = [top / "bin/rattle", "build", "--crate-name", crate, "src/lib.rt", "--crate-type", "staticlib", "--links", f"{crate}="]
     words += ["--extern", f"std={top}/rlibs/std.rlib", "-L", f"dependency={top}/rlibs"]
-    words += [it for name in crate_uses()[NAME] for it in ("--extern", f"{name}={ROOT}/crates/{name}/out/rlib/{name}.rlib")]
+    words += [it for name in crate_uses()[crate] for it in ("--extern", f"{name}={ROOT}/crates/{name}/out/rlib/{name}.rlib")]
     words += [it for folder in folders for it in ("-L", f"dependency={folder}")]
     words += ["--antt-project", f"{top}/rattle/logic/antt-project.json", "--logic-built", f"{top}/logic_built"]
-    return words + ["--toolchain", f"{top}/toolchain", "--backend", "llvm", "-o", ARCHIVE]
+    return words + ["--toolchain", toolchain or f"{top}/toolchain", "--backend", "llvm", "-o", made]
 
 
 def is_current(folders):

@@ -29,6 +29,8 @@ bin/sqmod runs as it is, wherever this folder is:
     bin/sqmod run --schema share/doc/sqmod/examples/first/schema.sql --module share/doc/sqmod/examples/first/module.sql \\
       --script share/doc/sqmod/examples/first/script.txt
 
+share/sqmod/page/index.html, where it is there, is sqmod for a browser: open it from where it is.
+
 share/doc/sqmod has the pages and the examples, include, lib and lib/pkgconfig what host programs in C and COBOL need, and
 lib/python3/dist-packages/sqmod.py is for Python. NOTICES, beside LICENSE in share/doc/sqmod, names what is linked in.
 END

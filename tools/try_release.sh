@@ -71,6 +71,11 @@ SQMOD_LIBRARY=$at/lib/libsqmod.so.0 python3 -B "$root/host/tests/test_sqmod.py" 
   fail "the tests of sqmod.py failed"
 }
 
+page=crates/sq_page_c/out/page/index.html
+if [ -e "$root/$page" ]; then
+  cmp "$root/$page" "$at/share/sqmod/page/index.html" || fail "the page for browsers is not that which was built"
+fi
+
 bash -c 'source "$1"; COMP_WORDS=(sqmod run --sc); COMP_CWORD=2; _sqmod; [ "${COMPREPLY[*]}" = "--schema --script" ]' _ \
   "$at/share/bash-completion/completions/sqmod" || fail "bash completes something else"
 commit=$(git -C "$root" rev-parse HEAD)

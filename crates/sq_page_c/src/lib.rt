@@ -1,0 +1,74 @@
+//! A run as functions for a page in a browser: `tools/build_page.py` makes a WebAssembly module of them.
+//!
+//! The texts of a kind come as one slice of bytes, with the length of each text. A call opens a session of its own and keeps
+//! nothing of it.
+#![tactic(auto)]
+
+mod outcome;
+mod run;
+mod steps;
+mod texts;
+
+ghost use Rattle.sq_page_c.specs.Shown.{IsShown};
+ghost use Rattle.sq_page_c.specs.Texts.{pieces};
+
+use outcome::put;
+use run::outcome_of_run;
+use std::alloc::Global;
+use steps::outcome_of_steps;
+
+/// Runs a script on schemas and modules, and puts the report, or the line of a refusal, in a room.
+///
+/// It answers 0 with the report, 3 with the line of a refusal, 4 where memory ran out, 6 where the number of rows is out of
+/// bounds, and 10 where the room has no place for the text and a zero. `count` is the length of the text in any case.
+#[unsafe(no_mangle)]
+pub extern "C" fn sq_page_run(
+    alloc: Global,
+    schemas: &[u8],
+    schema_lengths: &[usize],
+    modules: &[u8],
+    module_lengths: &[usize],
+    script: &[u8],
+    row_numbers: u64,
+    room: &mut [u8],
+    count: &mut usize,
+) -> i32
+    ensures { IsShown row_numbers (pieces schema_lengths.now schemas.now)
+        (pieces module_lengths.now modules.now) script.now room.old room.new count.new result }
+{
+    let outcome = outcome_of_run(
+        alloc,
+        schemas,
+        schema_lengths,
+        modules,
+        module_lengths,
+        script,
+        row_numbers,
+    );
+    put(&outcome, room, count).code()
+}
+
+/// Puts a page that steps through the same run in a room, as `trace_page` of sq_trace makes it. It answers as `sq_page_run` does.
+#[unsafe(no_mangle)]
+pub extern "C" fn sq_page_steps(
+    alloc: Global,
+    schemas: &[u8],
+    schema_lengths: &[usize],
+    modules: &[u8],
+    module_lengths: &[usize],
+    script: &[u8],
+    row_numbers: u64,
+    room: &mut [u8],
+    count: &mut usize,
+) -> i32 {
+    let outcome = outcome_of_steps(
+        alloc,
+        schemas,
+        schema_lengths,
+        modules,
+        module_lengths,
+        script,
+        row_numbers,
+    );
+    put(&outcome, room, count).code()
+}
