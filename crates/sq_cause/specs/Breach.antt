@@ -150,7 +150,7 @@ pub record IsReferredTo (bases : List BaseTable) (keys : List Keys) (tables : Co
     (referring : Referring) : Type 0 where
   pub base : BaseTable
   pub at : slice_get bases referring.table ≡ Some base
-  pub referring : IsReferring base keys tables changed changes referring
+  pub refers : IsReferring base keys tables changed changes referring
 
 -- ---- keys and references
 

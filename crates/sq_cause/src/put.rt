@@ -1,6 +1,7 @@
 //! The rows that the changes of a statement put in a table, and those that they take away.
 
 ghost use Rattle.std.specs.Prelude.{◌≡◌, IfOk, IfSome};
+ghost use Rattle.std.specs.List.{list_any};
 ghost use Rattle.sq_store.specs.Keys.{has_columns};
 ghost use Rattle.sq_cause.specs.Breach.{IsPut, has_values, is_touched, key_in, puts, touches};
 
@@ -50,8 +51,15 @@ fn touches(number: u64, change: &Change) -> bool
     }
 }
 
+/// Whether one of the changes puts in a row with these values in the columns.
+pub(crate) fn any_puts(columns: &[usize], values: &Key, changes: &[Change]) -> bool
+    ensures { result ≡ list_any (puts columns.now values.now) changes.now }
+{
+    changes.iter().any(|change| puts(columns, values, change))
+}
+
 /// Whether a change puts in a row with these values in the columns.
-pub(crate) fn puts(columns: &[usize], values: &Key, change: &Change) -> bool
+fn puts(columns: &[usize], values: &Key, change: &Change) -> bool
     ensures { result ≡ puts columns.now values.now change.now }
 {
     match change {

@@ -8,8 +8,8 @@ ghost use Rattle.sq_cause.specs.Breach.{IsBetween, IsPut, IsReferring, LeadsNowh
 
 use crate::cause::{Breach, Referring, RowPut};
 use crate::changing::Changing;
-use crate::put::{is_touched, key_in, put_at, puts};
-use sq_bound::{BaseTable, Reference};
+use crate::put::{any_puts, is_touched, key_in, put_at};
+use sq_bound::{BaseTable, Reference, Shared};
 use sq_session::TableRows;
 use sq_store::{Meter, Store};
 use sq_value::{Key, Row};
@@ -118,11 +118,7 @@ fn is_put<S: Store>(
     ensures { result ≡ (nat_eq table changing.now.base.now.place
         && list_any (puts columns.now values.now) changing.now.changes.now) }
 {
-    table == changing.base.place
-        && changing
-            .changes
-            .iter()
-            .any(|change| puts(columns, values, change))
+    table == changing.base.place && any_puts(columns, values, changing.changes)
 }
 
 /// The first row that would refer to a row that is gone.
@@ -131,11 +127,9 @@ pub(crate) fn to_breach<S: Store>(changing: &Changing<'_, S>) -> Result<Option<B
         (S.key_columns changing.now.store.now) (S.content_now changing.now.store.now)
         changing.now.changes.now)) }
 {
-    for place in 0..changing.bases.len() {
-        if let Some(base) = changing.bases.get(place) {
-            if let Some(referring) = referring_in(changing, place, base.get())? {
-                return Ok(Some(Breach::IsReferredTo(referring)));
-            }
+    for (place, base) in changing.bases.iter().enumerate() {
+        if let Some(referring) = referring_in(changing, place, base)? {
+            return Ok(Some(Breach::IsReferredTo(referring)));
         }
     }
     Ok(None)
@@ -145,15 +139,16 @@ pub(crate) fn to_breach<S: Store>(changing: &Changing<'_, S>) -> Result<Option<B
 fn referring_in<S: Store>(
     changing: &Changing<'_, S>,
     table: usize,
-    base: &BaseTable,
+    shared: &Shared<BaseTable>,
 ) -> Result<Option<Referring>, AllocError>
     ensures { IfOk result (λ found. IfSome found
-        (λ referring. (referring.table ≡ table) × IsReferring base.now (S.key_columns changing.now.store.now)
+        (λ referring. (referring.table ≡ table) × IsReferring shared.now (S.key_columns changing.now.store.now)
         (S.content_now changing.now.store.now) changing.now.base.now.place changing.now.changes.now referring)) }
 {
     if table >= changing.store.table_count() {
         return Ok(None);
     }
+    let base = shared.get();
     for place in 0..base.references.len() {
         if let Some(reference) = base.references.as_slice().get(place) {
             if let Some(number) = referring_by(changing, table, reference)? {

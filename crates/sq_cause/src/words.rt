@@ -36,10 +36,19 @@ fn add_to_line(words: &[u8], line: &mut Vec<u8>) -> Result<(), AllocError>
     ensures { OnOk result (IsContinued line.old.items line.new.items) }
 {
     for code in words {
-        if *code != b'\n' {
-            line.push(*code)?;
-        }
+        add_code(*code, line)?;
     }
+    Ok(())
+}
+
+/// Appends a character unless it is a line end.
+fn add_code(code: u8, line: &mut Vec<u8>) -> Result<(), AllocError>
+    ensures { OnOk result (IsContinued line.old.items line.new.items) }
+{
+    if code == b'\n' {
+        return Ok(());
+    }
+    line.push(code)?;
     Ok(())
 }
 
