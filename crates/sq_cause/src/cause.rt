@@ -45,6 +45,13 @@ pub enum Breach {
     IsReferredTo(Referring),
 }
 
+/// A row that would not meet a check option: the condition of the view at this level, counted from 0 and from inside out.
+#[derive(Clone, Copy)]
+pub struct OptionBreach {
+    pub put: RowPut,
+    pub level: usize,
+}
+
 /// A row that refers to another: its table, which of the table's references, and the number of the row.
 #[derive(Clone, Copy)]
 pub struct Referring {
