@@ -1,1 +1,4 @@
+pub mod Breaches
 pub mod Continued
+pub mod OfChange
+pub mod Standing

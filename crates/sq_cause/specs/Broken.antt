@@ -5,10 +5,10 @@ use Rattle.sq_value.specs.declared.domain.Kind.{Kind as ValueKind}
 use Rattle.sq_value.specs.declared.truth.Truth.{Truth}
 use Rattle.sq_value.specs.declared.truth.Truth.TheVariants as truth
 use Rattle.sq_value.specs.declared.value.Value.{Value}
+use Rattle.sq_store.specs.Keys.{Keys}
 use Rattle.sq_store.specs.declared.change.Change.{Change}
 use Rattle.sq_bound.specs.declared.condition.BoundCond.{BoundCond}
 use Rattle.sq_bound.specs.declared.names.BaseTable.{BaseTable}
-use Rattle.sq_bound.specs.declared.names.Leaf.{Leaf}
 use Rattle.sq_change.specs.Made.{Seen, Shown, seen_by}
 use Rattle.sq_query.specs.MayRead.{MayRead}
 use Rattle.sq_query.specs.Row.{IsOnRow, truth_on_row}
@@ -17,7 +17,6 @@ use Rattle.sq_session.specs.Schemas.{Schemas, columns_of}
 use Rattle.sq_session.specs.State.{State}
 use Rattle.sq_lex.specs.declared.name.Name.{Name}
 use Rattle.sq_cause.specs.Breach.{IsBetween, IsNullPut, IsPut}
-use Rattle.sq_cause.specs.Made.{IsMade, leaf_of}
 use Rattle.sq_cause.specs.declared.cause.Breach.{Breach}
 use Rattle.sq_cause.specs.declared.cause.Breach.TheVariants as breach
 use Rattle.sq_cause.specs.declared.cause.RowPut.{RowPut}
@@ -47,11 +46,11 @@ IsRowBreach s seen t changes (breach.NotNull put column) = IsNullPut t changes p
 IsRowBreach s seen t changes (breach.Check put check) = IsFalseCheck s seen t changes put check
 IsRowBreach s seen t changes _ = ⊥
 
--- the constraint does not hold when these changes are made in the base table
-abbrev pub IsBroken : Schemas → Seen → State → BaseTable → List Change → Breach → Type 0
-IsBroken s seen state t changes (breach.NotNull put column) = IsNullPut t changes put column
-IsBroken s seen state t changes (breach.Check put check) = IsFalseCheck s seen t changes put check
-IsBroken s seen state t changes b = IsBetween s.bases t state.keys state.tables changes b
+-- the constraint does not hold when these changes are made in the base table; these are the columns of all keys
+abbrev pub IsBroken : Schemas → Seen → List Keys → BaseTable → List Change → Breach → Type 0
+IsBroken s seen keys t changes (breach.NotNull put column) = IsNullPut t changes put column
+IsBroken s seen keys t changes (breach.Check put check) = IsFalseCheck s seen t changes put check
+IsBroken s seen keys t changes b = IsBetween s.bases t keys seen.tables changes b
 
 -- the user for whom a statement is performed
 abbrev pub user_of : Kind → Name
@@ -70,12 +69,3 @@ user_of Kind.rolls_back = []
 -- what a statement of this kind sees
 abbrev pub seen_of : Schemas → Kind → List Value → State → Seen
 seen_of s k values state = seen_by s.views state.tables (user_of k) values
-
--- when the statement makes its changes in its base table, which is at this place, the constraint does not hold
-pub record IsBreach (s : Schemas) (k : Kind) (values : List Value) (state : State) (table : ℕ) (b : Breach) : Type 0 where
-  pub leaf : Leaf
-  pub leaf_is : leaf_of k ≡ Some leaf
-  pub table_is : table ≡ leaf.table.place
-  pub changes : List Change
-  pub made : IsMade s k values state changes
-  pub broken : IsBroken s (seen_of s k values state) state leaf.table changes b

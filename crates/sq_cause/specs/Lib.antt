@@ -4,4 +4,5 @@ pub mod Broken
 pub mod Cause
 pub mod Cursor
 pub mod Made
+pub mod Option
 pub mod Words

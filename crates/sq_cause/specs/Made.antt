@@ -6,6 +6,8 @@ use Rattle.sq_store.specs.declared.change.Change.{Change}
 use Rattle.sq_bound.specs.Fits.{under}
 use Rattle.sq_bound.specs.declared.names.Leaf.{Leaf}
 use Rattle.sq_bound.specs.declared.statement.BoundInsert.{BoundInsert}
+use Rattle.sq_bound.specs.declared.statement.BoundStatement.{BoundStatement}
+use Rattle.sq_bound.specs.declared.statement.BoundStatement.TheVariants as statement
 use Rattle.sq_bound.specs.declared.statement.ChangeTarget.TheVariants as target
 use Rattle.sq_change.specs.Changed.{Removals, Replacements, are_insertions}
 use Rattle.sq_change.specs.Made.{Seen, Shown, rows_inserted}
@@ -28,6 +30,12 @@ leaf_of (Kind.deletes caller t) = Some t.leaf
 leaf_of (Kind.updates_at u p) = Some (under u.statement.target)
 leaf_of (Kind.deletes_at caller p) = Some p.leaf
 leaf_of _ = None
+
+abbrev pub IsLeafOf : BoundStatement → Leaf → Type 0
+IsLeafOf (statement.Insert i) leaf = leaf ≡ i.leaf
+IsLeafOf (statement.Update u) leaf = leaf ≡ under u.target
+IsLeafOf (statement.Delete t) leaf = leaf ≡ under t
+IsLeafOf _ leaf = ⊥
 
 -- the changes of a statement of this kind, whose parameters start with these values
 abbrev pub IsMade : Schemas → Kind → List Value → State → List Change → Type 0

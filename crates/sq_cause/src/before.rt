@@ -1,10 +1,11 @@
 //! What a cause needs of the state before a call.
 
-ghost use Rattle.std.specs.Prelude.{◌≡◌};
-ghost use Rattle.sq_cause.specs.Before.{cursor_of, stands_on};
+ghost use Rattle.std.specs.Prelude.{◌≡◌, option_and_then, slice_get};
+ghost use Rattle.sq_session.specs.State.{number_on};
+ghost use Rattle.sq_cause.specs.Before.{cursor_in, cursor_under, on_in, stands_on};
 
 use sq_bound::{BoundStatement, ChangeTarget};
-use sq_session::{Session, number_on};
+use sq_session::{CursorState, Session, number_on};
 use sq_store::Store;
 
 /// What a call's cause needs of the state before the call: where its cursor stood.
@@ -26,15 +27,40 @@ pub fn look_before<S: Store>(session: &Session<S>, procedure: usize) -> Before
 fn stands_on<S: Store>(session: &Session<S>, procedure: usize) -> Option<u64>
     ensures { result ≡ stands_on session.now procedure }
 {
-    let (_, procedure) = session.program().procedures.get_index(procedure)?;
-    match &procedure.statement {
-        Ok(statement) => number_on(session.cursors().get(cursor_of(statement)?)?),
+    let inside = session.inside();
+    let Some((_, called)) = inside.program.procedures.get_index(procedure) else {
+        return None;
+    };
+    match &called.statement {
+        Ok(statement) => on_in(statement, inside.cursors),
         Err(_) => None,
     }
 }
 
+/// The number of the row that the cursor of a statement is on.
+fn on_in(statement: &BoundStatement, cursors: &[CursorState]) -> Option<u64>
+    ensures { result ≡ on_in cursors.now (cursor_in statement.now) }
+{
+    match cursor_of(statement) {
+        Some(cursor) => number_on_at(cursors, cursor),
+        None => None,
+    }
+}
+
+/// The number of the row that a cursor is on.
+fn number_on_at(cursors: &[CursorState], cursor: usize) -> Option<u64>
+    ensures { result ≡ option_and_then number_on (slice_get cursors.now cursor) }
+{
+    match cursors.get(cursor) {
+        Some(state) => number_on(state),
+        None => None,
+    }
+}
+
 /// The number of the cursor that a statement names.
-pub(crate) fn cursor_of(statement: &BoundStatement) -> Option<usize> {
+fn cursor_of(statement: &BoundStatement) -> Option<usize>
+    ensures { result ≡ cursor_in statement.now }
+{
     match statement {
         BoundStatement::Open(cursor) => Some(*cursor),
         BoundStatement::Fetch(fetch) => Some(fetch.cursor),
@@ -48,7 +74,9 @@ pub(crate) fn cursor_of(statement: &BoundStatement) -> Option<usize> {
     }
 }
 
-fn cursor_under(target: &ChangeTarget) -> Option<usize> {
+fn cursor_under(target: &ChangeTarget) -> Option<usize>
+    ensures { result ≡ cursor_under target.now }
+{
     match target {
         ChangeTarget::Searched(_) => None,
         ChangeTarget::Positioned(positioned) => Some(positioned.cursor),

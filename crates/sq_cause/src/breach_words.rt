@@ -263,14 +263,14 @@ fn write_column(table: &TableDesc, column: usize, words: &mut Vec<u8>) -> Result
 }
 
 /// `U1.T`
-fn write_table(table: &TableDesc, words: &mut Vec<u8>) -> Result<(), AllocError> {
+pub(crate) fn write_table(table: &TableDesc, words: &mut Vec<u8>) -> Result<(), AllocError> {
     words.extend_from_slice(table.user.codes())?;
     words.push(b'.')?;
     words.extend_from_slice(table.name.codes())
 }
 
 /// `row 3` or `new row 1`
-fn write_put(put: RowPut, words: &mut Vec<u8>) -> Result<(), AllocError> {
+pub(crate) fn write_put(put: RowPut, words: &mut Vec<u8>) -> Result<(), AllocError> {
     match put.number {
         Some(number) => write!(words, "row {number}").map_err(|_| AllocError),
         None => write!(words, "new row {}", after(put.place)).map_err(|_| AllocError),

@@ -15,6 +15,8 @@ pub enum Cause {
     Cursor(CursorCause),
     /// A constraint would not hold of the base table at this place.
     Breach(usize, Breach),
+    /// A row that the statement would put in the base table at this place would not be one of the view.
+    CheckOption(usize, OptionBreach),
     /// The status alone.
     General(Status),
 }
@@ -82,6 +84,7 @@ impl Cause {
             Cause::Fault(_) => Status::SyntaxErrorOrAccessRuleViolation,
             Cause::Cursor(_) => Status::InvalidCursorState,
             Cause::Breach(..) => Status::IntegrityConstraintViolation,
+            Cause::CheckOption(..) => Status::CheckOptionViolation,
             Cause::General(status) => *status,
         }
     }

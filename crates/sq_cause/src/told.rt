@@ -153,7 +153,9 @@ fn with_values<S: Store>(
                 None => Ok(None),
             }
         }
-        Status::IntegrityConstraintViolation => breach_of(called, inside, statement),
+        Status::IntegrityConstraintViolation | Status::CheckOptionViolation => {
+            breach_of(called, inside, statement, status)
+        }
         _ => Ok(None),
     }
 }

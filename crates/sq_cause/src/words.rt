@@ -5,6 +5,7 @@ ghost use Rattle.sq_cause.specs.Words.{IsContinued};
 
 use crate::breach_words::write_breach;
 use crate::cause::{Cause, CursorCause};
+use crate::option_words::write_option;
 use sq_lex::Name;
 use sq_meaning::Status;
 use sq_session::{Fault, Session};
@@ -62,6 +63,7 @@ fn write_words<S: Store>(
         Cause::Fault(fault) => write_fault(*fault, words),
         Cause::Cursor(cause) => write_cursor_cause(session, *cause, words),
         Cause::Breach(table, breach) => write_breach(alloc, session, *table, *breach, words),
+        Cause::CheckOption(table, breach) => write_option(session, *table, *breach, words),
         Cause::General(status) => words.extend_from_slice(meaning(*status)),
     }
 }
