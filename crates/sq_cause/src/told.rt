@@ -30,6 +30,7 @@ use std::alloc::{AllocError, Global};
 ///
 /// What the cause says is true of the session as it is, and its status is that of the reply. Where no cause can be told, it is the
 /// general one, which says no more than the status.
+#[tactic(auto, using(crate::proofs::Causes::kept_cause))]
 pub fn why<S: Store>(
     alloc: Global,
     session: &Session<S>,
