@@ -1,0 +1,5 @@
+pub mod Breaches
+pub mod Causes
+pub mod Continued
+pub mod OfChange
+pub mod Standing
