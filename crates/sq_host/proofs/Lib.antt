@@ -1,2 +1,3 @@
+mod Opened
 mod Rows
 pub mod Values

@@ -6,7 +6,7 @@ use Rattle.sq_store.specs.declared.store.TheConstants.{MOST_ROW_NUMBERS}
 use Rattle.sq_store.specs.declared.table.Numbered.{Numbered}
 use Rattle.sq_meaning.specs.Machine.{first_state}
 use Rattle.sq_meaning.specs.Report.{Bytes}
-use Rattle.sq_session.specs.declared.reply.Reply.{Reply}
+use Rattle.sq_run.specs.declared.Reply.{Reply}
 use Rattle.sq_run.specs.Answer as run
 use Rattle.sq_run.specs.Texts.{texts}
 use Rattle.sq_run.specs.Processor.{AllHold, FailsWithoutChange, IsStep, Machine, has_fault, number_of, rows_of, takes}

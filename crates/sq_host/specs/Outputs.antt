@@ -6,8 +6,8 @@ use Rattle.sq_value.specs.declared.value.Value.{Value}
 use Rattle.sq_meaning.specs.Status as status
 use Rattle.sq_meaning.specs.Environment.{same_name}
 use Rattle.sq_meaning.specs.declared.status.Status.{Status}
-use Rattle.sq_session.specs.declared.reply.Output.{Output}
-use Rattle.sq_session.specs.declared.reply.Reply.{Reply}
+use Rattle.sq_run.specs.declared.Output.{Output}
+use Rattle.sq_run.specs.declared.Reply.{Reply}
 use Rattle.sq_exchange.specs.Name.{name_read}
 use Rattle.sq_exchange.specs.Value as exchanged
 use Rattle.sq_exchange.specs.declared.answer.Answer.{Answer}

@@ -99,9 +99,9 @@ impl Handle {
         number: &mut usize,
     ) -> Answer
         ensures answer { ¬ (result ≡ NoMemory)
-            → result ≡ set_answer (and_then (procedure_named module.now name.now) (opened (machine_of (leads_to self.old)))) }
+            → result ≡ set_answer (and_then (procedure_named «module».now name.now) (opened (machine_of (leads_to self.old)))) }
         ensures number { ¬ (result ≡ NoMemory)
-            → number.new ≡ set_value (and_then (procedure_named module.now name.now) (opened (machine_of (leads_to self.old)))) number.old }
+            → number.new ≡ set_value (and_then (procedure_named «module».now name.now) (opened (machine_of (leads_to self.old)))) number.old }
         ensures none { result ≡ NoMemory → number.new ≡ number.old }
         ensures same { leads_to self.new ≡ leads_to self.old }
     {

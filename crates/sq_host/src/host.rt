@@ -11,8 +11,7 @@ use crate::texts::{add_text, line_of};
 use sq_exchange::{Answer, name_of};
 use sq_heap::HeapStore;
 use sq_lex::Name;
-use sq_run::{Limits, Processor, RunFault};
-use sq_session::Reply;
+use sq_run::{Limits, Processor, Reply, RunFault};
 use sq_store::MOST_ROW_NUMBERS;
 use sq_value::{Row, Value};
 use std::alloc::Global;
@@ -135,9 +134,9 @@ impl Host {
         name: &[u8],
     ) -> Result<usize, Answer>
         ensures number { IfOk result
-            (λ number. and_then (procedure_named module.now name.now) (opened self.now.processor) ≡ Ok number) }
+            (λ number. and_then (procedure_named «module».now name.now) (opened self.now.processor) ≡ Ok number) }
         ensures refused { IfErr result
-            (IsWhy (and_then (procedure_named module.now name.now) (opened self.now.processor))) }
+            (IsWhy (and_then (procedure_named «module».now name.now) (opened self.now.processor))) }
     {
         match &self.processor {
             Some(processor) => procedure_in(alloc, processor, module, name),
@@ -201,8 +200,8 @@ fn procedure_in(
     module: &[u8],
     name: &[u8],
 ) -> Result<usize, Answer>
-    ensures number { IfOk result (λ number. procedure_named module.now name.now processor.now ≡ Ok number) }
-    ensures refused { IfErr result (IsWhy (procedure_named module.now name.now processor.now)) }
+    ensures number { IfOk result (λ number. procedure_named «module».now name.now processor.now ≡ Ok number) }
+    ensures refused { IfErr result (IsWhy (procedure_named «module».now name.now processor.now)) }
 {
     match name_of(alloc, module) {
         Ok(module) => procedure_of(alloc, processor, module, name),

@@ -9,7 +9,7 @@ use crate::host::Host;
 use sq_exchange::{Answer, digits_of, kind_of, name_of, number_of, text_of};
 use sq_lex::Name;
 use sq_meaning::Status;
-use sq_session::Output;
+use sq_run::Output;
 use sq_value::{Decimal, Value};
 use std::alloc::Global;
 

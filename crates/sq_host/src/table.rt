@@ -10,8 +10,7 @@ use crate::host::Host;
 use sq_exchange::{Answer, name_of};
 use sq_heap::HeapStore;
 use sq_lex::Name;
-use sq_run::Processor;
-use sq_session::TableRows;
+use sq_run::{Processor, TableRows};
 use sq_value::{Row, copy_row};
 use std::alloc::{AllocError, Global};
 

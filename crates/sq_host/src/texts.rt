@@ -6,8 +6,7 @@ ghost use Rattle.sq_run.specs.Opens.{IsOfTexts};
 ghost use Rattle.sq_run.specs.Texts as spec;
 
 use sq_exchange::Answer;
-use sq_run::{Refusal, RunFault};
-use sq_session::Fault;
+use sq_run::{Fault, Refusal, RunFault};
 use std::alloc::{AllocError, Global};
 
 /// Adds a copy of a text.

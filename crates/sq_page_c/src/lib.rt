@@ -48,7 +48,7 @@ pub extern "C" fn sq_page_run(
     put(&outcome, room, count).code()
 }
 
-/// Puts a page that steps through the same run in a room, as `trace_page` of sq_trace makes it. It answers as `sq_page_run` does.
+/// Puts a page that steps through the same run in a room, as `trace_page` of sq_show makes it. It answers as `sq_page_run` does.
 #[unsafe(no_mangle)]
 pub extern "C" fn sq_page_steps(
     alloc: Global,

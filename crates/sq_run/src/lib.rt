@@ -21,3 +21,4 @@ pub use sq_perform::{
     LexFaultKind, Limits, ModuleFault, Out, OutFault, OutOf, Refusal, RefusalName, RunFault,
     SchemaRefusalName,
 };
+pub use sq_session::{Fault, Output, Reply, TableRows};

@@ -14,7 +14,7 @@ use command::{Command, HELP, Listing, command_of};
 use sq_heap::HeapStore;
 use sq_lex::{Lexeme, Name, lex};
 use sq_run::Limits;
-use sq_shell::{Place, Shell, write_cursors, write_procedures, write_procedures_of, write_tables};
+use sq_show::{Place, Shell, write_cursors, write_procedures, write_procedures_of, write_tables};
 use sq_store::MOST_ROW_NUMBERS;
 use std::alloc::{AllocError, Global};
 use std::fs;

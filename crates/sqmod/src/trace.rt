@@ -11,7 +11,7 @@ use sq_heap::HeapStore;
 use sq_perform::{open_session, read_script};
 use sq_run::{Limits, OutOf};
 use sq_store::MOST_ROW_NUMBERS;
-use sq_trace::{Session, TraceFault, TraceOptions, trace_all, trace_page};
+use sq_show::{Session, TraceFault, TraceOptions, trace_all, trace_page};
 use std::alloc::Global;
 use std::fs;
 use std::io::{self, BufWriter, Write};

@@ -8,7 +8,7 @@ use crate::texts::Sources;
 use sq_heap::HeapStore;
 use sq_lex::{LexError, lex};
 use sq_run::{Limits, RunFault};
-use sq_shell::{Place, Shell, item_size, place_in};
+use sq_show::{Place, Shell, item_size, place_in};
 use sq_store::MOST_ROW_NUMBERS;
 use std::alloc::{AllocError, Global};
 use std::fmt::Display;

@@ -4,7 +4,7 @@ use Rattle.sq_host.proofs.table.copied.Given as goal
 
 -- what is copied, and what is still to come, is all that was to come
 abbrev pub invariant-loop-row : goal.invariant-loop-row
-invariant-loop-row l = l.copies.items ++ values_in l.rows ≡ values_in l.args.rows
+invariant-loop-row l = l.copies.items ++ values_in l.rows ≡ values_in l.fn.rows
 
 -- the rows that are still to come
 abbrev pub decreases-loop-row : goal.decreases-loop-row

@@ -1,3 +1,0 @@
-pub mod Item
-pub mod Place
-pub mod Taken

@@ -1,0 +1,8 @@
+pub mod Adding
+pub mod Breaches
+pub mod Causes
+pub mod Continued
+pub mod Lexed
+pub mod OfChange
+pub mod SoFar
+pub mod Standing

@@ -1,0 +1,72 @@
+-- What a cause says, in the words of the machine, of the state as it is after the call: a call that ends with a status other than 00000
+-- leaves the tables as they were, and but for FETCH the cursors, too.
+use Rattle.std.specs.Prelude.{◌≡◌, ⊤, ℕ, List, Some}
+use Rattle.sq_value.specs.declared.value.Value.{Value}
+use Rattle.sq_store.specs.Keys.{Keys}
+use Rattle.sq_store.specs.declared.change.Change.{Change}
+use Rattle.sq_meaning.specs.declared.status.Status.{Status}
+use Rattle.sq_meaning.specs.declared.status.Status.TheVariants as status
+use Rattle.sq_bound.specs.declared.names.Leaf.{Leaf}
+use Rattle.sq_change.specs.Made.{Seen}
+use Rattle.sq_session.specs.Kind.{Kind, fault_at, kind_at, read_parameters}
+use Rattle.sq_session.specs.Parameter.{started_values}
+use Rattle.sq_session.specs.Schemas.{Schemas}
+use Rattle.sq_session.specs.Session.{Session}
+use Rattle.sq_session.specs.State.{State}
+use Rattle.sq_show.specs.Broken.{IsBroken, seen_of}
+use Rattle.sq_show.specs.Cursor.{IsCursorCause}
+use Rattle.sq_show.specs.Made.{IsMade, leaf_of}
+use Rattle.sq_show.specs.Option.{IsOptionBreach}
+use Rattle.sq_show.specs.declared.cause.Cause.{Cause}
+use Rattle.sq_show.specs.declared.cause.Cause.TheVariants as cause
+
+-- the status that a call with this cause ends with
+abbrev pub status_of : Cause → Status
+status_of (cause.Fault f) = status.SyntaxErrorOrAccessRuleViolation
+status_of (cause.Cursor c) = status.InvalidCursorState
+status_of (cause.Breach table b) = status.IntegrityConstraintViolation
+status_of (cause.CheckOption table b) = status.CheckOptionViolation
+status_of (cause.General st) = st
+
+-- ---- of changes that are made in the base table of a leaf; these are the columns of the keys of all tables
+
+abbrev pub IsChangeCause : Schemas → Seen → List Keys → Leaf → List Change → Cause → Type 0
+IsChangeCause s seen keys leaf changes (cause.Breach table b) =
+    (table ≡ leaf.table.place) × IsBroken s seen keys leaf.table changes b
+IsChangeCause s seen keys leaf changes (cause.CheckOption table b) =
+    (table ≡ leaf.table.place) × IsOptionBreach s seen leaf changes b
+IsChangeCause s seen keys leaf changes _ = ⊥
+
+-- the statement would make these changes, and this is what would not hold
+pub record ChangeCause (s : Schemas) (k : Kind) (values : List Value) (state : State) (c : Cause) : Type 0 where
+  pub leaf : Leaf
+  pub leaf_is : leaf_of k ≡ Some leaf
+  pub changes : List Change
+  pub made : IsMade s k values state changes
+  pub broken : IsChangeCause s (seen_of s k values state) state.keys leaf changes c
+
+-- ---- of a statement without a fault, whose parameters start with these values
+
+abbrev pub IsStatementCause : Schemas → Kind → List Value → State → Cause → Type 0
+IsStatementCause s k values state (cause.Fault f) = ⊥
+IsStatementCause s k values state (cause.Cursor c) = IsCursorCause k state.cursors state.tables c
+IsStatementCause s k values state (cause.Breach table b) = ChangeCause s k values state (cause.Breach table b)
+IsStatementCause s k values state (cause.CheckOption table b) =
+    ChangeCause s k values state (cause.CheckOption table b)
+IsStatementCause s k values state (cause.General st) = ⊤
+
+-- the procedure has a statement without a fault, of which this is a cause
+pub record HasCause (s : Session) (procedure : ℕ) (values : List Value) (c : Cause) : Type 0 where
+  pub kind : Kind
+  pub at : kind_at s.procedures procedure ≡ Some kind
+  pub cause : IsStatementCause s.schemas kind (started_values (read_parameters kind) values) s.state c
+
+-- ---- of a call
+
+-- What a cause says is true. A general cause says the status alone.
+abbrev pub IsCause : Session → ℕ → List Value → Cause → Type 0
+IsCause s procedure values (cause.Fault f) = fault_at s.procedures procedure ≡ Some f
+IsCause s procedure values (cause.Cursor c) = HasCause s procedure values (cause.Cursor c)
+IsCause s procedure values (cause.Breach table b) = HasCause s procedure values (cause.Breach table b)
+IsCause s procedure values (cause.CheckOption table b) = HasCause s procedure values (cause.CheckOption table b)
+IsCause s procedure values (cause.General st) = ⊤

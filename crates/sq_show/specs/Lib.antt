@@ -1,0 +1,15 @@
+pub mod Before
+pub mod Breach
+pub mod Broken
+pub mod CallWords
+pub mod Cause
+pub mod Cursor
+pub mod Item
+pub mod Json
+pub mod Made
+pub mod Mark
+pub mod Option
+pub mod Place
+pub mod Taken
+pub mod Traced
+pub mod Words

@@ -1,0 +1,91 @@
+//! What is to be said of a call that did not end with 00000.
+
+ghost use Rattle.std.specs.Prelude.{◌≡◌};
+ghost use Rattle.sq_show.specs.Cause.{status_of};
+
+use sq_meaning::Status;
+use sq_session::Fault;
+
+/// Why a call did not end with 00000. Tables, columns, keys and cursors stand in it by their places.
+#[derive(Clone, Copy)]
+pub enum Cause {
+    /// The statement has this fault, and each call of it ends with 42000.
+    Fault(Fault),
+    /// The statement can't use its cursor.
+    Cursor(CursorCause),
+    /// A constraint would not hold of the base table at this place.
+    Breach(usize, Breach),
+    /// A row that the statement would put in the base table at this place would not be one of the view.
+    CheckOption(usize, OptionBreach),
+    /// The status alone.
+    General(Status),
+}
+
+/// A row that a statement would put in its table.
+#[derive(Clone, Copy)]
+pub struct RowPut {
+    /// The place of its change among those of the statement, from 0.
+    pub place: usize,
+    /// The number of the row that it would take the place of; a new row has none.
+    pub number: Option<u64>,
+}
+
+/// A constraint that would not hold of the table that a statement changes.
+#[derive(Clone, Copy)]
+pub enum Breach {
+    /// A row would be null in this column, which is NOT NULL.
+    NotNull(RowPut, usize),
+    /// This CHECK would be false of a row.
+    Check(RowPut, usize),
+    /// A row would have the same values in this key as the row of the table under this number.
+    KeyOfRow(RowPut, usize, u64),
+    /// A row would have the same values in this key as another row that the statement puts in.
+    KeyOfPut(RowPut, usize, RowPut),
+    /// A row would refer by this reference to no row.
+    RefersToNone(RowPut, usize),
+    /// A row would be gone to which another refers.
+    IsReferredTo(Referring),
+}
+
+/// A row that would not meet a check option: the condition of the view at this level, counted from 0 and from inside out.
+#[derive(Clone, Copy)]
+pub struct OptionBreach {
+    pub put: RowPut,
+    pub level: usize,
+}
+
+/// A row that refers to another: its table, which of the table's references, and the number of the row.
+#[derive(Clone, Copy)]
+pub struct Referring {
+    pub table: usize,
+    pub reference: usize,
+    pub number: u64,
+}
+
+/// Why a statement can't use the cursor with this number.
+#[derive(Clone, Copy)]
+pub enum CursorCause {
+    /// OPEN of a cursor that is open.
+    IsOpen(usize),
+    /// FETCH or CLOSE of a cursor that is closed, or a positioned statement on it.
+    IsClosed(usize),
+    /// A positioned statement on a cursor that is on no row.
+    IsOnNoRow(usize),
+    /// A positioned statement on a cursor whose row is gone: the row of this number.
+    RowIsGone(usize, u64),
+}
+
+impl Cause {
+    /// The status with which the call ended.
+    pub fn status(&self) -> Status
+        ensures { result ≡ status_of self.now }
+    {
+        match self {
+            Cause::Fault(_) => Status::SyntaxErrorOrAccessRuleViolation,
+            Cause::Cursor(_) => Status::InvalidCursorState,
+            Cause::Breach(..) => Status::IntegrityConstraintViolation,
+            Cause::CheckOption(..) => Status::CheckOptionViolation,
+            Cause::General(status) => *status,
+        }
+    }
+}

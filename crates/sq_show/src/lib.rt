@@ -1,0 +1,55 @@
+//! What is shown of a run beside its report.
+//!
+//! - Why a call did not end with 00000: the constraint and the row, the cursor and where it stands, the fault of the statement. A call
+//!   that fails changes no table, and a FETCH that fails stays on the row that it reached. So a cause is found anew, after the call,
+//!   from the session as it is then: calls pay nothing for it. What a cause says is a definition (`specs/Cause.antt`); that it is
+//!   the first of several is not promised.
+//! - A trace: to the lines of the report come lines that say what each call was, what it changed and where its cursor stands. These
+//!   begin with two blanks and `--`, and the report is what is left without them. And a page that steps through a run.
+//! - A shell: where an item ends that is typed, what a session does with one after the other, and what the session has.
+#![tactic(auto)]
+
+mod before;
+mod breach;
+mod breach_words;
+mod call_words;
+mod cause;
+mod changes;
+mod changing;
+mod constraint;
+mod cursor;
+mod cursors;
+mod item;
+mod json;
+mod key_breach;
+mod listing;
+mod look;
+mod made;
+mod mark;
+mod notes;
+mod option_breach;
+mod option_words;
+mod page;
+mod place;
+mod put;
+mod reference_breach;
+mod row_breach;
+mod shell;
+mod table;
+mod template;
+mod told;
+mod trace;
+mod value_words;
+mod words;
+
+pub use before::{Before, look_before};
+pub use cause::{Breach, Cause, CursorCause, OptionBreach, Referring, RowPut};
+pub use item::item_size;
+pub use listing::{write_cursors, write_procedures, write_procedures_of, write_tables};
+pub use page::trace_page;
+pub use place::{Place, place_in};
+pub use shell::Shell;
+pub use sq_session::Session;
+pub use told::why;
+pub use trace::{TraceFault, TraceOptions, trace_action, trace_all};
+pub use words::write_cause;

@@ -1,0 +1,162 @@
+//! Why a call did not end with 00000.
+
+ghost use Rattle.std.specs.Prelude.{◌≡◌, ◌⊎◌, IfOk, IfSome, Some, is_some, map, not, true};
+ghost use Rattle.sq_catalog.specs.Catalog.{column_kinds};
+ghost use Rattle.sq_meaning.specs.Script.{fit};
+ghost use Rattle.sq_session.specs.Asked.{IsAsked};
+ghost use Rattle.sq_session.specs.Called.{IsWholeFor, MayPerform, kind_for};
+ghost use Rattle.sq_session.specs.Cursors.{IsWhole};
+ghost use Rattle.sq_session.specs.Kind.{kind_of};
+ghost use Rattle.sq_session.specs.Parameter.{declared, started_values};
+ghost use Rattle.sq_session.specs.Schemas.{schemas_of};
+ghost use Rattle.sq_session.specs.State.{state_of};
+ghost use Rattle.sq_session.specs.Step.{is_success};
+ghost use Rattle.sq_show.specs.Cause.{IsCause, IsStatementCause, status_of};
+
+use crate::before::Before;
+use crate::breach::breach_of;
+use crate::cause::Cause;
+use crate::cursor::cursor_cause;
+use sq_bound::BoundStatement;
+use sq_meaning::Status;
+use sq_module::BoundProcedure;
+use sq_session::{Called, Inside, Reply, Session, started_values};
+use sq_store::Store;
+use sq_value::Value;
+use std::alloc::{AllocError, Global};
+
+/// Why a call that was answered with `reply` did not end with 00000; `None` where it did. Asked right after the call, of the same
+/// procedure and values; `before` was looked at right before it.
+///
+/// What the cause says is true of the session as it is, and its status is that of the reply. Where no cause can be told, it is the
+/// general one, which says no more than the status.
+#[tactic(auto, using(crate::proofs::Causes::kept_cause))]
+pub fn why<S: Store>(
+    alloc: Global,
+    session: &Session<S>,
+    before: Before,
+    procedure: usize,
+    values: &[Value],
+    reply: &Reply,
+) -> Result<Option<Cause>, AllocError>
+    ensures has { IfOk result (λ cause. is_some cause ≡ not (is_success reply.now.status)) }
+    ensures status { IfOk result (λ found. IfSome found (λ cause. status_of cause ≡ reply.now.status)) }
+    ensures is { IfOk result (λ found. IfSome found (IsCause session.now procedure values.now)) }
+{
+    match reply.status {
+        Status::SuccessfulCompletion => Ok(None),
+        status => {
+            let found = told(alloc, session, before, procedure, values, status)?;
+            Ok(Some(with_status(found, status)))
+        }
+    }
+}
+
+/// The cause, if its status is this one; else the general cause.
+fn with_status(found: Option<Cause>, status: Status) -> Cause
+    ensures status { status_of result ≡ status }
+    ensures same { (result ≡ Cause.General status) ⊎ (Some result ≡ found) }
+{
+    match found {
+        Some(cause) => {
+            if cause.status() == status {
+                cause
+            } else {
+                Cause::General(status)
+            }
+        }
+        None => Cause::General(status),
+    }
+}
+
+/// What is to be told of a call that ended with a status.
+fn told<S: Store>(
+    alloc: Global,
+    session: &Session<S>,
+    before: Before,
+    procedure: usize,
+    values: &[Value],
+    status: Status,
+) -> Result<Option<Cause>, AllocError>
+    ensures { IfOk result (λ found. IfSome found (IsCause session.now procedure values.now)) }
+{
+    if !session.fits(procedure, values) {
+        return Ok(None);
+    }
+    let inside = session.inside();
+    let Some((_, called)) = inside.program.procedures.get_index(procedure) else {
+        return Ok(None);
+    };
+    match &called.statement {
+        Err(fault) => Ok(Some(Cause::Fault(*fault))),
+        Ok(statement) => { of_statement(alloc, &inside, before, called, statement, values, status) }
+    }
+}
+
+/// What is to be told of a statement without a fault.
+fn of_statement<S: Store>(
+    alloc: Global,
+    inside: &Inside<'_, S>,
+    before: Before,
+    procedure: &BoundProcedure,
+    statement: &BoundStatement,
+    values: &[Value],
+    status: Status,
+) -> Result<Option<Cause>, AllocError>
+    requires asked { IsAsked (column_kinds inside.now.catalog.now) inside.now.catalog.now.bases
+        inside.now.program.now.cursors.items procedure.now.parameters statement.now }
+    requires values_fit { fit (map declared procedure.now.parameters) values.now ≡ true }
+    requires whole { IsWhole (column_kinds inside.now.catalog.now) inside.now.catalog.now.bases
+        inside.now.program.now.cursors.items
+        (state_of (S.content_now inside.now.store.now) (S.committed inside.now.store.now)
+        (S.key_columns inside.now.store.now) (S.row_numbers inside.now.store.now) inside.now.cursors.now) }
+    ensures { IfOk result (λ found. IfSome found (IsStatementCause (schemas_of inside.now.catalog.now)
+        (kind_of inside.now.program.now.cursors.items procedure.now.user procedure.now.parameters statement.now)
+        (started_values procedure.now.parameters values.now)
+        (state_of (S.content_now inside.now.store.now) (S.committed inside.now.store.now)
+        (S.key_columns inside.now.store.now) (S.row_numbers inside.now.store.now) inside.now.cursors.now))) }
+{
+    let values = started_values(alloc, procedure.parameters.as_slice(), values)?;
+    let called = Called {
+        alloc,
+        catalog: inside.catalog,
+        cursors: inside.program.cursors.as_slice(),
+        procedure,
+        values: values.as_slice(),
+    };
+    let found = with_values(&called, inside, before, statement, status);
+    drop(values);
+    found
+}
+
+/// What is to be told of a statement, with the values at which its parameters start.
+fn with_values<S: Store>(
+    called: &Called<'_>,
+    inside: &Inside<'_, S>,
+    before: Before,
+    statement: &BoundStatement,
+    status: Status,
+) -> Result<Option<Cause>, AllocError>
+    requires may { MayPerform called.now statement.now }
+    requires whole { IsWholeFor called.now
+        (state_of (S.content_now inside.now.store.now) (S.committed inside.now.store.now)
+        (S.key_columns inside.now.store.now) (S.row_numbers inside.now.store.now) inside.now.cursors.now) }
+    ensures { IfOk result (λ found. IfSome found (IsStatementCause (schemas_of called.now.catalog.now)
+        (kind_for called.now statement.now) called.now.values.now
+        (state_of (S.content_now inside.now.store.now) (S.committed inside.now.store.now)
+        (S.key_columns inside.now.store.now) (S.row_numbers inside.now.store.now) inside.now.cursors.now))) }
+{
+    let _ = before;
+    match status {
+        Status::InvalidCursorState => {
+            match cursor_cause(called, statement, inside.cursors, inside.store) {
+                Some(cause) => Ok(Some(Cause::Cursor(cause))),
+                None => Ok(None),
+            }
+        }
+        Status::IntegrityConstraintViolation | Status::CheckOptionViolation => {
+            breach_of(called, inside, statement, status)
+        }
+        _ => Ok(None),
+    }
+}

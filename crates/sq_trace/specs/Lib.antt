@@ -1,4 +1,0 @@
-pub mod Mark
-pub mod CallWords
-pub mod Json
-pub mod Traced
