@@ -41,23 +41,23 @@ pub struct Part {
 
 /// What is said of a place in a text.
 #[derive(Clone, Copy)]
-pub struct Item<'a> {
+pub struct Item<'f, 't, 's, 'd> {
     pub weight: Weight,
     /// The name of the text's file.
-    pub file: &'a str,
-    pub text: &'a [u8],
+    pub file: &'f str,
+    pub text: &'t [u8],
     pub line: usize,
     pub column: usize,
     pub part: Option<Part>,
-    pub says: &'a str,
-    pub advice: Option<&'a Advice>,
+    pub says: &'s str,
+    pub advice: Option<&'d Advice>,
 }
 
 /// Adds an item in a form.
 pub fn write_item(
     out: &mut Vec<u8>,
     alloc: Global,
-    item: &Item<'_>,
+    item: &Item<'_, '_, '_, '_>,
     form: Form,
 ) -> Result<(), AllocError> {
     match form {
@@ -69,7 +69,7 @@ pub fn write_item(
 }
 
 /// Adds an item's line, if it is a refusal or a fault.
-fn write_grave(out: &mut Vec<u8>, alloc: Global, item: &Item<'_>) -> Result<(), AllocError> {
+fn write_grave(out: &mut Vec<u8>, alloc: Global, item: &Item<'_, '_, '_, '_>) -> Result<(), AllocError> {
     match item.weight {
         Weight::Refusal | Weight::Fault => write_line(out, alloc, item),
         Weight::Warning | Weight::Remark => Ok(()),
@@ -77,7 +77,7 @@ fn write_grave(out: &mut Vec<u8>, alloc: Global, item: &Item<'_>) -> Result<(), 
 }
 
 /// Adds an item's line, if it is no warning.
-fn write_sure(out: &mut Vec<u8>, alloc: Global, item: &Item<'_>) -> Result<(), AllocError> {
+fn write_sure(out: &mut Vec<u8>, alloc: Global, item: &Item<'_, '_, '_, '_>) -> Result<(), AllocError> {
     match item.weight {
         Weight::Warning => Ok(()),
         _ => write_line(out, alloc, item),
@@ -85,7 +85,7 @@ fn write_sure(out: &mut Vec<u8>, alloc: Global, item: &Item<'_>) -> Result<(), A
 }
 
 /// Adds an item's line and its advice.
-fn write_with_words(out: &mut Vec<u8>, alloc: Global, item: &Item<'_>) -> Result<(), AllocError> {
+fn write_with_words(out: &mut Vec<u8>, alloc: Global, item: &Item<'_, '_, '_, '_>) -> Result<(), AllocError> {
     write_line(out, alloc, item)?;
     match item.advice {
         Some(advice) => write_advice(out, alloc, item.text, advice),
@@ -94,7 +94,7 @@ fn write_with_words(out: &mut Vec<u8>, alloc: Global, item: &Item<'_>) -> Result
 }
 
 /// Adds an item's line.
-fn write_line(out: &mut Vec<u8>, alloc: Global, item: &Item<'_>) -> Result<(), AllocError> {
+fn write_line(out: &mut Vec<u8>, alloc: Global, item: &Item<'_, '_, '_, '_>) -> Result<(), AllocError> {
     if item.weight == Weight::Refusal {
         out.extend_from_slice(b"sqmod: ")?;
     }

@@ -9,7 +9,7 @@ use std::alloc::{AllocError, Global};
 pub(crate) fn write_object(
     out: &mut Vec<u8>,
     alloc: Global,
-    item: &Item<'_>,
+    item: &Item<'_, '_, '_, '_>,
 ) -> Result<(), AllocError> {
     out.extend_from_slice(b"{\"file\":")?;
     write_text(out, item.file.as_bytes())?;

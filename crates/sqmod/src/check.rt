@@ -49,10 +49,10 @@ pub(crate) fn status_of_check<R: Files + Print + Eprint + AllocGlobal>(
 }
 
 /// Reads the script, if there is one, and gives the status of the check.
-fn status_of_files<R: Files + Print + Eprint + AllocGlobal>(
+fn status_of_files<'a, R: Files + Print + Eprint + AllocGlobal>(
     rt: &R,
-    asked: &CheckRequest<'_>,
-    sources: &Sources,
+    asked: &'a CheckRequest<'a>,
+    sources: &'a Sources,
 ) -> u8 {
     match asked.script {
         Some(file) => status_of_script(rt, asked, sources, file),
@@ -61,23 +61,33 @@ fn status_of_files<R: Files + Print + Eprint + AllocGlobal>(
 }
 
 /// Reads the script, and gives the status of the check.
-fn status_of_script<R: Files + Print + Eprint + AllocGlobal>(
+fn status_of_script<'a, R: Files + Print + Eprint + AllocGlobal>(
     rt: &R,
-    asked: &CheckRequest<'_>,
-    sources: &Sources,
-    file: &str,
+    asked: &'a CheckRequest<'a>,
+    sources: &'a Sources,
+    file: &'a str,
 ) -> u8 {
     match fs::read(rt, file) {
         Ok(text) => {
-            let script = Script {
-                file,
-                text: text.as_slice(),
-            };
-            let checking = checking_of(asked, sources, Some(script));
-            status_of_texts(rt, rt.alloc(), &checking)
+            let status = status_over(rt, asked, sources, file, text.as_slice());
+            drop(text);
+            status
         }
         Err(_) => report_of_file(rt, file, Fault::Unread(Source::Script)),
     }
+}
+
+/// Gives the status of the check of texts and a script.
+fn status_over<'a, R: Print + Eprint + AllocGlobal>(
+    rt: &R,
+    asked: &'a CheckRequest<'a>,
+    sources: &'a Sources,
+    file: &'a str,
+    text: &'a [u8],
+) -> u8 {
+    let script = Some(Script { file, text });
+    let checking = checking_of(asked, sources, script);
+    status_of_texts(rt, rt.alloc(), &checking)
 }
 
 fn checking_of<'a>(

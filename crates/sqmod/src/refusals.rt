@@ -120,6 +120,7 @@ fn write_refusal(
     let start = offset_of(text, refusal.line, refusal.column);
     let meaning = meaning_of(says.as_str(), part_of(source));
     let advice = Advice::at(alloc, text, start).explained(meaning.as_bytes())?;
+    let beside = Some(&advice);
     let item = Item {
         weight: Weight::Refusal,
         file,
@@ -128,7 +129,7 @@ fn write_refusal(
         column: refusal.column,
         part: None,
         says: says.as_str(),
-        advice: Some(&advice),
+        advice: beside,
     };
     write_item(out, alloc, &item, checking.form)
 }
@@ -168,6 +169,7 @@ fn write_trouble(
 ) -> Result<(), AllocError> {
     let place = Position::of(text, trouble.advice.start);
     let says = format!(in alloc; "{}", trouble.what)?;
+    let beside = Some(&trouble.advice);
     let item = Item {
         weight: Weight::Refusal,
         file,
@@ -176,7 +178,7 @@ fn write_trouble(
         column: place.column,
         part: None,
         says: says.as_str(),
-        advice: Some(&trouble.advice),
+        advice: beside,
     };
     write_item(out, alloc, &item, form)
 }

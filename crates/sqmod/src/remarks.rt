@@ -4,7 +4,7 @@ use crate::fault::Source;
 use crate::meanings::meaning_of;
 use crate::refusals::text_of;
 use sq_advice::{
-    Doubt, Form, Item, Module, NameKind, Part, Slip, Subject, Weight, slips_of, write_item,
+    Advice, Doubt, Form, Item, Module, NameKind, Part, Slip, Subject, Weight, slips_of, write_item,
 };
 use sq_items::Items;
 use sq_lex::{Name, Position};
@@ -98,15 +98,17 @@ fn write_remark(
         Remark::NotUpdatable(rule) => format!(in alloc; "not updatable: {rule}")?,
         _ => format!(in alloc; "updatable")?,
     };
+    let part = Some(part_of(note));
+    let beside: Option<&Advice> = None;
     let item = Item {
         weight: Weight::Remark,
         file,
-        text: b"",
+        text: &[],
         line: note.line,
         column: note.column,
-        part: Some(part_of(note)),
+        part,
         says: says.as_str(),
-        advice: None,
+        advice: beside,
     };
     write_item(out, alloc, &item, form)
 }
@@ -144,15 +146,18 @@ fn write_fault(
     let advice = module
         .advice(alloc, note.line, note.column, subject)?
         .explained(meaning.as_bytes())?;
+    let text = module.text();
+    let part = Some(part_of(note));
+    let beside = Some(&advice);
     let item = Item {
         weight: Weight::Fault,
         file,
-        text: module.text(),
+        text,
         line: note.line,
         column: note.column,
-        part: Some(part_of(note)),
+        part,
         says: says.as_str(),
-        advice: Some(&advice),
+        advice: beside,
     };
     write_item(out, alloc, &item, form)
 }
@@ -213,15 +218,18 @@ fn write_slip(
         }
         Doubt::NeverFetched => format!(in alloc; "the cursor is never fetched")?,
     };
+    let text = module.text();
+    let part = Some(slip.part);
+    let beside = Some(&slip.advice);
     let item = Item {
         weight: Weight::Warning,
         file,
-        text: module.text(),
+        text,
         line: place.line,
         column: place.column,
-        part: Some(slip.part),
+        part,
         says: says.as_str(),
-        advice: Some(&slip.advice),
+        advice: beside,
     };
     write_item(out, alloc, &item, form)
 }

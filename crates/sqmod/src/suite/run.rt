@@ -194,11 +194,11 @@ fn status_of_files<R: Files + AllocGlobal>(
 }
 
 /// Checks texts, in a line for each thing that is said.
-fn status_of_sources(
+fn status_of_sources<'a>(
     kept: &Kept,
     alloc: Global,
-    request: &TextsRequest<'_>,
-    sources: &Sources,
+    request: &'a TextsRequest<'a>,
+    sources: &'a Sources,
 ) -> u8 {
     let checking = Checking {
         request,
