@@ -25,10 +25,10 @@ pub returns : goal.returns
 returns c =
     let outcome = c.outcome_of_run-outcome.result in
     let is : c.code.result ≡ code (answer_in outcome c.args.room.now) = c.code.ensures ∙ ap code c.put.ensures.answer in
-    record
-      { outcome = outcome
-      ; is = c.outcome_of_run-outcome.ensures
-      ; answered = ap (λ z. to_z w32 (of_z w32 z)) is ∙ same_code (answer_in outcome c.args.room.now)
-      ; room = c.put.ensures.room
-      ; counted = c.put.ensures.count
-      }
+    record {
+      outcome = outcome;
+      is = c.outcome_of_run-outcome.ensures;
+      answered = ap (λ z. to_z w32 (of_z w32 z)) is ∙ same_code (answer_in outcome c.args.room.now);
+      room = c.put.ensures.room;
+      counted = c.put.ensures.count;
+    }
