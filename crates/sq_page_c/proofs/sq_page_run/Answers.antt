@@ -2,7 +2,7 @@ use Rattle.std.proofs.Common.{◌≡◌, ◌∙◌, ap, refl, of_z, to_z, w32}
 use Rattle.sq_exchange.specs.Answer.{code}
 use Rattle.sq_exchange.specs.declared.answer.Answer.{Answer}
 use Rattle.sq_exchange.specs.declared.answer.Answer.TheVariants.{Done, NotOpen, AlreadyOpen, Refused, NoMemory, Unknown, BadValue, BadArguments, OtherKind, NullPointer, NoRoom, IsNull, NoRow}
-use Rattle.sq_page_c.specs.Shown.{IsShown, answer_in}
+use Rattle.sq_page_c.specs.Shown.{answer_in}
 use Rattle.sq_page_c.proofs.sq_page_run.Goals as goal
 
 -- All codes fit in 32 bits.
