@@ -94,12 +94,6 @@ class Tab:
         for kind in ("keyDown", "keyUp"):
             self.ask("Input.dispatchKeyEvent", type=kind, key=key, code=key, windowsVirtualKeyCode=CODES[key])
 
-    def picture(self, path):
-        """Writes a picture of the page to a file."""
-        import base64
-        with open(path, "wb") as file:
-            file.write(base64.b64decode(self.ask("Page.captureScreenshot", format="png")["data"]))
-
 
 @contextlib.contextmanager
 def opened(chromium, address):

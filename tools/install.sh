@@ -51,9 +51,10 @@ put "$room/completions/sqmod.bash" share/bash-completion/completions/sqmod
 put "$room/completions/_sqmod" share/zsh/site-functions/_sqmod
 put "$room/completions/sqmod.fish" share/fish/vendor_completions.d/sqmod.fish
 
-for page in README.md CHANGELOG.md LICENSE NOTICES docs/{TOUR,LANGUAGE,COMING_FROM,STATUSES,SUITES,HOST,BROWSER}.md docs/trace.png; do
+for page in README.md CHANGELOG.md LICENSE NOTICES docs/{TOUR,LANGUAGE,COMING_FROM,STATUSES,SUITES,HOST,BROWSER}.md docs/{trace,browser}.png; do
   put "$root/$page" "share/doc/sqmod/$page"
 done
+
 # The page for browsers, where tools/build_page.py has built it of the sources as they are.
 page=crates/sq_page_c/out/page/index.html
 if [ -e "$root/$page" ] && [ -z "$(cd "$root" && find crates/*/src page -type f -newer $page -print -quit)" ]; then

@@ -1,5 +1,5 @@
 -- What the answer to a run that stopped says.
-use Rattle.std.proofs.Common.{◌≡◌, ℕ, List}
+use Rattle.std.proofs.Common.{ℕ, List}
 use Rattle.sq_exchange.specs.declared.answer.Answer.{Answer}
 use Rattle.sq_exchange.specs.declared.answer.Answer.TheVariants.{Done, NotOpen, AlreadyOpen, Refused, NoMemory, Unknown, BadValue, BadArguments, OtherKind, NullPointer, NoRoom, IsNull, NoRow}
 use Rattle.sq_meaning.specs.Report.{Bytes}

@@ -29,7 +29,13 @@ pub(crate) fn outcome_of_run(
         return without_text(alloc, Answer::NoMemory);
     };
     let outcome = match texts_of(alloc, modules, module_lengths) {
-        Ok(modules) => report_of(alloc, schemas.as_slice(), modules.as_slice(), script, row_numbers),
+        Ok(modules) => report_of(
+            alloc,
+            schemas.as_slice(),
+            modules.as_slice(),
+            script,
+            row_numbers,
+        ),
         Err(_) => without_text(alloc, Answer::NoMemory),
     };
     drop(schemas);
@@ -61,7 +67,10 @@ fn report_of(
     );
     let report = out.into_writer();
     match ended {
-        Ok(()) => Outcome { answer: Answer::Done, text: report },
+        Ok(()) => Outcome {
+            answer: Answer::Done,
+            text: report,
+        },
         Err(fault) => {
             drop(report);
             stopped(alloc, fault)

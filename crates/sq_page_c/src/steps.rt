@@ -23,7 +23,13 @@ pub(crate) fn outcome_of_steps(
         return without_text(alloc, Answer::NoMemory);
     };
     let outcome = match texts_of(alloc, modules, module_lengths) {
-        Ok(modules) => steps_of(alloc, schemas.as_slice(), modules.as_slice(), script, row_numbers),
+        Ok(modules) => steps_of(
+            alloc,
+            schemas.as_slice(),
+            modules.as_slice(),
+            script,
+            row_numbers,
+        ),
         Err(_) => without_text(alloc, Answer::NoMemory),
     };
     drop(schemas);

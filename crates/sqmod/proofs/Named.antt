@@ -3,7 +3,6 @@ use Rattle.std.proofs.Common.{◌≡◌, ◌<◌, ℕ, List, length, map, Option
 use Rattle.std.proofs.lemmas.List.{length-map}
 use Rattle.std.proofs.lemmas.Option.{slice_get_within}
 use Rattle.std.specs.declared.alloc.Global.{Global}
-use Rattle.sq_session.specs.Session.{Session}
 use Rattle.sq_perform.specs.Fault.{IsOpeningFault, IsScriptFault}
 use Rattle.sq_perform.specs.Texts.{texts}
 use Rattle.sq_perform.specs.declared.refusal.RunFault.{RunFault}
@@ -25,7 +24,7 @@ names_one schemas modules script (Write bytes) h = tt
 names_one schemas modules script (NoMemory items) h = tt
 
 -- A script is the only text of its kind.
-pub script_one : (start : Session) (script : List ℕ) (fault : RunFault) → IsScriptFault start script fault → (schemas modules : ℕ) → NamesOneOf schemas modules (fault_of fault)
+pub script_one : (start : _) (script : List ℕ) (fault : RunFault) → IsScriptFault start script fault → (schemas modules : ℕ) → NamesOneOf schemas modules (fault_of fault)
 script_one start script (SchemaRefused refusal) h schemas modules = absurd h
 script_one start script (ModuleRefused refusal) h schemas modules = absurd h
 script_one start script (ScriptRefused refusal) h schemas modules = tt

@@ -2,7 +2,7 @@ use Rattle.std.proofs.Common.{◌≡◌, ◌∙◌, ap, refl, of_z, to_z, w32}
 use Rattle.sq_exchange.specs.Answer.{code}
 use Rattle.sq_exchange.specs.declared.answer.Answer.{Answer}
 use Rattle.sq_exchange.specs.declared.answer.Answer.TheVariants.{Done, NotOpen, AlreadyOpen, Refused, NoMemory, Unknown, BadValue, BadArguments, OtherKind, NullPointer, NoRoom, IsNull, NoRow}
-use Rattle.sq_page_c.specs.Shown.{IsShown, answer_in}
+use Rattle.sq_page_c.specs.Shown.{answer_in}
 use Rattle.sq_page_c.proofs.sq_page_run.Goals as goal
 
 -- All codes fit in 32 bits.
@@ -25,10 +25,10 @@ pub returns : goal.returns
 returns c =
     let outcome = c.outcome_of_run-outcome.result in
     let is : c.code.result ≡ code (answer_in outcome c.args.room.now) = c.code.ensures ∙ ap code c.put.ensures.answer in
-    record
-      { outcome = outcome
-      ; is = c.outcome_of_run-outcome.ensures
-      ; answered = ap (λ z. to_z w32 (of_z w32 z)) is ∙ same_code (answer_in outcome c.args.room.now)
-      ; room = c.put.ensures.room
-      ; counted = c.put.ensures.count
-      }
+    record {
+      outcome = outcome;
+      is = c.outcome_of_run-outcome.ensures;
+      answered = ap (λ z. to_z w32 (of_z w32 z)) is ∙ same_code (answer_in outcome c.args.room.now);
+      room = c.put.ensures.room;
+      counted = c.put.ensures.count;
+    }
