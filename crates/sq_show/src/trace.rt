@@ -105,7 +105,7 @@ fn trace_call<S: Store>(
     ensures procedures { session.new.procedures ≡ session.old.procedures }
     ensures tables { session.new.tables ≡ session.old.tables }
 {
-    let before = Look::at(alloc, session)?;
+    let before = Look::at(alloc, session, call.procedure)?;
     let ended = called(alloc, session, call, &before, options, lines);
     drop(before);
     ended
@@ -127,7 +127,7 @@ fn called<S: Store>(
 {
     let reply = session.call(alloc, call.procedure, call.values.as_slice())?;
     write_call(alloc, call, &reply, lines)?;
-    let notes = notes_of(alloc, session, call, before, options)?;
+    let notes = notes_of(alloc, session, call, before, &reply, options)?;
     push_marked(lines, notes.as_slice())?;
     Ok(fails(reply.status))
 }
