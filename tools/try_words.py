@@ -88,6 +88,9 @@ CHECK_OPTIONS = """\
 Options:
       --schema <F>  A file with schemas
       --module <F>  A file with a module
+      --script <F>  A file with a script
+      --quiet       Says nothing but refusals and faults
+      --json        Prints an object of JSON for each line
   -h, --help        Print help
 """
 
@@ -114,7 +117,7 @@ Usage: sqmod <COMMAND>
 
 Commands:
   run         Runs a script
-  check       Says which calls answer 42000 and why, and which cursors and views are updatable
+  check       Says what is wrong in texts, and which cursors and views are updatable
   explain     Explains a status, a refusal or a fault, or lists their names
   test        Runs the cases below folders, and says which come to what they want
   bind-c      Prints a header for C with a function for each procedure
@@ -127,7 +130,7 @@ Options:
   -V, --version  Print version
 """),
     ("run --help", "Runs a script\n\nUsage: sqmod run [OPTIONS] --script <F>\n\n" + RUN_OPTIONS),
-    ("check --help", "Says which calls answer 42000 and why, and which cursors and views are updatable\n\n"
+    ("check --help", "Says what is wrong in texts, and which cursors and views are updatable\n\n"
                      "Usage: sqmod check [OPTIONS]\n\n" + CHECK_OPTIONS),
     ("explain --help", """\
 Explains a status, a refusal or a fault, or lists their names
