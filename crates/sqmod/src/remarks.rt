@@ -82,7 +82,10 @@ fn write_notes(
             None => {}
         }
     }
-    write_slips(out, alloc, form, file, module)
+    match form {
+        Form::Words | Form::Json => write_slips(out, alloc, form, file, module),
+        Form::Quiet | Form::Lines => Ok(()),
+    }
 }
 
 /// Adds whether a cursor or a view is updatable.

@@ -194,7 +194,16 @@ fn status_of_files<R: Files + AllocGlobal>(
 }
 
 /// Checks texts, in a line for each thing that is said.
-fn status_of_sources<'a>(
+fn status_of_sources(
+    kept: &Kept,
+    alloc: Global,
+    request: &TextsRequest<'_>,
+    sources: &Sources,
+) -> u8 {
+    status_in_lines(kept, alloc, request, sources)
+}
+
+fn status_in_lines<'a>(
     kept: &Kept,
     alloc: Global,
     request: &'a TextsRequest<'a>,
