@@ -104,6 +104,7 @@ def archive(room):
     """The crate, proved, as an archive for wasm64."""
     folders = libraries()
     words = build_library.build_over(folders, NAME, room / "library.a", toolchain(room / "toolchain"))
+    words += ["--jobs", "2"]
     done = subprocess.run(words, cwd=CRATE, stdin=subprocess.DEVNULL, capture_output=True, text=True)
     if done.returncode:
         sys.exit("build_page: rattle built no library; it said:\n" + done.stdout[-3000:] + done.stderr[-3000:])

@@ -57,7 +57,7 @@ done
 
 # The page for browsers, where tools/build_page.py has built it of the sources as they are.
 page=crates/sq_page_c/out/page/index.html
-if [ -e "$root/$page" ] && [ -z "$(cd "$root" && find crates/*/src page -type f -newer $page -print -quit)" ]; then
+if [ -e "$root/$page" ] && [ -z "$(cd "$root" && find crates/*/src page examples/tour docs/TOUR.md tools/build_page.py -type f -newer $page -print -quit)" ]; then
   put "$root/$page" share/sqmod/page/index.html
 fi
 

@@ -128,8 +128,8 @@ def try_browser(page, program):
             wrong += [f"{folder.name}: {fault}"] if fault else []
             if folder.name == "06-what-cursors-see" and stated(steps_shown(shown)) != STEPS.read_text():
                 wrong.append(f"{folder.name}: what is marked, or where its cursors stand")
-        wrong += try_address(shown) + try_refusal(shown)
-    print(f"The page in Chromium: {len(folders)} steps of the tour, its address, and a refusal, {len(wrong)} differ")
+        wrong += try_address(shown) + try_refusal(shown) + try_sending(shown)
+    print(f"The page in Chromium: {len(folders)} steps of the tour, its address, a refusal, and sending, {len(wrong)} differ")
     return wrong
 
 
@@ -148,6 +148,19 @@ def try_refusal(shown):
     shown.wait("document.getElementById('note').textContent === 'refused'")
     found = shown.value("[document.getElementById('report').textContent, document.getElementById('script').selectionStart]")
     return [] if found == ["script 1:2:2: Unexpected", 10] else [f"a refusal: {found}"]
+
+
+# Tries to send something, from the page and from the view of the steps: what forbids it.
+SENDING = """Promise.all([window, document.getElementById('steps').contentWindow].map(it => new Promise(settled => {
+  it.document.addEventListener('securitypolicyviolation', event => settled(event.effectiveDirective));
+  it.fetch('http://127.0.0.1:9/').then(() => settled('sent'), () => setTimeout(() => settled('not forbidden'), 1000));
+})))"""
+
+
+def try_sending(shown):
+    """Whether the page may send nothing."""
+    found = shown.value(SENDING)
+    return [] if found == ["connect-src", "connect-src"] else [f"what forbids to send: {found}"]
 
 
 def main():
