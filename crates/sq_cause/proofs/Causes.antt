@@ -19,8 +19,23 @@ use Rattle.sq_cause.specs.Cause.{IsCause, IsStatementCause}
 use Rattle.sq_cause.specs.Made.{leaf_of}
 use Rattle.sq_cause.specs.declared.cause.Cause.{Cause}
 use Rattle.sq_cause.specs.declared.cause.Cause.TheVariants as cause
+use Rattle.sq_cause.specs.declared.cause.ValueCause.{ValueCause}
+use Rattle.sq_cause.specs.Value.{IsValueCause}
 
 -- ---- the values that a statement reads
+
+no_value : (k : Kind) (vs ws : List Value) (v : ValueCause) → leaf_of k ≡ None → IsValueCause k vs v → IsValueCause k ws v
+no_value (Kind.opens o) vs ws v e h = absurd h
+no_value (Kind.fetches f) vs ws v e h = absurd h
+no_value (Kind.closes n) vs ws v e h = absurd h
+no_value (Kind.selects q) vs ws v e h = absurd h
+no_value (Kind.inserts caller i) vs ws v e h = cc
+no_value (Kind.updates u) vs ws v e h = cc
+no_value (Kind.deletes caller t) vs ws v e h = cc
+no_value (Kind.updates_at u p) vs ws v e h = cc
+no_value (Kind.deletes_at caller p) vs ws v e h = cc
+no_value Kind.commits vs ws v e h = absurd h
+no_value Kind.rolls_back vs ws v e h = absurd h
 
 -- a statement that changes no table has its causes whatever the values are
 no_leaf : (s : Schemas) (k : Kind) (vs ws : List Value) (state : State) (c : Cause) → leaf_of k ≡ None → IsStatementCause s k vs state c → IsStatementCause s k ws state c
@@ -28,6 +43,8 @@ no_leaf s k vs ws state (cause.Fault f) e h = absurd h
 no_leaf s k vs ws state (cause.Cursor c) e h = h
 no_leaf s k vs ws state (cause.Breach table b) e h = let there = h.leaf_is in cc
 no_leaf s k vs ws state (cause.CheckOption table b) e h = let there = h.leaf_is in cc
+no_leaf s k vs ws state (cause.Value v) e h = no_value k vs ws v e h
+no_leaf s k vs ws state (cause.Target t) e h = h
 no_leaf s k vs ws state (cause.General st) e h = tt
 
 of_update : (u : Updating) (t : ChangeTarget) → read_parameters (update_kind u t) ≡ u.caller.parameters
@@ -68,6 +85,8 @@ one_of_call s n vs k (cause.Fault f) at h = absurd h
 one_of_call s n vs k (cause.Cursor c) at h = record { kind = k; at = at; cause = h }
 one_of_call s n vs k (cause.Breach table b) at h = record { kind = k; at = at; cause = h }
 one_of_call s n vs k (cause.CheckOption table b) at h = record { kind = k; at = at; cause = h }
+one_of_call s n vs k (cause.Value v) at h = record { kind = k; at = at; cause = h }
+one_of_call s n vs k (cause.Target t) at h = record { kind = k; at = at; cause = h }
 one_of_call s n vs k (cause.General st) at h = tt
 
 pub of_call : (s : Session) (n : ℕ) (vs : List Value) (k : Kind) (r : Result (Option Cause) AllocError) → kind_at s.procedures n ≡ Some k

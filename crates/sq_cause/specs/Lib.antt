@@ -5,4 +5,6 @@ pub mod Cause
 pub mod Cursor
 pub mod Made
 pub mod Option
+pub mod Target
+pub mod Value
 pub mod Words

@@ -19,11 +19,15 @@ mod option_words;
 mod put;
 mod reference_breach;
 mod row_breach;
+mod target;
 mod told;
+mod value;
 mod value_words;
 mod words;
 
 pub use before::{Before, look_before};
-pub use cause::{Breach, Cause, CursorCause, OptionBreach, Referring, RowPut};
+pub use cause::{
+    Breach, Cause, CursorCause, ItemFault, OptionBreach, Referring, RowPut, ValueCause, ValueFault,
+};
 pub use told::why;
 pub use words::write_cause;
