@@ -17,6 +17,7 @@ use Rattle.sq_cause.specs.Broken.{IsBroken, seen_of}
 use Rattle.sq_cause.specs.Cursor.{IsCursorCause}
 use Rattle.sq_cause.specs.Made.{IsMade, leaf_of}
 use Rattle.sq_cause.specs.Option.{IsOptionBreach}
+use Rattle.sq_cause.specs.Select.{IsSelectCause, status_of_select}
 use Rattle.sq_cause.specs.Target.{IsTargetCause, status_of_target}
 use Rattle.sq_cause.specs.Value.{IsValueCause, status_of_value}
 use Rattle.sq_cause.specs.declared.cause.Cause.{Cause}
@@ -30,6 +31,7 @@ status_of (cause.Breach table b) = status.IntegrityConstraintViolation
 status_of (cause.CheckOption table b) = status.CheckOptionViolation
 status_of (cause.Value v) = status_of_value v.fault
 status_of (cause.Target t) = status_of_target t.fault
+status_of (cause.Select c) = status_of_select c
 status_of (cause.General st) = st
 
 -- ---- of changes that are made in the base table of a leaf; these are the columns of the keys of all tables
@@ -59,6 +61,7 @@ IsStatementCause s k values state (cause.CheckOption table b) =
     ChangeCause s k values state (cause.CheckOption table b)
 IsStatementCause s k values state (cause.Value v) = IsValueCause k values v
 IsStatementCause s k values state (cause.Target t) = IsTargetCause k state.cursors state.tables t
+IsStatementCause s k values state (cause.Select c) = IsSelectCause s k values state.tables c
 IsStatementCause s k values state (cause.General st) = ⊤
 
 -- the procedure has a statement without a fault, of which this is a cause
@@ -77,4 +80,5 @@ IsCause s procedure values (cause.Breach table b) = HasCause s procedure values 
 IsCause s procedure values (cause.CheckOption table b) = HasCause s procedure values (cause.CheckOption table b)
 IsCause s procedure values (cause.Value v) = HasCause s procedure values (cause.Value v)
 IsCause s procedure values (cause.Target t) = HasCause s procedure values (cause.Target t)
+IsCause s procedure values (cause.Select c) = HasCause s procedure values (cause.Select c)
 IsCause s procedure values (cause.General st) = ⊤

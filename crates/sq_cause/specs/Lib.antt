@@ -5,6 +5,7 @@ pub mod Cause
 pub mod Cursor
 pub mod Made
 pub mod Option
+pub mod Select
 pub mod Target
 pub mod Value
 pub mod Words

@@ -2,6 +2,7 @@
 
 ghost use Rattle.std.specs.Prelude.{◌≡◌};
 ghost use Rattle.sq_cause.specs.Cause.{status_of};
+ghost use Rattle.sq_cause.specs.Select.{status_of_select};
 ghost use Rattle.sq_cause.specs.Target.{status_of_target};
 ghost use Rattle.sq_cause.specs.Value.{status_of_value};
 
@@ -24,6 +25,8 @@ pub enum Cause {
     Value(ValueCause),
     /// A target that can't take its value, or takes only a part of it.
     Target(TargetCause),
+    /// A SELECT INTO sets no target, or only a part of one.
+    Select(SelectCause),
     /// The status alone.
     General(Status),
 }
@@ -132,6 +135,30 @@ impl TargetFault {
     }
 }
 
+/// Why a SELECT INTO sets no target, or only a part of one.
+#[derive(Clone, Copy)]
+pub enum SelectCause {
+    /// Its query has no row.
+    NoRow,
+    /// Its query has more than one row.
+    SeveralRows,
+    /// A target can't take its value of the only row, or takes only a part of it.
+    Target(TargetCause),
+}
+
+impl SelectCause {
+    /// The status with which the call ended.
+    pub fn status(&self) -> Status
+        ensures { result ≡ status_of_select self.now }
+    {
+        match self {
+            SelectCause::NoRow => Status::NoData,
+            SelectCause::SeveralRows => Status::CardinalityViolation,
+            SelectCause::Target(target) => target.fault.status(),
+        }
+    }
+}
+
 /// A row that refers to another: its table, which of the table's references, and the number of the row.
 #[derive(Clone, Copy)]
 pub struct Referring {
@@ -165,6 +192,7 @@ impl Cause {
             Cause::CheckOption(..) => Status::CheckOptionViolation,
             Cause::Value(value) => value.fault.status(),
             Cause::Target(target) => target.fault.status(),
+            Cause::Select(select) => select.status(),
             Cause::General(status) => *status,
         }
     }

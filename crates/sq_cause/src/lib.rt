@@ -19,6 +19,7 @@ mod option_words;
 mod put;
 mod reference_breach;
 mod row_breach;
+mod select;
 mod target;
 mod told;
 mod value;

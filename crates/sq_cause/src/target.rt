@@ -126,7 +126,7 @@ fn numbered<'a, S: Store>(
 }
 
 /// The first target that can't take its value of a row.
-fn row_fault(
+pub(crate) fn row_fault(
     alloc: Global,
     parameters: &[ParameterDesc],
     targets: &[Output],

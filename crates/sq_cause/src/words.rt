@@ -4,7 +4,7 @@ ghost use Rattle.std.specs.Prelude.{OnOk};
 ghost use Rattle.sq_cause.specs.Words.{IsContinued};
 
 use crate::breach_words::{write_breach, write_column_of};
-use crate::cause::{Cause, CursorCause, TargetCause, TargetFault, ValueCause};
+use crate::cause::{Cause, CursorCause, SelectCause, TargetCause, TargetFault, ValueCause};
 use crate::option_words::write_option;
 use sq_bound::{Names, TablePlace};
 use sq_lex::Name;
@@ -67,6 +67,11 @@ fn write_words<S: Store>(
         Cause::CheckOption(table, breach) => write_option(session, *table, *breach, words),
         Cause::Value(cause) => write_value_cause(session, *cause, words),
         Cause::Target(cause) => write_target_cause(*cause, words),
+        Cause::Select(SelectCause::Target(cause)) => write_target_cause(*cause, words),
+        Cause::Select(SelectCause::NoRow) => words.extend_from_slice(b"the query has no row"),
+        Cause::Select(SelectCause::SeveralRows) => {
+            words.extend_from_slice(b"the query has more than one row")
+        }
         Cause::General(status) => words.extend_from_slice(meaning(*status)),
     }
 }
