@@ -46,7 +46,9 @@ mod value_words;
 mod words;
 
 pub use before::{Before, look_before};
-pub use cause::{ Breach, Cause, CursorCause, ItemFault, OptionBreach, Referring, RowPut, ValueCause, ValueFault, };
+pub use cause::{
+    Breach, Cause, CursorCause, ItemFault, OptionBreach, Referring, RowPut, ValueCause, ValueFault,
+};
 pub use item::item_size;
 pub use listing::{write_cursors, write_procedures, write_procedures_of, write_tables};
 pub use page::trace_page;
