@@ -34,8 +34,8 @@ script_one start script (NoMemory items) h schemas modules = tt
 -- A text that a check refuses is one of those that it was given.
 pub checked_one : (schemas modules : List (Vec ℕ Global)) (fault : RunFault) → IsOpeningFault (texts schemas) (texts modules) fault
     → NamesOneOf (length schemas) (length modules) (fault_of fault)
-checked_one schemas modules (SchemaRefused refusal) h = within schemas refusal.text h.text h.there
-checked_one schemas modules (ModuleRefused refusal) h = within modules refusal.text h.text h.there
+checked_one schemas modules (SchemaRefused refusal) h = within schemas refusal.text h.0.text h.0.there
+checked_one schemas modules (ModuleRefused refusal) h = within modules refusal.text h.1.text h.1.there
 checked_one schemas modules (ScriptRefused refusal) h = absurd h
 checked_one schemas modules (Write bytes) h = absurd h
 checked_one schemas modules (NoMemory items) h = tt
