@@ -1,5 +1,5 @@
 -- Laws of what texts come to: those that are accepted spell trees, and their machine keeps constraints; no text spells two trees.
-use Rattle.std.proofs.Common.{◌≡◌, ℕ, ◌+◌, List, [], ◌∷◌, map, take, Option, Some, None, Result, Ok, Err, refl, sym, ap, subst, ◌∙◌}
+use Rattle.std.proofs.Common.{◌≡◌, ℕ, ◌+◌, List, [], ◌∷◌, take, Option, Some, None, Result, Ok, Err, refl, sym, ap, subst, ◌∙◌}
 use Rattle.std.specs.Option.{option_map}
 use Rattle.sq_lex.specs.Reading.{reading}
 use Rattle.sq_lex.specs.Token.{lexemes}
@@ -34,7 +34,7 @@ use Rattle.sq_run.proofs.CallLaws.{StateHolds, failed_changes_nothing}
 use Rattle.sq_run.proofs.NameLaws.{constraints_hold_in_runs}
 use Rattle.sq_run.proofs.ReadTexts.{IsExact, modules_exact, schemas_exact, scripts_exact}
 use Rattle.sq_run.specs.Accepted.{Accepted, AcceptedSpellTrees, TextsHaveOneTree}
-use Rattle.sq_run.specs.Kept.{ConstraintsAreKept, FailuresChangeNothing, behind_first}
+use Rattle.sq_run.specs.Kept.{ConstraintsAreKept, FailuresChangeNothing}
 
 -- ---- steps that ended well
 

@@ -1,6 +1,6 @@
 -- A run over a session is one that the definitions describe: what is written is the report of what the texts come to, or the
 -- run stops for their first refusal.
-use Rattle.std.proofs.Common.{◌≡◌, ◌<◌, ℕ, zero, suc, List, [], ◌∷◌, length, take, slice_get, Option, Some, Result, Ok, Err, refl, ap, sym, subst, ◌∙◌}
+use Rattle.std.proofs.Common.{◌≡◌, ◌<◌, ℕ, zero, suc, List, [], ◌∷◌, length, take, slice_get, Option, Result, Ok, Err, refl, ap, sym, subst, ◌∙◌}
 use Rattle.std.proofs.lemmas.List.{length-map}
 use Rattle.std.specs.Prelude.{IfErr, OnOk}
 use Rattle.sq_tree.specs.Script.{script_tokens, script_depth}
@@ -14,7 +14,7 @@ use Rattle.sq_perform.specs.Refusal.{IsRefused, Matter, Tokens, Grammar, Depth, 
 use Rattle.sq_perform.specs.Refused as session
 use Rattle.sq_perform.specs.Run.{Run}
 use Rattle.sq_perform.specs.Stop as session_stop
-use Rattle.sq_perform.specs.Texts.{SomeTrees, SpellsTree}
+use Rattle.sq_perform.specs.Texts.{SomeTrees}
 use Rattle.sq_perform.specs.declared.refusal.Refusal.{Refusal}
 use Rattle.sq_perform.specs.declared.refusal.RunFault.{RunFault}
 use Rattle.sq_perform.specs.declared.refusal.RunFault.TheVariants.{SchemaRefused, ModuleRefused, ScriptRefused, Write, NoMemory}

@@ -1,9 +1,6 @@
 -- A run over a session answers what its texts come to: what is to be done, or the first refusal.
-use Rattle.std.proofs.Common.{◌≡◌, ℕ, zero, suc, ◌<◌, List, length, map, take, slice_get, Option, Some, None, Result, Ok, Err, refl, sym, ap, ap₂, subst, ◌∙◌}
-use Rattle.std.proofs.lemmas.List.{length-map}
+use Rattle.std.proofs.Common.{◌≡◌, ℕ, List, slice_get, Option, Some, None, Result, Ok, Err, refl, sym, ap, subst, ◌∙◌}
 use Rattle.std.specs.Option.{option_map}
-use Rattle.std.specs.Prelude.{IfErr, OnOk}
-use Rattle.sq_lex.specs.Reading.{reading}
 use Rattle.sq_lex.specs.declared.token.Token.{Token}
 use Rattle.sq_tree.specs.Schema.{schema_tokens, schema_depth}
 use Rattle.sq_tree.specs.Module.{module_tokens, module_depth}
@@ -26,9 +23,8 @@ use Rattle.sq_meaning.specs.declared.refusal.ScriptFault.TheVariants as fault
 use Rattle.sq_binding.specs.Catalog.{Catalog}
 use Rattle.sq_binding.specs.Declaring.{catalog_of}
 use Rattle.sq_binding.proofs.Refused.{refusal_in}
-use Rattle.sq_perform.specs.Action.{item_of}
-use Rattle.sq_run.specs.Answer.{Task, accepted_modules, accepted_schemas, accepted_script, accepted_unless, and_then, answered, asked_of, module_refusal, opened, refused_as, refused_text, schema_refusal, script_fault_name, script_refusal, task_of, trees_of, read_texts}
-use Rattle.sq_perform.specs.Read.{ReadText, module_rule, read_text, refusal_of, schema_rule, script_rule}
+use Rattle.sq_run.specs.Answer.{Task, accepted_modules, accepted_schemas, accepted_script, accepted_unless, and_then, answered, asked_of, module_refusal, opened, refused_as, refused_text, schema_refusal, script_fault_name, script_refusal, task_of, trees_of}
+use Rattle.sq_perform.specs.Read.{ReadText, module_rule, read_text, schema_rule, script_rule}
 use Rattle.sq_perform.specs.Refusal.{IsOfModules, IsOfSchema, IsFirstModule, IsTokenOf, Matter, Tokens, Grammar, Depth, Meaning, OneRefused, StandsAt, matter, module_fault, refused_part, refused_start, schema_fault, script_fault}
 use Rattle.sq_perform.specs.Refused as session
 use Rattle.sq_perform.specs.Run.{Run}
@@ -37,9 +33,9 @@ use Rattle.sq_perform.specs.declared.refusal.Refusal.{Refusal}
 use Rattle.sq_perform.specs.declared.refusal.RefusalName.{RefusalName}
 use Rattle.sq_perform.specs.declared.refusal.RefusalName.TheVariants as what
 use Rattle.sq_perform.specs.declared.refusal.RunFault.{RunFault}
-use Rattle.sq_perform.specs.declared.refusal.RunFault.TheVariants.{SchemaRefused, ModuleRefused, ScriptRefused, Write, NoMemory}
+use Rattle.sq_perform.specs.declared.refusal.RunFault.TheVariants.{SchemaRefused, ModuleRefused, ScriptRefused}
 use Rattle.sq_run.proofs.ExactlyBound.{accepted}
-use Rattle.sq_run.proofs.ReadTexts.{IsExact, IsReadAt, all_read, misread, modules_exact, placed, read_as, read_there, reads, schemas_exact, scripts_exact, texts_misread, tree_read, trees_read}
+use Rattle.sq_run.proofs.ReadTexts.{IsReadAt, all_read, misread, modules_exact, placed, read_as, read_there, reads, schemas_exact, scripts_exact, texts_misread, tree_read, trees_read}
 use Rattle.sq_run.proofs.SchemasRefused.{schemas_refused}
 use Rattle.sq_run.proofs.Scripts.{script_accepted, script_refused}
 

@@ -1,17 +1,15 @@
 -- A session beside the machine does what the machine does: each call is its step, keeps constraints, and reads few rows (ISO/IEC
 -- 9075:1992, 4.10, 4.21, 12.4 and clause 13).
-use Rattle.std.proofs.Common.{◌≡◌, ℕ, ◌≤◌, Bool, true, false, List, [], ◌∷◌, map, Option, Some, None, Result, Ok, Err, refl, sym, ap, subst, ◌∙◌}
+use Rattle.std.proofs.Common.{◌≡◌, ℕ, Bool, true, false, List, [], ◌∷◌, Option, Some, None, Result, Ok, Err, refl, sym, ap, subst, ◌∙◌}
 use Rattle.std.specs.Option.{option_and_then, option_map, option_map_or}
-use Rattle.std.specs.Prelude.{IfOk, flat_map, is_ok, is_some, not, position, slice_get}
+use Rattle.std.specs.Prelude.{IfOk, flat_map, is_ok, is_some, not, slice_get}
 use Rattle.std.specs.Result.{result_err, result_map_both, result_ok}
 use Rattle.sq_lex.specs.declared.name.Name.{Name}
 use Rattle.sq_value.specs.declared.value.Value.{Value}
 use Rattle.sq_store.specs.Content.{table_at}
-use Rattle.sq_tree.specs.declared.«module».Cursor.{Cursor}
 use Rattle.sq_tree.specs.declared.«module».ModuleText.{ModuleText}
 use Rattle.sq_tree.specs.declared.«module».Procedure.{Procedure}
 use Rattle.sq_tree.specs.declared.schema.SchemaText.{SchemaText}
-use Rattle.sq_tree.specs.declared.statement.Select.{Select}
 use Rattle.sq_tree.specs.declared.statement.Statement.{Statement}
 use Rattle.sq_tree.specs.declared.statement.Statement.TheVariants as statement
 use Rattle.sq_meaning.specs.Machine as by_name
@@ -24,23 +22,21 @@ use Rattle.sq_meaning.specs.Schema.{base_place}
 use Rattle.sq_meaning.specs.SchemaRefusal.{elements_of}
 use Rattle.sq_meaning.specs.Script.{fit}
 use Rattle.sq_meaning.specs.WellFormedStatement.{is_well_formed_procedure}
-use Rattle.sq_meaning.specs.declared.status.Status.TheVariants.{SuccessfulCompletion}
 use Rattle.sq_bound.specs.declared.names.ParameterDesc.{ParameterDesc}
 use Rattle.sq_bound.specs.declared.statement.BoundStatement.{BoundStatement}
 use Rattle.sq_bound.specs.declared.statement.BoundStatement.TheVariants as bound
 use Rattle.sq_binder.specs.declared.stop.Fault.{Fault}
-use Rattle.sq_catalog.specs.Catalog.{declared_tables, table_number}
+use Rattle.sq_catalog.specs.Catalog.{table_number}
 use Rattle.sq_module.proofs.Named.{bound_declared}
 use Rattle.sq_module.specs.Program.{declared_procedures}
 use Rattle.sq_module.specs.Written.{IsFromTexts, IsStatementIn}
 use Rattle.sq_module.specs.declared.program.BoundProcedure.{BoundProcedure}
-use Rattle.sq_module.specs.declared.program.DeclaredCursor.{DeclaredCursor}
 use Rattle.sq_module.specs.declared.program.ProcedureName.{ProcedureName}
 use Rattle.sq_module.specs.declared.program.Program.{Program}
 use Rattle.sq_session.specs.Kind as session
 use Rattle.sq_session.specs.Kind.{fault_at, fits_at, kind_at, kind_of}
 use Rattle.sq_session.specs.Metered.{CallReads}
-use Rattle.sq_session.specs.Session.{Session, names_of, procedure_number, procedure_of, procedures_of, rows_named}
+use Rattle.sq_session.specs.Session.{Session, names_of, procedure_number, procedure_of, rows_named}
 use Rattle.sq_session.specs.Step.{MayCall}
 use Rattle.sq_session.specs.declared.reply.Reply.{Reply}
 use Rattle.sq_perform.specs.Opened.{Opened}
@@ -48,7 +44,6 @@ use Rattle.sq_perform.specs.Run.{IsOpened as IsOpenedSession}
 use Rattle.sq_perform.specs.Steps.{told}
 use Rattle.sq_run.specs.Beside.{Brought, Called, IsBeside, Numbered, after_calls, first_machine}
 use Rattle.sq_run.specs.Processor.{AllHold, AreAccepted, CallReadsFew, FailsWithoutChange, IsOpened, IsStep, Machine, after_call, call_at, call_of, has_fault, needs_memory, number_of, procedure_at, ReadsFew, rows_of, takes, takes_memory, with_module}
-use Rattle.sq_run.specs.Keyed.{is_keyed_select}
 use Rattle.sq_run.proofs.Agrees.{unmapped_at}
 use Rattle.sq_run.proofs.CallIsStep.{numbered_is_step}
 use Rattle.sq_run.proofs.CallLaws.{failed_changes_nothing}

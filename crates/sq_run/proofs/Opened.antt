@@ -1,6 +1,5 @@
 -- A processor opens as its texts come to.
-use Rattle.std.proofs.Common.{◌≡◌, ℕ, List, Result, Ok, Err, sym, ap, ◌∙◌}
-use Rattle.sq_meaning.specs.Machine.{first_state}
+use Rattle.std.proofs.Common.{ℕ, List, Ok, Err, sym, ap, ◌∙◌}
 use Rattle.sq_meaning.specs.Report.{Bytes}
 use Rattle.sq_perform.specs.Fault.{IsOpeningFault}
 use Rattle.sq_perform.specs.declared.refusal.RunFault.{RunFault}

@@ -1,31 +1,27 @@
 -- Reading a text by the rule of the grammar gives the tree that the text spells, or no tree spells it.
-use Rattle.std.proofs.Common.{◌≡◌, ℕ, zero, suc, ◌+◌, ◌≤◌, List, [], ◌∷◌, ◌++◌, map, slice_get, take, Option, Some, None, Result, Ok, Err, refl, sym, ap, ap₂, subst, ◌∙◌, append-nil, arith, lit≤}
+use Rattle.std.proofs.Common.{◌≡◌, ℕ, zero, suc, ◌+◌, List, [], ◌∷◌, ◌++◌, slice_get, take, Some, Ok, Err, refl, sym, ap, subst, ◌∙◌, append-nil, arith, lit≤}
 use Rattle.sq_lex.specs.Position.{position}
 use Rattle.sq_lex.specs.Reading.{reading}
 use Rattle.sq_lex.specs.Token.{lexemes}
-use Rattle.sq_lex.specs.declared.fault.LexFault.{LexFault}
 use Rattle.sq_lex.specs.declared.lexeme.Lexeme.{Lexeme}
 use Rattle.sq_lex.specs.declared.token.Token.{Token}
 use Rattle.sq_tree.specs.Schema.{schema_tokens, schema_depth}
 use Rattle.sq_tree.specs.Module.{module_tokens, module_depth}
 use Rattle.sq_tree.specs.Script.{script_tokens, script_depth}
-use Rattle.sq_tree.specs.declared.«module».ModuleText.{ModuleText}
-use Rattle.sq_tree.specs.declared.schema.SchemaText.{SchemaText}
-use Rattle.sq_tree.specs.declared.script.ScriptText.{ScriptText}
 use Rattle.sq_grammar.specs.Reading.{Outcome, Parser, end_of, whole}
 use Rattle.sq_grammar.specs.Reading as grammar
 use Rattle.sq_grammar.specs.declared.brackets.TheConstants.{MAX_DEPTH}
 use Rattle.sq_grammar.proofs.Takes.{Takes}
 use Rattle.sq_grammar.proofs.TextTakes.{module_taken, schema_taken, script_taken}
-use Rattle.sq_grammar.proofs.Spells.{Sound, whole_is}
+use Rattle.sq_grammar.proofs.Spells.{Sound}
 use Rattle.sq_grammar.proofs.ModuleSound.{module_sound}
 use Rattle.sq_grammar.proofs.SchemaSound.{schema_sound}
 use Rattle.sq_grammar.proofs.ScriptSound.{script_sound}
 use Rattle.sq_meaning.specs.Report.{Bytes}
-use Rattle.sq_run.specs.Answer.{and_then, read_texts, refused_text, trees_of}
+use Rattle.sq_run.specs.Answer.{and_then, read_texts, trees_of}
 use Rattle.sq_perform.specs.Read.{ReadText, module_rule, of_outcome, of_tokens, read_text, refusal_at, refusal_of, schema_rule, script_rule, start_of}
-use Rattle.sq_perform.specs.Refusal.{Matter, Tokens, Grammar, Depth, Meaning, IsRefused, IsTokenOf, OneRefused, StandsAt, matter, read_before}
-use Rattle.sq_perform.specs.Texts.{AllSpell, Spells, SpellsTree}
+use Rattle.sq_perform.specs.Refusal.{Matter, Tokens, Grammar, Depth, Meaning, IsRefused, OneRefused, StandsAt, matter, read_before}
+use Rattle.sq_perform.specs.Texts.{AllSpell, SpellsTree}
 use Rattle.sq_perform.specs.declared.refusal.Refusal.{Refusal}
 use Rattle.sq_perform.specs.declared.refusal.RefusalName.{RefusalName}
 use Rattle.sq_perform.specs.declared.refusal.RefusalName.TheVariants.{Lexical}

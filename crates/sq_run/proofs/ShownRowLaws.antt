@@ -15,8 +15,6 @@ use Rattle.sq_store.specs.declared.table.Numbered.{Numbered}
 use Rattle.sq_tree.specs.declared.module.Cursor.{Cursor}
 use Rattle.sq_tree.specs.declared.module.ModuleText.{ModuleText}
 use Rattle.sq_tree.specs.declared.module.Procedure.{Procedure}
-use Rattle.sq_tree.specs.declared.statement.Delete.{Delete}
-use Rattle.sq_tree.specs.declared.statement.Fetch.{Fetch}
 use Rattle.sq_tree.specs.declared.statement.Statement.{Statement}
 use Rattle.sq_tree.specs.declared.statement.Statement.TheVariants as statement
 use Rattle.sq_tree.specs.declared.statement.Where.{Where}

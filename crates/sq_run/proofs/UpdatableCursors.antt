@@ -17,7 +17,7 @@ use Rattle.sq_binding.specs.Changeable.{NumberedUpdatable, UserNames, outside, u
 use Rattle.sq_binding.specs.Condition.{select_bound}
 use Rattle.sq_binding.specs.Cursor.{NumberedCursor, NumberedRows, behind, cursor_bound, cursor_of, cursor_over, plain_specification, select_cursor, sorted_bound, sorted_cursor}
 use Rattle.sq_binding.specs.NumberedCondition.{NumberedSelect}
-use Rattle.sq_binding.specs.Outcome.{Outcome, and_then}
+use Rattle.sq_binding.specs.Outcome.{and_then}
 use Rattle.sq_binding.specs.Select.{Surroundings}
 use Rattle.sq_binding.specs.Whole.{at_first, permitted, whole}
 use Rattle.sq_binding.proofs.Clean.{steps_of}

@@ -1,7 +1,6 @@
 -- A target that can't take a value of the row that FETCH has come to, or takes only a part of it (ISO/IEC 9075:1992, 9.1 and 13.3). A FETCH that
 -- fails stays on the row that it has come to, so the row is found after the call.
 use Rattle.std.specs.Prelude.{◌≡◌, ℕ, Bool, true, false, if◌then◌else◌, List, slice_get, option_and_then, Option, Some, None, Ok, Err}
-use Rattle.sq_lex.specs.declared.name.Name.{Name}
 use Rattle.sq_value.specs.Retrieving.{retrieved}
 use Rattle.sq_value.specs.declared.domain.Domain.{Domain}
 use Rattle.sq_value.specs.declared.fault.RetrieveFault.TheVariants.{Range}

@@ -1,5 +1,5 @@
 -- A value that a statement would give a column: its expression ends with a status, or the column can't store it (ISO/IEC 9075:1992, 9.2 and 13.8).
-use Rattle.std.specs.Prelude.{◌≡◌, ℕ, List, [], slice_get, Some, Ok, Err}
+use Rattle.std.specs.Prelude.{◌≡◌, List, [], slice_get, Some, Ok, Err}
 use Rattle.sq_lex.specs.declared.name.Name.{Name}
 use Rattle.sq_value.specs.declared.domain.Domain.{Domain}
 use Rattle.sq_value.specs.declared.value.Value.{Value}

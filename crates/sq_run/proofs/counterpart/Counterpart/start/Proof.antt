@@ -1,6 +1,5 @@
 -- `start` makes the empty struct beside the machine of the trees that its caller knows. Assumes `Logic`.
 use Rattle.std.proofs.Common.{[], ◌∷◌, refl, w64}
-use base.Logic.{emp}
 use contract.Monad.{fact}
 use mir.Syntax.{named}
 use types.Kit.{‵, raw, ◌⊛◌, ◌$◌, ◌∵◌, !, qed, move, drop, split, fjoin, suffices, done}
@@ -11,7 +10,6 @@ use denote.Builtin.{u8}
 use denote.Exit.{yes}
 use denote.Plain.{uint_vals, uint_Tells}
 use denote.RattleType.{RattleType, owns}
-use denote.Ref.{shr_vals, shr_Tells}
 use denote.Signature.{types_at}
 use denote.Slice.{shr_slice_vals, shr_slice_Tells}
 use denote.Steps.{nothing, heard}

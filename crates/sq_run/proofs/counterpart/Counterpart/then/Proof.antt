@@ -1,26 +1,21 @@
 -- `then` makes the empty struct beside the machine that its clause names. Assumes `Logic`.
 use Rattle.std.proofs.Common.{[], ◌∷◌, refl, w64}
 use base.Logic.{emp}
-use contract.Monad.{fact}
 use mir.Syntax.{named}
 use types.Kit.{‵, raw, ◌⊛◌, ◌$◌, ◌∵◌, !, qed, move, drop, split, fjoin, suffices, done}
 use types.Part.{agg}
 use types.Run.{no_more, returns, enter}
 use types.ByLocal.{alloc_all, pass_all, free_all, look_at, sets}
-use denote.Builtin.{u8}
 use denote.Exit.{yes}
 use denote.Plain.{uint_vals, uint_Tells}
-use denote.RattleType.{RattleType, owns}
+use denote.RattleType.{owns}
 use denote.Ref.{shr_vals, shr_Tells}
 use denote.Signature.{types_at}
 use denote.Slice.{shr_slice_vals, shr_slice_Tells}
-use denote.Steps.{nothing, heard}
+use denote.Steps.{nothing}
 use denote.Triple.Entry.{alive}
 use denote.Triple.Walked.{says, Stays, stay_dropped, walk_of, ends_at, Goes-dropped}
 use Rattle.std.proofs.raw_atomic.Walks.{proved}
-use Rattle.std.specs.contracts.alloc.Global as heap
-use Rattle.std.specs.contracts.impls.GlobalAllocator.TheImpl.{ghosts}
-use Rattle.std.specs.contracts.vec.Vec as vec
 use Rattle.sq_value.specs.contracts.value.Value as value
 use Rattle.sq_run.proofs.Fieldless.{empty, empty_owned, slot_at}
 use Rattle.sq_run.specs.Processor.{after_call}
