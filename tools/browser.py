@@ -95,25 +95,40 @@ class Tab:
             self.ask("Input.dispatchKeyEvent", type=kind, key=key, code=key, windowsVirtualKeyCode=CODES[key])
 
 
+def end(process, tab):
+    """Ends Chromium: it is asked to, and terminated where it does not."""
+    with contextlib.suppress(OSError, RuntimeError):
+        if tab:
+            tab.session = None
+            tab.ask("Browser.close")
+    try:
+        process.wait(timeout=SECONDS / 6)
+    except subprocess.TimeoutExpired:
+        process.kill()
+        process.wait()
+
+
 @contextlib.contextmanager
 def opened(chromium, address):
     """A page in a Chromium of its own, which ends with it."""
     to_read, requests = os.pipe()
     answers, to_write = os.pipe()
-    with tempfile.TemporaryDirectory() as room:
-        words = [chromium, "--headless", "--no-sandbox", "--disable-gpu", "--no-first-run", "--remote-debugging-pipe",
-                 "--window-size=1400,1100", f"--user-data-dir={room}"]
-        starter = ["/bin/sh", "-c", f'exec "$@" 3<&{to_read} 4>&{to_write}', "sh", *words]
-        process = subprocess.Popen(starter, pass_fds=(to_read, to_write), stdin=subprocess.DEVNULL, stdout=subprocess.DEVNULL,
-                                   stderr=subprocess.DEVNULL)
-        os.close(to_read)
-        os.close(to_write)
-        try:
-            tab = Tab(requests, answers)
-            tab.load(address)
-            yield tab
-        finally:
-            process.terminate()
-            process.wait()
-            os.close(requests)
-            os.close(answers)
+    room = tempfile.mkdtemp()
+    words = [chromium, "--headless", "--no-sandbox", "--disable-gpu", "--no-first-run", "--remote-debugging-pipe",
+             "--window-size=1400,1100", f"--user-data-dir={room}"]
+    starter = ["/bin/sh", "-c", f'exec "$@" 3<&{to_read} 4>&{to_write}', "sh", *words]
+    process = subprocess.Popen(starter, pass_fds=(to_read, to_write), stdin=subprocess.DEVNULL, stdout=subprocess.DEVNULL,
+                               stderr=subprocess.DEVNULL)
+    os.close(to_read)
+    os.close(to_write)
+    tab = None
+    try:
+        tab = Tab(requests, answers)
+        tab.load(address)
+        yield tab
+    finally:
+        end(process, tab)
+        os.close(requests)
+        os.close(answers)
+        # processes of Chromium's own may still write there
+        shutil.rmtree(room, ignore_errors=True)

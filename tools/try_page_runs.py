@@ -79,8 +79,10 @@ SHOWN = """(() => {
 
 def steps_shown(shown):
     """What is shown of each step of the run in the boxes, from the first to the last, by the button that steps forward."""
+    shown.value("document.getElementById('steps').contentDocument.wasThere = true")
     shown.click("step")
-    shown.wait("!document.getElementById('stepping').hidden && document.getElementById('steps').contentDocument.querySelector('#calls button')")
+    shown.wait("!document.getElementById('stepping').hidden && !document.getElementById('steps').contentDocument.wasThere")
+    shown.wait("document.getElementById('steps').contentDocument.querySelector('#calls button')")
     steps = [shown.value(SHOWN)]
     for number in range(1, steps[0]["calls"]):
         if number % 2:
