@@ -17,8 +17,8 @@ within all number text there =
 pub names_one : (schemas modules : List (Vec ℕ Global)) (script : List ℕ) (fault : RunFault) → RefusedText (texts schemas) (texts modules) script fault
     → NamesOneOf (length schemas) (length modules) (fault_of fault)
 unfolding RefusedText
-names_one schemas modules script (SchemaRefused refusal) h = within schemas refusal.text h.0.text h.0.there
-names_one schemas modules script (ModuleRefused refusal) h = within modules refusal.text h.1.text h.1.there
+names_one schemas modules script (SchemaRefused refusal) h = within schemas refusal.text h.text h.there
+names_one schemas modules script (ModuleRefused refusal) h = within modules refusal.text h.text h.there
 names_one schemas modules script (ScriptRefused refusal) h = tt
 names_one schemas modules script (Write bytes) h = tt
 names_one schemas modules script (NoMemory items) h = tt
