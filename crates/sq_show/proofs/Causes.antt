@@ -16,19 +16,41 @@ use Rattle.sq_session.specs.Schemas.{Schemas}
 use Rattle.sq_session.specs.Session.{Session}
 use Rattle.sq_session.specs.State.{State}
 use Rattle.sq_show.specs.Cause.{IsCause, IsStatementCause}
-use Rattle.sq_show.specs.Made.{leaf_of}
 use Rattle.sq_show.specs.declared.cause.Cause.{Cause}
 use Rattle.sq_show.specs.declared.cause.Cause.TheVariants as cause
 
 -- ---- the values that a statement reads
 
--- a statement that changes no table has its causes whatever the values are
-no_leaf : (s : Schemas) (k : Kind) (vs ws : List Value) (state : State) (c : Cause) → leaf_of k ≡ None → IsStatementCause s k vs state c → IsStatementCause s k ws state c
-no_leaf s k vs ws state (cause.Fault f) e h = absurd h
-no_leaf s k vs ws state (cause.Cursor c) e h = h
-no_leaf s k vs ws state (cause.Breach table b) e h = let there = h.leaf_is in cc
-no_leaf s k vs ws state (cause.CheckOption table b) e h = let there = h.leaf_is in cc
-no_leaf s k vs ws state (cause.General st) e h = tt
+-- CLOSE, COMMIT and ROLLBACK read no value: their causes are whatever the values are
+close_cause : (s : Schemas) (n : ℕ) (vs ws : List Value) (state : State) (c : Cause) → IsStatementCause s (Kind.closes n) vs state c → IsStatementCause s (Kind.closes n) ws state c
+close_cause s n vs ws state (cause.Fault f) h = absurd h
+close_cause s n vs ws state (cause.Cursor c) h = h
+close_cause s n vs ws state (cause.Breach table b) h = let there = h.leaf_is in cc
+close_cause s n vs ws state (cause.CheckOption table b) h = let there = h.leaf_is in cc
+close_cause s n vs ws state (cause.Value v) h = absurd h
+close_cause s n vs ws state (cause.Target t) h = absurd h
+close_cause s n vs ws state (cause.Select c) h = absurd h
+close_cause s n vs ws state (cause.General st) h = tt
+
+commit_cause : (s : Schemas) (vs ws : List Value) (state : State) (c : Cause) → IsStatementCause s (Kind.commits) vs state c → IsStatementCause s (Kind.commits) ws state c
+commit_cause s vs ws state (cause.Fault f) h = absurd h
+commit_cause s vs ws state (cause.Cursor c) h = h
+commit_cause s vs ws state (cause.Breach table b) h = let there = h.leaf_is in cc
+commit_cause s vs ws state (cause.CheckOption table b) h = let there = h.leaf_is in cc
+commit_cause s vs ws state (cause.Value v) h = absurd h
+commit_cause s vs ws state (cause.Target t) h = absurd h
+commit_cause s vs ws state (cause.Select c) h = absurd h
+commit_cause s vs ws state (cause.General st) h = tt
+
+rollback_cause : (s : Schemas) (vs ws : List Value) (state : State) (c : Cause) → IsStatementCause s (Kind.rolls_back) vs state c → IsStatementCause s (Kind.rolls_back) ws state c
+rollback_cause s vs ws state (cause.Fault f) h = absurd h
+rollback_cause s vs ws state (cause.Cursor c) h = h
+rollback_cause s vs ws state (cause.Breach table b) h = let there = h.leaf_is in cc
+rollback_cause s vs ws state (cause.CheckOption table b) h = let there = h.leaf_is in cc
+rollback_cause s vs ws state (cause.Value v) h = absurd h
+rollback_cause s vs ws state (cause.Target t) h = absurd h
+rollback_cause s vs ws state (cause.Select c) h = absurd h
+rollback_cause s vs ws state (cause.General st) h = tt
 
 of_update : (u : Updating) (t : ChangeTarget) → read_parameters (update_kind u t) ≡ u.caller.parameters
 of_update u (target.Searched t) = refl
@@ -42,7 +64,7 @@ one_read : (s : Schemas) (cs : List DeclaredCursor) (user : Name) (ps : List Par
     → IsStatementCause s (kind_of cs user ps st) (started_values ps vs) state c → IsStatementCause s (kind_of cs user ps st) (started_values (read_parameters (kind_of cs user ps st)) vs) state c
 one_read s cs user ps (statement.Open n) vs state c h = h
 one_read s cs user ps (statement.Fetch f) vs state c h = h
-one_read s cs user ps (statement.Close n) vs state c h = no_leaf s (Kind.closes n) _ _ state c refl h
+one_read s cs user ps (statement.Close n) vs state c h = close_cause s n _ _ state c h
 one_read s cs user ps (statement.Select q) vs state c h = h
 one_read s cs user ps (statement.Insert i) vs state c h = h
 one_read s cs user ps (statement.Update u) vs state c h =
@@ -51,8 +73,8 @@ one_read s cs user ps (statement.Update u) vs state c h =
 one_read s cs user ps (statement.Delete t) vs state c h =
     let k : Kind = delete_kind (caller_of user ps) t in
     subst (λ (qs : List ParameterDesc). IsStatementCause s k (started_values qs vs) state c) (sym (of_delete (caller_of user ps) t)) h
-one_read s cs user ps statement.Commit vs state c h = no_leaf s Kind.commits _ _ state c refl h
-one_read s cs user ps statement.Rollback vs state c h = no_leaf s Kind.rolls_back _ _ state c refl h
+one_read s cs user ps statement.Commit vs state c h = commit_cause s _ _ state c h
+one_read s cs user ps statement.Rollback vs state c h = rollback_cause s _ _ state c h
 
 pub as_read : (s : Schemas) (cs : List DeclaredCursor) (user : Name) (ps : List ParameterDesc) (st : BoundStatement) (vs : List Value) (state : State) (r : Result (Option Cause) AllocError)
     → IfOk r (λ found. IfSome found (IsStatementCause s (kind_of cs user ps st) (started_values ps vs) state))
@@ -68,6 +90,9 @@ one_of_call s n vs k (cause.Fault f) at h = absurd h
 one_of_call s n vs k (cause.Cursor c) at h = record { kind = k; at = at; cause = h }
 one_of_call s n vs k (cause.Breach table b) at h = record { kind = k; at = at; cause = h }
 one_of_call s n vs k (cause.CheckOption table b) at h = record { kind = k; at = at; cause = h }
+one_of_call s n vs k (cause.Value v) at h = record { kind = k; at = at; cause = h }
+one_of_call s n vs k (cause.Target t) at h = record { kind = k; at = at; cause = h }
+one_of_call s n vs k (cause.Select c) at h = record { kind = k; at = at; cause = h }
 one_of_call s n vs k (cause.General st) at h = tt
 
 pub of_call : (s : Session) (n : ℕ) (vs : List Value) (k : Kind) (r : Result (Option Cause) AllocError) → kind_at s.procedures n ≡ Some k

@@ -1,6 +1,6 @@
 -- Constraints that would not hold if a statement made its changes (ISO/IEC 9075:1992, 4.10, 11.4, 11.7 to 11.9, 11.19). Rows that it would put
 -- in its table are named by the place of their change, from 0.
-use Rattle.std.specs.Prelude.{◌≡◌, ℕ, Bool, true, false, not, ◌&&◌, List, [], ◌∷◌, nat_eq, slice_get, if◌then◌else◌, Option, Some, None, Ok}
+use Rattle.std.specs.Prelude.{◌≡◌, ℕ, Bool, true, false, not, ◌&&◌, List, nat_eq, slice_get, if◌then◌else◌, Option, Some, None}
 use Rattle.std.specs.List.{list_any}
 use Rattle.std.specs.Option.{option_map_or}
 use Rattle.std.specs.Cmp.Lexicographic.{pointwise}

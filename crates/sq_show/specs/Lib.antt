@@ -10,6 +10,9 @@ pub mod Made
 pub mod Mark
 pub mod Option
 pub mod Place
+pub mod Select
 pub mod Taken
+pub mod Target
 pub mod Traced
+pub mod Value
 pub mod Words

@@ -262,6 +262,17 @@ fn write_column(table: &TableDesc, column: usize, words: &mut Vec<u8>) -> Result
     }
 }
 
+/// `A of U1.T`
+pub(crate) fn write_column_of(
+    table: &TableDesc,
+    column: usize,
+    words: &mut Vec<u8>,
+) -> Result<(), AllocError> {
+    write_column(table, column, words)?;
+    words.extend_from_slice(b" of ")?;
+    write_table(table, words)
+}
+
 /// `U1.T`
 pub(crate) fn write_table(table: &TableDesc, words: &mut Vec<u8>) -> Result<(), AllocError> {
     words.extend_from_slice(table.user.codes())?;

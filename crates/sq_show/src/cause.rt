@@ -2,7 +2,11 @@
 
 ghost use Rattle.std.specs.Prelude.{◌≡◌};
 ghost use Rattle.sq_show.specs.Cause.{status_of};
+ghost use Rattle.sq_show.specs.Select.{status_of_select};
+ghost use Rattle.sq_show.specs.Target.{status_of_target};
+ghost use Rattle.sq_show.specs.Value.{status_of_value};
 
+use sq_lex::Name;
 use sq_meaning::Status;
 use sq_session::Fault;
 
@@ -17,6 +21,12 @@ pub enum Cause {
     Breach(usize, Breach),
     /// A row that the statement would put in the base table at this place would not be one of the view.
     CheckOption(usize, OptionBreach),
+    /// A value that the statement would give a column.
+    Value(ValueCause),
+    /// A target that can't take its value, or takes only a part of it.
+    Target(TargetCause),
+    /// A SELECT INTO sets no target, or only a part of one.
+    Select(SelectCause),
     /// The status alone.
     General(Status),
 }
@@ -54,6 +64,101 @@ pub struct OptionBreach {
     pub level: usize,
 }
 
+/// A value that a statement would give a column, by the place of its column in the base table.
+#[derive(Clone, Copy)]
+pub struct ValueCause {
+    /// The place of the base table.
+    pub table: usize,
+    pub column: usize,
+    /// The place of the value among those of VALUES, from 0.
+    pub item: usize,
+    pub fault: ValueFault,
+}
+
+/// A faulty value among those of VALUES, and its column.
+#[derive(Clone, Copy)]
+pub struct ItemFault {
+    pub item: usize,
+    pub column: usize,
+    pub fault: ValueFault,
+}
+
+/// What is wrong with a value.
+#[derive(Clone, Copy)]
+pub enum ValueFault {
+    /// Its expression ends with this status.
+    Ends(Status),
+    /// The column can't store it: this status.
+    Unfit(Status),
+}
+
+impl ValueFault {
+    /// The status with which the call ended.
+    pub fn status(&self) -> Status
+        ensures { result ≡ status_of_value self.now }
+    {
+        match self {
+            ValueFault::Ends(status) => *status,
+            ValueFault::Unfit(status) => *status,
+        }
+    }
+}
+
+/// A target that can't take its value, or takes only a part of it, by the name of its parameter.
+#[derive(Clone, Copy)]
+pub struct TargetCause {
+    pub parameter: Name,
+    pub fault: TargetFault,
+}
+
+/// What is wrong with a target and its value.
+#[derive(Clone, Copy)]
+pub enum TargetFault {
+    /// Null, and the target has no indicator.
+    NullWithoutIndicator,
+    /// The parameter can't hold the number.
+    OutOfRange,
+    /// The text is cut; it has this length.
+    Cut(u16),
+}
+
+impl TargetFault {
+    /// The status with which the call ended.
+    pub fn status(&self) -> Status
+        ensures { result ≡ status_of_target self.now }
+    {
+        match self {
+            TargetFault::NullWithoutIndicator => Status::NullWithoutIndicator,
+            TargetFault::OutOfRange => Status::NumericValueOutOfRange,
+            TargetFault::Cut(_) => Status::TextTruncated,
+        }
+    }
+}
+
+/// Why a SELECT INTO sets no target, or only a part of one.
+#[derive(Clone, Copy)]
+pub enum SelectCause {
+    /// Its query has no row.
+    NoRow,
+    /// Its query has more than one row.
+    SeveralRows,
+    /// A target can't take its value of the only row, or takes only a part of it.
+    Target(TargetCause),
+}
+
+impl SelectCause {
+    /// The status with which the call ended.
+    pub fn status(&self) -> Status
+        ensures { result ≡ status_of_select self.now }
+    {
+        match self {
+            SelectCause::NoRow => Status::NoData,
+            SelectCause::SeveralRows => Status::CardinalityViolation,
+            SelectCause::Target(target) => target.fault.status(),
+        }
+    }
+}
+
 /// A row that refers to another: its table, which of the table's references, and the number of the row.
 #[derive(Clone, Copy)]
 pub struct Referring {
@@ -85,6 +190,9 @@ impl Cause {
             Cause::Cursor(_) => Status::InvalidCursorState,
             Cause::Breach(..) => Status::IntegrityConstraintViolation,
             Cause::CheckOption(..) => Status::CheckOptionViolation,
+            Cause::Value(value) => value.fault.status(),
+            Cause::Target(target) => target.fault.status(),
+            Cause::Select(select) => select.status(),
             Cause::General(status) => *status,
         }
     }

@@ -34,16 +34,22 @@ mod place;
 mod put;
 mod reference_breach;
 mod row_breach;
+mod select;
 mod shell;
 mod table;
+mod target;
 mod template;
 mod told;
 mod trace;
+mod value;
 mod value_words;
 mod words;
 
 pub use before::{Before, look_before};
-pub use cause::{Breach, Cause, CursorCause, OptionBreach, Referring, RowPut};
+pub use cause::{
+    Breach, Cause, CursorCause, ItemFault, OptionBreach, Referring, RowPut, SelectCause,
+    TargetCause, TargetFault, ValueCause, ValueFault,
+};
 pub use item::item_size;
 pub use listing::{write_cursors, write_procedures, write_procedures_of, write_tables};
 pub use page::trace_page;

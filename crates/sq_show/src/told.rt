@@ -17,6 +17,9 @@ use crate::before::Before;
 use crate::breach::breach_of;
 use crate::cause::Cause;
 use crate::cursor::cursor_cause;
+use crate::select::select_cause;
+use crate::target::target_cause;
+use crate::value::value_cause;
 use sq_bound::BoundStatement;
 use sq_meaning::Status;
 use sq_module::BoundProcedure;
@@ -157,6 +160,33 @@ fn with_values<S: Store>(
         Status::IntegrityConstraintViolation | Status::CheckOptionViolation => {
             breach_of(called, inside, statement, status)
         }
-        _ => Ok(None),
+        _ => value_or_target(called, inside, statement),
+    }
+}
+
+/// A value that the statement can't give its column, a target that can't take its value, or no only row for the targets.
+fn value_or_target<S: Store>(
+    called: &Called<'_>,
+    inside: &Inside<'_, S>,
+    statement: &BoundStatement,
+) -> Result<Option<Cause>, AllocError>
+    requires may { MayPerform called.now statement.now }
+    requires whole { IsWholeFor called.now
+        (state_of (S.content_now inside.now.store.now) (S.committed inside.now.store.now)
+        (S.key_columns inside.now.store.now) (S.row_numbers inside.now.store.now) inside.now.cursors.now) }
+    ensures { IfOk result (λ found. IfSome found (IsStatementCause (schemas_of called.now.catalog.now)
+        (kind_for called.now statement.now) called.now.values.now
+        (state_of (S.content_now inside.now.store.now) (S.committed inside.now.store.now)
+        (S.key_columns inside.now.store.now) (S.row_numbers inside.now.store.now) inside.now.cursors.now))) }
+{
+    if let Some(cause) = value_cause(called, inside.store, statement)? {
+        return Ok(Some(Cause::Value(cause)));
+    }
+    if let Some(cause) = target_cause(called, inside.cursors, inside.store, statement)? {
+        return Ok(Some(Cause::Target(cause)));
+    }
+    match select_cause(called, inside, statement)? {
+        Some(cause) => Ok(Some(Cause::Select(cause))),
+        None => Ok(None),
     }
 }

@@ -3,9 +3,10 @@
 ghost use Rattle.std.specs.Prelude.{OnOk};
 ghost use Rattle.sq_show.specs.Words.{IsContinued};
 
-use crate::breach_words::write_breach;
-use crate::cause::{Cause, CursorCause};
+use crate::breach_words::{write_breach, write_column_of};
+use crate::cause::{Cause, CursorCause, SelectCause, TargetCause, TargetFault, ValueCause};
 use crate::option_words::write_option;
+use sq_bound::{Names, TablePlace};
 use sq_lex::Name;
 use sq_meaning::Status;
 use sq_session::{Fault, Session};
@@ -64,6 +65,13 @@ fn write_words<S: Store>(
         Cause::Cursor(cause) => write_cursor_cause(session, *cause, words),
         Cause::Breach(table, breach) => write_breach(alloc, session, *table, *breach, words),
         Cause::CheckOption(table, breach) => write_option(session, *table, *breach, words),
+        Cause::Value(cause) => write_value_cause(session, *cause, words),
+        Cause::Target(cause) => write_target_cause(*cause, words),
+        Cause::Select(SelectCause::Target(cause)) => write_target_cause(*cause, words),
+        Cause::Select(SelectCause::NoRow) => words.extend_from_slice(b"the query has no row"),
+        Cause::Select(SelectCause::SeveralRows) => {
+            words.extend_from_slice(b"the query has more than one row")
+        }
         Cause::General(status) => words.extend_from_slice(meaning(*status)),
     }
 }
@@ -110,6 +118,36 @@ fn write_cursor<S: Store>(
         None => words.extend_from_slice(b"the cursor")?,
     }
     words.extend_from_slice(rest)
+}
+
+/// The column that a value is for, and what is wrong with it.
+fn write_value_cause<S: Store>(
+    session: &Session<S>,
+    cause: ValueCause,
+    words: &mut Vec<u8>,
+) -> Result<(), AllocError> {
+    write!(words, "value {}, for ", cause.item.saturating_add(1)).map_err(|_| AllocError)?;
+    match session.catalog().at(TablePlace::Base(cause.table)) {
+        Some(table) => write_column_of(table, cause.column, words)?,
+        None => words.extend_from_slice(b"its column")?,
+    }
+    words.extend_from_slice(b": ")?;
+    words.extend_from_slice(meaning(cause.fault.status()))
+}
+
+/// The parameter, and why it can't take its value.
+fn write_target_cause(cause: TargetCause, words: &mut Vec<u8>) -> Result<(), AllocError> {
+    words.extend_from_slice(b"parameter ")?;
+    words.extend_from_slice(cause.parameter.codes())?;
+    match cause.fault {
+        TargetFault::NullWithoutIndicator => {
+            words.extend_from_slice(b": null, and it has no indicator")
+        }
+        TargetFault::OutOfRange => words.extend_from_slice(b": the number is out of its range"),
+        TargetFault::Cut(length) => {
+            write!(words, ": a text of {length} characters was cut").map_err(|_| AllocError)
+        }
+    }
 }
 
 /// What a status means.

@@ -3,7 +3,7 @@ use Rattle.std.proofs.lemmas.Grind.{common_steps}
 use Rattle.sq_catalog.specs.Catalog.{column_kinds}
 use Rattle.sq_module.specs.declared.program.BoundProcedure.{BoundProcedure}
 use Rattle.sq_module.specs.declared.program.ProcedureName.{ProcedureName}
-use Rattle.sq_session.specs.Kind.{Procedure, fits_at, kind_of}
+use Rattle.sq_session.specs.Kind.{fits_at, kind_of}
 use Rattle.sq_session.specs.Schemas.{schemas_of}
 use Rattle.sq_session.proofs.Found.{asked_at}
 use Rattle.sq_session.proofs.Named.{fault_is, fits_are, kind_is}
