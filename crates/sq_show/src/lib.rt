@@ -47,8 +47,7 @@ mod words;
 
 pub use before::{Before, look_before};
 pub use cause::{
-    Breach, Cause, CursorCause, ItemFault, OptionBreach, Referring, RowPut, SelectCause,
-    TargetCause, TargetFault, ValueCause, ValueFault,
+    Breach, Cause, CursorCause, ItemFault, OptionBreach, Referring, RowPut, ValueCause, ValueFault,
 };
 pub use item::item_size;
 pub use listing::{write_cursors, write_procedures, write_procedures_of, write_tables};
