@@ -69,7 +69,11 @@ pub fn write_item(
 }
 
 /// Adds an item's line, if it is a refusal or a fault.
-fn write_grave(out: &mut Vec<u8>, alloc: Global, item: &Item<'_, '_, '_, '_>) -> Result<(), AllocError> {
+fn write_grave(
+    out: &mut Vec<u8>,
+    alloc: Global,
+    item: &Item<'_, '_, '_, '_>,
+) -> Result<(), AllocError> {
     match item.weight {
         Weight::Refusal | Weight::Fault => write_line(out, alloc, item),
         Weight::Warning | Weight::Remark => Ok(()),
@@ -77,7 +81,11 @@ fn write_grave(out: &mut Vec<u8>, alloc: Global, item: &Item<'_, '_, '_, '_>) ->
 }
 
 /// Adds an item's line, if it is no warning.
-fn write_sure(out: &mut Vec<u8>, alloc: Global, item: &Item<'_, '_, '_, '_>) -> Result<(), AllocError> {
+fn write_sure(
+    out: &mut Vec<u8>,
+    alloc: Global,
+    item: &Item<'_, '_, '_, '_>,
+) -> Result<(), AllocError> {
     match item.weight {
         Weight::Warning => Ok(()),
         _ => write_line(out, alloc, item),
@@ -85,7 +93,11 @@ fn write_sure(out: &mut Vec<u8>, alloc: Global, item: &Item<'_, '_, '_, '_>) -> 
 }
 
 /// Adds an item's line and its advice.
-fn write_with_words(out: &mut Vec<u8>, alloc: Global, item: &Item<'_, '_, '_, '_>) -> Result<(), AllocError> {
+fn write_with_words(
+    out: &mut Vec<u8>,
+    alloc: Global,
+    item: &Item<'_, '_, '_, '_>,
+) -> Result<(), AllocError> {
     write_line(out, alloc, item)?;
     match item.advice {
         Some(advice) => write_advice(out, alloc, item.text, advice),
@@ -94,7 +106,11 @@ fn write_with_words(out: &mut Vec<u8>, alloc: Global, item: &Item<'_, '_, '_, '_
 }
 
 /// Adds an item's line.
-fn write_line(out: &mut Vec<u8>, alloc: Global, item: &Item<'_, '_, '_, '_>) -> Result<(), AllocError> {
+fn write_line(
+    out: &mut Vec<u8>,
+    alloc: Global,
+    item: &Item<'_, '_, '_, '_>,
+) -> Result<(), AllocError> {
     if item.weight == Weight::Refusal {
         out.extend_from_slice(b"sqmod: ")?;
     }

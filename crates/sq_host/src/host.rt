@@ -220,9 +220,7 @@ fn procedure_of(
     ensures refused { IfErr result (IsWhy (number_named name.now processor.now «module»)) }
 {
     match name_of(alloc, name) {
-        Ok(name) => processor
-            .procedure(module, name)
-            .ok_or(Answer::Unknown),
+        Ok(name) => processor.procedure(module, name).ok_or(Answer::Unknown),
         Err(answer) => Err(answer),
     }
 }

@@ -5,8 +5,8 @@ use crate::texts::texts_of;
 use sq_exchange::Answer;
 use sq_heap::HeapStore;
 use sq_perform::{Limits, open_session, read_script};
-use sq_store::MOST_ROW_NUMBERS;
 use sq_show::{Session, TraceOptions, trace_page};
+use sq_store::MOST_ROW_NUMBERS;
 use std::alloc::Global;
 
 /// The page that steps through a run of these texts.
