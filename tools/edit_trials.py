@@ -123,9 +123,11 @@ class Function:
     cycle: str
 
     def path(self):
-        """Its path below the crate, as the checker writes it: it joins the names of a type and of a trait."""
-        method_of = f"{self.type}{self.trait}::" if self.type else ""
-        return self.module.partition("::")[2] + method_of + self.name
+        """Its path below the crate, or the end of it, by which the checker finds it: it joins the names of a type and of a trait. A
+        method stands in the module of its type, which need not be that of the file, so of a method it is the end."""
+        if self.type:
+            return f"{self.type}{self.trait}::{self.name}"
+        return self.module.partition("::")[2] + self.name
 
     def is_at(self, path):
         """Whether this path, as the checker writes it, is the function's."""
