@@ -11,3 +11,6 @@ pub mod Steps
 pub mod Taken
 pub mod Written
 pub mod Wrote
+pub mod AskedParts
+pub mod LinesRead
+pub mod ScriptJoined

@@ -12,3 +12,4 @@ pub mod Run
 pub mod Steps
 pub mod Stop
 pub mod Texts
+pub mod Lines

@@ -6,6 +6,7 @@ mod checked;
 mod fault;
 mod items;
 mod limits;
+mod long_script;
 mod perform;
 mod prepare;
 mod refusal;

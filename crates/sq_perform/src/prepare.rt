@@ -30,6 +30,7 @@ ghost use Rattle.sq_perform.specs.Steps.{IsPrepared};
 use crate::action::Action;
 use crate::items::{ItemFault, action_of};
 use crate::limits::Limits;
+use crate::long_script::actions_by_parts;
 use crate::refusal::{RefusalName, RunFault};
 use crate::texts::{TextFault, read_all, read_text, refused_again, refused_text};
 use sq_catalog::{Catalog, CatalogFault, SchemaRefusal};
@@ -265,9 +266,26 @@ fn refused_start(tree: &ModuleText, item: Option<usize>) -> usize
     }
 }
 
-/// What the items of a script ask a session for.
-#[tactic(auto, using(crate::proofs::Taken::untaken_is_refused, crate::proofs::Refused::script_without))]
+/// What the items of a script ask a session for. It is read part by part; only where a part is refused is its whole text read, which
+/// tells the first refusal.
 fn actions_of<S: Store>(
+    alloc: Global,
+    session: &Session<S>,
+    script: &[u8],
+) -> Result<Vec<Action>, TextFault>
+    ensures asked { IfOk result (λ actions. AreAsked session.now script.now actions.items) }
+    ensures prepared { IfOk result (λ actions. All (IsPrepared session.now) actions.items) }
+    ensures refused { IfErr result (IsScriptRefusal session.now script.now) }
+{
+    match actions_by_parts(alloc, session, script)? {
+        Some(actions) => Ok(actions),
+        None => actions_at_once(alloc, session, script),
+    }
+}
+
+/// What the items of a script ask a session for, from its one tree.
+#[tactic(auto, using(crate::proofs::Taken::untaken_is_refused, crate::proofs::Refused::script_without))]
+pub(crate) fn actions_at_once<S: Store>(
     alloc: Global,
     session: &Session<S>,
     script: &[u8],
