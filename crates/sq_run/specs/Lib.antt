@@ -5,10 +5,12 @@ pub mod Beside
 pub mod Committed
 pub mod Confined
 pub mod Defaults
+pub mod Faulty
 pub mod Integrity
 pub mod Kept
 pub mod Keyed
 pub mod KitTexts
+pub mod Lawful
 pub mod Opens
 pub mod Processor
 pub mod Refused
@@ -16,3 +18,4 @@ pub mod Reported
 pub mod ShownRows
 pub mod Stored
 pub mod Texts
+pub mod Trees
