@@ -326,13 +326,11 @@ module _ (row_numbers : ℕ) (texts : List SchemaText) (modules : List ModuleTex
           reads = reads;
         }
 
-        one : Steps x number values reply t
-        one = one_call s x h.is number values reply t c
-
         -- the machine that is behind it
         steps : Is t (stepped machine x (call_of values e))
         steps =
-            subst (λ k. Is t (stepped machine x (call_of values k))) (some_same one.called e (sym one.there ∙ at.there)) one.is
+            let made : Steps x number values reply t = one_call s x h.is number values reply t c in
+            subst (λ k. Is t (stepped machine x (call_of values k))) (some_same made.called e (sym made.there ∙ at.there)) made.is
 
         fetches_few : (f : Fetch) (k : Cursor) (n : ℕ) → e.1.statement ≡ statement.Fetch f → cursor_named e.0 f.cursor ≡ Some k
             → number_on (cursor_at (stepped machine x (call_of values e)) e.0.name f.cursor) ≡ Some n

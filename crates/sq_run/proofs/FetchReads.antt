@@ -43,7 +43,7 @@ use Rattle.sq_run.proofs.AheadWalks.{AreAhead, IsAhead, ahead_at}
 use Rattle.sq_run.proofs.Cursors.{IsCursorAt, number_is_on}
 use Rattle.sq_run.proofs.Exact.{IsBoundExactly, IsOpenedFrom}
 use Rattle.sq_run.proofs.Quiet as quiet
-use Rattle.sq_run.proofs.ReadCalls.{IsBoundCall, IsCall, bound_call, done}
+use Rattle.sq_run.proofs.ReadCalls.{IsBoundCall, IsCall, done}
 use Rattle.sq_run.proofs.Reports.{IsSession}
 
 -- ---- a session's FETCH
@@ -122,8 +122,8 @@ module _ (texts : List SchemaText) (modules : List ModuleText) (row_numbers : �
   module _ (s : Session) (x : by_name.State) (stands : Is s x) (m : ModuleText) (p : Procedure) (values : List Value) (reply : Reply) (after : State)
       (call : IsCall texts modules s m p values reply after) (f : Fetch) (fetches : p.statement ≡ statement.Fetch f) (c : Cursor)
       (named : cursor_named m f.cursor ≡ Some c) where
-    b : IsBoundCall texts modules known schemas program o exact s m p values call.number
-    b = bound_call texts modules known schemas program o exact s stands.procedures m p values reply after call
+    abbrev b : IsBoundCall texts modules known schemas program o exact s m p values call.number
+    b = quiet.b texts modules row_numbers known schemas program o exact s x stands m p values reply after call
 
     y : (z : BoundFetch) × (b.statement ≡ bound.Fetch z) × IsNumberOf known m declared f.cursor z.cursor
     y =
