@@ -1,25 +1,19 @@
 -- A run over a session is one that the definitions describe: what is written is the report of what the texts come to, or the
 -- run stops for their first refusal.
-use Rattle.std.proofs.Common.{◌≡◌, ◌<◌, ℕ, zero, suc, List, [], ◌∷◌, length, take, slice_get, Option, Result, Ok, Err, refl, ap, sym, subst, ◌∙◌}
+use Rattle.std.proofs.Common.{◌≡◌, ◌<◌, ℕ, zero, suc, List, length, Option, Result, Ok, Err, ap, sym, subst, ◌∙◌}
 use Rattle.std.proofs.lemmas.List.{length-map}
 use Rattle.std.specs.Prelude.{IfErr, OnOk}
-use Rattle.sq_tree.specs.Script.{script_tokens, script_depth}
 use Rattle.sq_meaning.specs.Report.{Bytes}
 use Rattle.sq_run.proofs.Answered.{modules_answered, schemas_answered, script_answered, asked_by, task_answered}
 use Rattle.sq_run.proofs.Headline.{run_reports, run_stops_after, run_stops_inside}
 use Rattle.sq_perform.specs.Action.{item_of}
 use Rattle.sq_run.specs.Answer.{answered}
-use Rattle.sq_perform.specs.Read.{script_rule}
-use Rattle.sq_perform.specs.Refusal.{IsRefused, Matter, Tokens, Grammar, Depth, Meaning, OneRefused, matter, read_before}
 use Rattle.sq_perform.specs.Refused as session
 use Rattle.sq_perform.specs.Run.{Run}
 use Rattle.sq_perform.specs.Stop as session_stop
-use Rattle.sq_perform.specs.Texts.{SomeTrees}
-use Rattle.sq_perform.specs.declared.refusal.Refusal.{Refusal}
 use Rattle.sq_perform.specs.declared.refusal.RunFault.{RunFault}
 use Rattle.sq_perform.specs.declared.refusal.RunFault.TheVariants.{SchemaRefused, ModuleRefused, ScriptRefused, Write, NoMemory}
 use Rattle.sq_run.specs.Answers.{Answers}
-use Rattle.sq_run.specs.Refused.{RefusedText}
 
 module _ (row_numbers : ℕ) (schemas modules : List Bytes) (script : Bytes) where
   as_many : (r : Run row_numbers schemas modules script) → length r.actions ≡ length (asked_by row_numbers schemas modules script r).items

@@ -1,6 +1,6 @@
 -- A session's cursor that walks goes on behind the row that it is on: after each call the number from which it looks for its next
 -- row is greater than that of this row (ISO/IEC 9075:1992, 13.2 to 13.10).
-use Rattle.std.proofs.Common.{◌≡◌, ℕ, zero, suc, ◌+◌, ◌<◌, Bool, true, false, List, [], ◌∷◌, Option, Some, None, Ok, Err, refl, sym, subst, arith}
+use Rattle.std.proofs.Common.{◌≡◌, ℕ, zero, suc, ◌<◌, Bool, true, false, List, [], ◌∷◌, Option, Some, None, Ok, Err, sym, subst, arith}
 use Rattle.std.specs.List.{AllByRecursion}
 use Rattle.std.specs.Option.{option_map}
 use Rattle.std.specs.Prelude.{⊤, IfSome, if◌then◌else◌, slice_set, slice_index_or}
@@ -12,7 +12,7 @@ use Rattle.sq_bound.specs.declared.statement.PositionedTarget.{PositionedTarget}
 use Rattle.sq_meaning.specs.Status.{Outcome, and_then}
 use Rattle.sq_module.specs.declared.program.DeclaredCursor.{DeclaredCursor}
 use Rattle.sq_session.specs.Cursors.{go_on, goes_on, listed, reads}
-use Rattle.sq_session.specs.Fetch.{come_to_number, come_to_row, next_walked, over_numbers, over_rows, over_walk, shown_fetched, walk_come_to, walked_to}
+use Rattle.sq_session.specs.Fetch.{come_to_number, come_to_row, next_walked, over_numbers, over_rows, over_walk, shown_fetched, walked_to}
 use Rattle.sq_session.specs.Kind.{Caller, Fetching, Kind, Opening, Over, Updating, read_parameters}
 use Rattle.sq_session.specs.Open.{IsOpenOver, before_numbers, before_rows, numbers_opened, rows_opened, walk_before}
 use Rattle.sq_session.specs.Parameter.{started_values}

@@ -1,12 +1,11 @@
 -- Each call of a run that ends well answers 42000 exactly where the rules find a fault in the statement of its procedure
 -- (ISO/IEC 9075:1992, 12.3 and 22.1).
-use Rattle.std.proofs.Common.{◌≡◌, ℕ, zero, suc, List, [], ◌∷◌, map, take, Option, Some, Result, Ok, Err, refl, sym, ap, subst, ◌∙◌}
+use Rattle.std.proofs.Common.{◌≡◌, ℕ, zero, suc, List, [], ◌∷◌, map, take, Option, Some, Result, Ok, Err, sym, ap, subst, ◌∙◌}
 use Rattle.std.specs.Prelude.{IfOk, OnOk, slice_get}
 use Rattle.sq_tree.specs.declared.«module».ModuleText.{ModuleText}
 use Rattle.sq_tree.specs.declared.schema.SchemaText.{SchemaText}
 use Rattle.sq_meaning.specs.Machine as by_name
 use Rattle.sq_meaning.specs.Machine.{Call, first_state, replied}
-use Rattle.sq_meaning.specs.Parameter.{Reply as MachineReply}
 use Rattle.sq_meaning.specs.Report.{Bytes}
 use Rattle.sq_meaning.specs.Run.{Item, after, after_item, program_of}
 use Rattle.sq_bound.specs.Known.{KnownTables}
@@ -22,7 +21,7 @@ use Rattle.sq_perform.specs.Run.{Run}
 use Rattle.sq_perform.specs.Steps.{Step, Steps}
 use Rattle.sq_perform.specs.Stop as session_stop
 use Rattle.sq_perform.specs.declared.refusal.RunFault.{RunFault}
-use Rattle.sq_run.specs.Answer.{Task, answered}
+use Rattle.sq_run.specs.Answer.{answered}
 use Rattle.sq_run.specs.Faulty.{FaultsAnswer42000, is_faulty, is_syntax_error}
 use Rattle.sq_run.proofs.Answered.{asked_by, task_answered}
 use Rattle.sq_run.proofs.CallIsStep.{call_is_step, numbered_faults}

@@ -1,7 +1,7 @@
 -- How many rows a FETCH of an updatable cursor reads, said of the machine's cursor, in a session of accepted texts (own rule;
 -- ISO/IEC 9075:1992, 13.3): where it comes from the row of one number to that of another, one at least, and no more than the
 -- numbers differ. So it is while the cursor walks, and where it has a list of its rows.
-use Rattle.std.proofs.Common.{◌≡◌, ℕ, ◌+◌, ◌-◌, ◌<◌, ◌≤◌, true, List, length, Option, Some, None, Ok, Err, refl, sym, ap, subst, ◌∙◌, arith}
+use Rattle.std.proofs.Common.{◌≡◌, ℕ, ◌-◌, ◌<◌, ◌≤◌, List, length, Option, Some, None, Ok, Err, refl, sym, ap, subst, ◌∙◌, arith}
 use Rattle.std.proofs.lemmas.List.{get_or-set_same}
 use Rattle.std.specs.Option.{option_map}
 use Rattle.std.specs.Prelude.{IfSome, MatchOption, unwrap_or}
@@ -12,7 +12,7 @@ use Rattle.sq_tree.specs.declared.schema.SchemaText.{SchemaText}
 use Rattle.sq_tree.specs.declared.statement.Fetch.{Fetch}
 use Rattle.sq_tree.specs.declared.statement.Statement.TheVariants as statement
 use Rattle.sq_value.specs.declared.value.Value.{Value}
-use Rattle.sq_store.specs.Content.{Content, table_at}
+use Rattle.sq_store.specs.Content.{table_at}
 use Rattle.sq_store.specs.declared.table.Numbered.{Numbered}
 use Rattle.sq_meaning.specs.Cursor as machine
 use Rattle.sq_meaning.specs.Machine as by_name

@@ -5,7 +5,7 @@ use Rattle.std.proofs.lemmas.Bool.{ltb-false}
 use Rattle.std.proofs.lemmas.List.{length-map}
 use Rattle.std.specs.List.{AllByRecursion, enumerate_from}
 use Rattle.std.specs.Option.{option_map, option_or}
-use Rattle.std.specs.Prelude.{⊤, IfSome, flat_map, if◌then◌else◌, nat_lt, position}
+use Rattle.std.specs.Prelude.{⊤, IfSome, if◌then◌else◌, nat_lt, position}
 use Rattle.sq_lex.specs.Reading.{reading}
 use Rattle.sq_lex.specs.Token.{lexemes}
 use Rattle.sq_lex.specs.declared.fault.LexFault.{LexFault}
@@ -16,17 +16,16 @@ use Rattle.sq_tree.specs.Schema.{schema_tokens, schema_depth}
 use Rattle.sq_tree.specs.Module.{module_tokens, module_depth}
 use Rattle.sq_tree.specs.Script.{script_tokens, script_depth}
 use Rattle.sq_tree.specs.declared.«module».ModuleText.{ModuleText}
-use Rattle.sq_tree.specs.declared.schema.SchemaDefinition.{SchemaDefinition}
 use Rattle.sq_tree.specs.declared.schema.SchemaText.{SchemaText}
 use Rattle.sq_tree.specs.declared.script.ScriptText.{ScriptText}
 use Rattle.sq_grammar.proofs.Refused.{Deepens, refused_deep}
 use Rattle.sq_grammar.specs.Brackets.{is_too_deep}
 use Rattle.sq_grammar.specs.Reading.{Outcome, Parser, whole}
-use Rattle.sq_meaning.proofs.AnswerLaws.{all_flat_mapped, all_mapped, all_weaker}
+use Rattle.sq_meaning.proofs.AnswerLaws.{all_flat_mapped, all_mapped}
 use Rattle.sq_meaning.specs.ModuleRefusal.{ModuleRefusal, at_item, cursor_name, first_module_refusal, first_repeated, has_bad_parameter, has_open_count, has_status_fault, module_refusal as refusal_in, modules_before, name_refusal, procedure_name}
 use Rattle.sq_meaning.specs.Schema.{Elements, is_among}
 use Rattle.sq_meaning.specs.SchemaRefusal.{Part, SchemaRefusal, elements_with, first_schema_refusal, part_fault, parts_of_schema, parts_of_text, refusal_at as part_refusal, schema_parts, schema_refusal as first_refusal, users_with}
-use Rattle.sq_meaning.specs.Script.{ScriptRefusal, first_script_refusal}
+use Rattle.sq_meaning.specs.Script.{first_script_refusal}
 use Rattle.sq_meaning.specs.Machine.{Program}
 use Rattle.sq_meaning.specs.Report.{Bytes}
 use Rattle.sq_meaning.specs.Run.{program_of}
@@ -38,13 +37,13 @@ use Rattle.sq_meaning.specs.declared.refusal.ScriptFault.{ScriptFault}
 use Rattle.sq_meaning.specs.declared.refusal.ScriptFault.TheVariants as script_fault
 use Rattle.sq_perform.specs.Read.{ReadText, module_rule, of_outcome, of_tokens, read_text, refusal_of, schema_rule, script_rule, stuck_at}
 use Rattle.sq_perform.specs.Refusal.{IsRefused, Matter, Tokens, Grammar, Depth, Meaning, OneRefused, matter, read_before, refused_part, refused_start}
-use Rattle.sq_perform.specs.Texts.{AllSpell, SomeTrees, Spells, SpellsTree}
+use Rattle.sq_perform.specs.Texts.{AllSpell, SomeTrees, Spells}
 use Rattle.sq_perform.specs.declared.refusal.Refusal.{Refusal}
 use Rattle.sq_perform.specs.declared.refusal.RefusalName.{RefusalName}
 use Rattle.sq_perform.specs.declared.refusal.RefusalName.TheVariants.{EndOfText, Lexical, Module, Schema, TooDeep, Unexpected}
 use Rattle.sq_perform.specs.declared.refusal.RunFault.{RunFault}
-use Rattle.sq_perform.specs.declared.refusal.RunFault.TheVariants.{SchemaRefused, ModuleRefused, ScriptRefused, Write, NoMemory}
-use Rattle.sq_run.specs.Answer.{Task, accepted_modules, accepted_schemas, accepted_script, accepted_unless, and_then, answered, asked_of, module_refusal, opened, read_texts, refused_as, refused_text, schema_refusal, script_fault_name, script_refusal, trees_of}
+use Rattle.sq_perform.specs.declared.refusal.RunFault.TheVariants.{SchemaRefused, ModuleRefused, ScriptRefused}
+use Rattle.sq_run.specs.Answer.{Task, accepted_modules, accepted_schemas, accepted_script, accepted_unless, and_then, asked_of, module_refusal, opened, read_texts, refused_as, refused_text, schema_refusal, script_fault_name, script_refusal, trees_of}
 use Rattle.sq_run.specs.Refused.{RefusalsTell, RefusedText}
 use Rattle.sq_run.proofs.AcceptedTexts.{text_spells, texts_spell}
 use Rattle.sq_run.proofs.ReadTexts.{IsExact, modules_exact, schemas_exact, scripts_exact}
@@ -122,10 +121,13 @@ module _ {T : Type 0} (rule : Parser T) (tokens_of : T → List Lexeme) (depth_o
     by_place false deep i d e = record {
       number_is = refl;
       spelling = λ h. cc;
-      refused = (e, λ tree s.
-          let within = subst (λ n. n - left < n) as_long (deepens tree s).inside in
-          let behind = ltb-false index (length tokens) i in
-          absurd (omega (arith, within, behind)));
+      refused = (
+        e,
+        λ tree s.
+            let within = subst (λ n. n - left < n) as_long (deepens tree s).inside in
+            let behind = ltb-false index (length tokens) i in
+            absurd (omega (arith, within, behind)),
+      );
     }
 
     misspelled : IsStuck number text (stuck_at number text tokens index)
@@ -256,8 +258,11 @@ module _ (count : ℕ) where
   parts_within texts many =
       all_flat_mapped (λ t. t.0 < count) IsPart parts_of_text
       (λ t h. all_flat_mapped (λ s. ⊤) IsPart (parts_of_schema t.0)
-      (λ s u. (h, all_mapped (λ e. ⊤) IsPart (λ e. record { text = t.0; schema = s.0; number = Some e.0; user = (s.1).authorization; element = Some e.1 })
-      (λ e v. h) (enumerate_from 0 (s.1).elements) (everything (enumerate_from 0 (s.1).elements))))
+      (λ s u. (
+        h,
+        all_mapped (λ e. ⊤) IsPart (λ e. record { text = t.0; schema = s.0; number = Some e.0; user = (s.1).authorization; element = Some e.1 })
+            (λ e v. h) (enumerate_from 0 (s.1).elements) (everything (enumerate_from 0 (s.1).elements)),
+      ))
       (enumerate_from 0 ((t.1).first ∷ (t.1).rest)) (everything (enumerate_from 0 ((t.1).first ∷ (t.1).rest))))
       (enumerate_from 0 texts) (subst (λ n. AllByRecursion (λ (t : ℕ × SchemaText). t.0 < n) (enumerate_from 0 texts)) many (all_numbered texts))
     where

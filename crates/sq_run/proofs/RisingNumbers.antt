@@ -1,8 +1,8 @@
 -- The numbers to which an updatable cursor still comes rise, and are greater than that of the row that it is on: so a FETCH that
 -- comes to a row comes to one of a greater number (ISO/IEC 9075:1992, 13.2 and 13.3).
-use Rattle.std.proofs.Common.{◌≡◌, inl, inr, ◌⊎◌, ℕ, ◌+◌, ◌<◌, ◌≤◌, Bool, true, false, List, [], ◌∷◌, map, Option, Some, None, Ok, Err, refl, ap, subst, sym, ◌∙◌, arith}
+use Rattle.std.proofs.Common.{◌≡◌, inl, inr, ◌⊎◌, ℕ, ◌+◌, ◌<◌, ◌≤◌, Bool, true, false, List, [], ◌∷◌, map, Option, Some, None, Ok, refl, ap, subst, sym, ◌∙◌, arith}
 use Rattle.std.proofs.lemmas.Grind.{common_steps}
-use Rattle.std.specs.Prelude.{⊤, ◌&&◌, if◌then◌else◌, nat_le, option_map, unwrap_or}
+use Rattle.std.specs.Prelude.{⊤, if◌then◌else◌, option_map, unwrap_or}
 use Rattle.sq_lex.specs.declared.name.Name.{Name}
 use Rattle.sq_store.specs.Content.{Content, table_at}
 use Rattle.sq_store.specs.Rising.{has_rising_rows, rising_between}
@@ -23,7 +23,7 @@ use Rattle.sq_meaning.specs.declared.status.Status.TheVariants as status
 use Rattle.sq_meaning.proofs.Bind.{bind_ok}
 use Rattle.sq_meaning.specs.Change.{outer_env, reading, rows_at}
 use Rattle.sq_meaning.specs.Cursor.{CursorState, Move, at_number, before_numbers, before_rows, fetched, is_open, number_on, off_row, to_next}
-use Rattle.sq_meaning.specs.Machine.{Call, CursorEntry, Outcomes, Program, Running, State, cursor_at, cursor_now, cursor_rows, ends_with, fetch_cursor, fetch_to, first_state, move_of, numbers_or_rows, opened, performed, performed_if, running, set_cursor, setting, shown_now, stepped, surroundings}
+use Rattle.sq_meaning.specs.Machine.{Call, Outcomes, Program, Running, State, cursor_at, cursor_now, cursor_rows, ends_with, fetch_cursor, fetch_to, first_state, move_of, numbers_or_rows, opened, performed, performed_if, running, set_cursor, setting, shown_now, stepped, surroundings}
 use Rattle.sq_meaning.specs.Module.{cursor_named, module_named, procedure_named}
 use Rattle.sq_meaning.specs.WellFormedStatement.{is_well_formed_procedure, orientation_of, updatable_cursor}
 use Rattle.sq_run.proofs.CalledAs.{called_as, no_module, no_procedure}
