@@ -16,3 +16,4 @@ pub mod Reported
 pub mod ShownRows
 pub mod Stored
 pub mod Texts
+pub mod Unexpected

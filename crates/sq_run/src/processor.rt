@@ -9,6 +9,7 @@ ghost use Rattle.sq_run.specs.Accepted.{AcceptedSpellTrees, TextsHaveOneTree};
 ghost use Rattle.sq_run.specs.Answers.{Answers};
 ghost use Rattle.sq_run.specs.Kept.{ConstraintsAreKept, FailuresChangeNothing};
 ghost use Rattle.sq_run.specs.Refused.{RefusedText};
+ghost use Rattle.sq_run.specs.Unexpected.{UnexpectedToken};
 
 use sq_perform::{Limits, Out, RunFault};
 use sq_store::{MOST_ROW_NUMBERS, Store};
@@ -42,11 +43,13 @@ pub fn run<S: Store, W: Out>(
     ensures failed { IfErr result (λ fault. W.failed out.new ≡ is_write fault) }
 
     // Accepted texts spell the trees of the machine, a text spells one tree at most, and a refused one none, or only
-    // deeper ones, unless it is refused for what it means.
+    // deeper ones, unless it is refused for what it means. No text begins with the tokens up to one that is `Unexpected`.
     ensures spelled { AcceptedSpellTrees
         limits.row_numbers (texts schemas.now) (texts modules.now) script.now }
     ensures one_tree { TextsHaveOneTree }
     ensures refused { IfErr result (RefusedText (texts schemas.now) (texts modules.now) script.now) }
+    ensures unexpected { IfErr result (UnexpectedToken
+        (texts schemas.now) (texts modules.now) script.now) }
 
     // Behind each item each declared constraint holds, and a call that is not successful changes no table.
     ensures constraints { ConstraintsAreKept

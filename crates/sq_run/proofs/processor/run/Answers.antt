@@ -1,6 +1,7 @@
 use Rattle.sq_perform.specs.Texts.{texts}
 use Rattle.sq_run.proofs.AcceptedTexts.{accepted_spell_trees, constraints_kept, failures_change_nothing, texts_have_one_tree}
 use Rattle.sq_run.proofs.Accepts.{answers, refuses}
+use Rattle.sq_run.proofs.Tokens.UnexpectedTokens.{refused_tokens}
 use Rattle.sq_run.proofs.processor.run.Goals as goal
 
 pub returns-clause-answers : goal.returns-clause-answers
@@ -17,6 +18,11 @@ returns-clause-one_tree g c = texts_have_one_tree
 pub returns-clause-refused : goal.returns-clause-refused
 returns-clause-refused g c =
     refuses c.args.limits.row_numbers (texts c.args.schemas.now) (texts c.args.modules.now) c.args.script.now c.run.result c.run.ensures.refused
+
+pub returns-clause-unexpected : goal.returns-clause-unexpected
+returns-clause-unexpected g c =
+    refused_tokens (texts c.args.schemas.now) (texts c.args.modules.now) c.args.script.now c.run.result
+    (refuses c.args.limits.row_numbers (texts c.args.schemas.now) (texts c.args.modules.now) c.args.script.now c.run.result c.run.ensures.refused)
 
 pub returns-clause-constraints : goal.returns-clause-constraints
 returns-clause-constraints g c = constraints_kept c.args.limits.row_numbers (texts c.args.schemas.now) (texts c.args.modules.now) c.args.script.now
