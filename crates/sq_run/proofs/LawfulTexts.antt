@@ -12,7 +12,9 @@ use Rattle.sq_perform.specs.declared.refusal.RunFault.{RunFault}
 use Rattle.sq_run.specs.Answer.{Task, answered}
 use Rattle.sq_run.specs.Kept.{ConstraintsAreKept, FailuresChangeNothing}
 use Rattle.sq_run.specs.Lawful.{Lawful}
+use Rattle.sq_run.specs.Refused.{RefusalsTell}
 use Rattle.sq_run.specs.Trees.{TellsOfTrees}
+use Rattle.sq_run.specs.Unexpected.{UnexpectedIsFinal}
 use Rattle.sq_run.proofs.AcceptedTexts.{accepted_are, accepted_spell_trees, texts_have_one_tree}
 use Rattle.sq_run.proofs.CallLaws.{failed_changes_nothing}
 use Rattle.sq_run.proofs.CommitLaws.{commit_alone_commits}
@@ -22,6 +24,7 @@ use Rattle.sq_run.proofs.IntegrityLaws.{only_allowed_changes}
 use Rattle.sq_run.proofs.NameLaws.{constraints_hold_in_runs}
 use Rattle.sq_run.proofs.RefusedLaws.{refusals_tell}
 use Rattle.sq_run.proofs.ShownRowLaws.{fetch_shows_rows_now}
+use Rattle.sq_run.proofs.Tokens.UnexpectedTokens.{unexpected_tokens}
 
 failures : (p : Program) → FailuresChangeNothing p
 unfolding FailuresChangeNothing
@@ -64,9 +67,14 @@ module _ (row_numbers : ℕ) (schemas modules : List Bytes) (script : Bytes) whe
       by_answer (Ok task) e = task_lawful task e
       by_answer (Err fault) e = tt
 
+  unexpected_is_final : UnexpectedIsFinal row_numbers schemas modules script
+  unfolding UnexpectedIsFinal RefusalsTell
+  unexpected_is_final = λ fault e. unexpected_tokens schemas modules script fault (refusals_tell row_numbers schemas modules script fault e)
+
   pub tells_of_trees : TellsOfTrees row_numbers schemas modules script
   tells_of_trees = record {
     accepted = accepted_spell_trees row_numbers schemas modules script;
     one_tree = texts_have_one_tree;
     refused = refusals_tell row_numbers schemas modules script;
+    unexpected = unexpected_is_final;
   }

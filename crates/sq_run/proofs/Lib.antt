@@ -173,3 +173,4 @@ pub mod FetchReads
 pub mod LawfulTexts
 pub mod RefusedLaws
 pub mod RisingNumbers
+pub mod Tokens

@@ -19,3 +19,4 @@ pub mod ShownRows
 pub mod Stored
 pub mod Texts
 pub mod Trees
+pub mod Unexpected

@@ -41,8 +41,8 @@ pub fn run<S: Store, W: Out>(
     ensures still { OnOk result (W.failed out.new ≡ false) }
     ensures failed { IfErr result (λ fault. W.failed out.new ≡ is_write fault) }
 
-    // What the answer says of trees: accepted texts spell those of the machine, no text spells two, and one that is
-    // refused for how it is spelled has none, or only deeper ones.
+    // What the answer says of trees: accepted texts spell those of the machine, no text spells two, one that is refused for
+    // how it is spelled has none, or only deeper ones, and none goes on with a token that is `Unexpected`.
     ensures trees { TellsOfTrees limits.row_numbers (texts schemas.now) (texts modules.now) script.now }
 
     // The machine of accepted texts keeps constraints, privileges and what else `Lawful` asks of it.
