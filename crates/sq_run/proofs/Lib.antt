@@ -174,3 +174,4 @@ pub mod LawfulTexts
 pub mod RefusedLaws
 pub mod RisingNumbers
 pub mod Tokens
+pub mod Rows
