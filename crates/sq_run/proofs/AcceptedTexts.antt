@@ -1,5 +1,5 @@
--- Laws of what texts come to: those that are accepted spell trees, and their machine keeps constraints; no text spells two trees.
-use Rattle.std.proofs.Common.{◌≡◌, ℕ, ◌+◌, List, [], ◌∷◌, take, Option, Some, None, Result, Ok, Err, refl, sym, ap, subst, ◌∙◌}
+-- Laws of what texts come to: those that are accepted spell trees, and no text spells two.
+use Rattle.std.proofs.Common.{◌≡◌, ℕ, ◌+◌, List, [], ◌∷◌, Option, Some, None, Result, Ok, Err, refl, sym, ap, subst, ◌∙◌}
 use Rattle.std.specs.Option.{option_map}
 use Rattle.sq_lex.specs.Reading.{reading}
 use Rattle.sq_lex.specs.Token.{lexemes}
@@ -22,19 +22,16 @@ use Rattle.sq_meaning.specs.Schema.{Elements}
 use Rattle.sq_meaning.specs.SchemaRefusal.{elements_of, first_schema_refusal}
 use Rattle.sq_meaning.specs.Script.{first_script_refusal}
 use Rattle.sq_meaning.specs.Report.{Bytes}
-use Rattle.sq_meaning.specs.Run.{after, program_of}
-use Rattle.sq_meaning.specs.Machine.{Program, first_state}
+use Rattle.sq_meaning.specs.Run.{program_of}
+use Rattle.sq_meaning.specs.Machine.{Program}
 use Rattle.sq_run.specs.Answer.{Task, accepted_modules, accepted_schemas, accepted_script, accepted_unless, and_then, answered, asked_of, module_refusal, opened, read_texts, refused_as, schema_refusal, script_refusal, task_of, trees_of}
 use Rattle.sq_perform.specs.Read.{ReadText, module_rule, of_outcome, of_tokens, read_text, schema_rule, script_rule}
 use Rattle.sq_perform.specs.Texts.{AllSpell, Spells, SpellsTree}
 use Rattle.sq_perform.specs.declared.refusal.Refusal.{Refusal}
 use Rattle.sq_perform.specs.declared.refusal.RunFault.{RunFault}
 use Rattle.sq_perform.specs.declared.refusal.RunFault.TheVariants.{SchemaRefused, ModuleRefused, ScriptRefused}
-use Rattle.sq_run.proofs.CallLaws.{StateHolds, failed_changes_nothing}
-use Rattle.sq_run.proofs.NameLaws.{constraints_hold_in_runs}
 use Rattle.sq_run.proofs.ReadTexts.{IsExact, modules_exact, schemas_exact, scripts_exact}
 use Rattle.sq_run.specs.Accepted.{Accepted, AcceptedSpellTrees, TextsHaveOneTree}
-use Rattle.sq_run.specs.Kept.{ConstraintsAreKept, FailuresChangeNothing}
 
 -- ---- steps that ended well
 
@@ -157,17 +154,6 @@ module _ (row_numbers : ℕ) (schemas modules : List Bytes) (script : Bytes) whe
   pub accepted_spell_trees : AcceptedSpellTrees row_numbers schemas modules script
   unfolding AcceptedSpellTrees
   accepted_spell_trees = accepted_are
-
-  pub constraints_kept : ConstraintsAreKept row_numbers schemas modules script
-  unfolding ConstraintsAreKept
-  constraints_kept task count e =
-      let a = accepted_are task e in
-      subst (λ k. StateHolds k.machine.elements (after k.machine (first_state k.machine) (take count k.items))) (sym a.task_is)
-      (constraints_hold_in_runs a.schema_trees a.module_trees row_numbers (take count (task_of a.schema_trees a.module_trees a.tree row_numbers).items) a.schemas_accepted)
-
-  pub failures_change_nothing : FailuresChangeNothing row_numbers schemas modules script
-  unfolding FailuresChangeNothing
-  failures_change_nothing task count c e failed = failed_changes_nothing task.machine _ c failed
 
 -- The tree of a text is its only one.
 one_tree : {T : Type 0} (tokens_of : T → List Lexeme) (one : (a b : T) → tokens_of a ≡ tokens_of b → a ≡ b) (text : Bytes) (a b : T)

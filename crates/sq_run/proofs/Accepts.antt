@@ -1,25 +1,19 @@
 -- A run over a session is one that the definitions describe: what is written is the report of what the texts come to, or the
 -- run stops for their first refusal.
-use Rattle.std.proofs.Common.{◌≡◌, ◌<◌, ℕ, zero, suc, List, [], ◌∷◌, length, take, slice_get, Option, Result, Ok, Err, refl, ap, sym, subst, ◌∙◌}
+use Rattle.std.proofs.Common.{◌≡◌, ◌<◌, ℕ, zero, suc, List, length, Option, Result, Ok, Err, ap, sym, subst, ◌∙◌}
 use Rattle.std.proofs.lemmas.List.{length-map}
 use Rattle.std.specs.Prelude.{IfErr, OnOk}
-use Rattle.sq_tree.specs.Script.{script_tokens, script_depth}
 use Rattle.sq_meaning.specs.Report.{Bytes}
 use Rattle.sq_run.proofs.Answered.{modules_answered, schemas_answered, script_answered, asked_by, task_answered}
 use Rattle.sq_run.proofs.Headline.{run_reports, run_stops_after, run_stops_inside}
 use Rattle.sq_perform.specs.Action.{item_of}
 use Rattle.sq_run.specs.Answer.{answered}
-use Rattle.sq_perform.specs.Read.{script_rule}
-use Rattle.sq_perform.specs.Refusal.{IsRefused, Matter, Tokens, Grammar, Depth, Meaning, OneRefused, matter, read_before}
 use Rattle.sq_perform.specs.Refused as session
 use Rattle.sq_perform.specs.Run.{Run}
 use Rattle.sq_perform.specs.Stop as session_stop
-use Rattle.sq_perform.specs.Texts.{SomeTrees}
-use Rattle.sq_perform.specs.declared.refusal.Refusal.{Refusal}
 use Rattle.sq_perform.specs.declared.refusal.RunFault.{RunFault}
 use Rattle.sq_perform.specs.declared.refusal.RunFault.TheVariants.{SchemaRefused, ModuleRefused, ScriptRefused, Write, NoMemory}
 use Rattle.sq_run.specs.Answers.{Answers}
-use Rattle.sq_run.specs.Refused.{RefusedText}
 
 module _ (row_numbers : ℕ) (schemas modules : List Bytes) (script : Bytes) where
   as_many : (r : Run row_numbers schemas modules script) → length r.actions ≡ length (asked_by row_numbers schemas modules script r).items
@@ -52,37 +46,3 @@ module _ (row_numbers : ℕ) (schemas modules : List Bytes) (script : Bytes) whe
         → Answers (answered schemas modules script row_numbers) old new result
     answers (Ok tt) report wrote is = done report
     answers (Err fault) report wrote is = stopped fault wrote is
-
-  -- ---- what a refusal says of trees
-
-  none_before : (refusal : Refusal) → refusal.text ≡ 0 → SomeTrees script_tokens script_depth (take refusal.text (script ∷ []))
-  none_before refusal number = subst (λ n. SomeTrees script_tokens script_depth (take n (script ∷ []))) (sym number) ([], tt)
-
-  script_one : (refusal : Refusal) (m : Matter) → refusal.text ≡ 0 → matter refusal.what ≡ m → IsRefused script_rule script_tokens script_depth script refusal m
-      → SomeTrees script_tokens script_depth (read_before m refusal.text (script ∷ [])) → OneRefused script_rule script_tokens script_depth (script ∷ []) refusal
-  script_one refusal m number e is before = record {
-    text = script;
-    there = ap (slice_get (script ∷ [])) number;
-    refused = subst (IsRefused script_rule script_tokens script_depth script refusal) (sym e) is;
-    before = subst (λ k. SomeTrees script_tokens script_depth (read_before k refusal.text (script ∷ []))) (sym e) before;
-  }
-
-  script_said : (refusal : Refusal) (m : Matter) → matter refusal.what ≡ m → (h : session.ScriptIsRefused row_numbers schemas modules script refusal)
-      → session.IsRefusedScript h.start script refusal m → OneRefused script_rule script_tokens script_depth (script ∷ []) refusal
-  script_said refusal Tokens e h is = script_one refusal Tokens h.text e is (none_before refusal h.text)
-  script_said refusal Grammar e h is = script_one refusal Grammar h.text e is (none_before refusal h.text)
-  script_said refusal Depth e h is = script_one refusal Depth h.text e is (none_before refusal h.text)
-  script_said refusal Meaning e h is = script_one refusal Meaning h.text e tt (is.tree ∷ [], (is.spells, tt))
-
-  refused : (fault : RunFault) → session.RefusedText row_numbers schemas modules script fault → RefusedText schemas modules script fault
-  unfolding RefusedText session.RefusedText
-  refused (SchemaRefused refusal) h = h.0
-  refused (ModuleRefused refusal) h = h.1
-  refused (ScriptRefused refusal) h = script_said refusal (matter refusal.what) refl h h.refused
-  refused (Write bytes) h = tt
-  refused (NoMemory items) h = tt
-
-  pub refuses : (result : Result (Unit {0}) RunFault) → IfErr result (session.RefusedText row_numbers schemas modules script)
-      → IfErr result (RefusedText schemas modules script)
-  refuses (Ok u) h = h
-  refuses (Err fault) h = refused fault h

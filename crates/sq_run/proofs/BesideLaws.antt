@@ -1,20 +1,23 @@
 -- A session beside the machine does what the machine does: each call is its step, keeps constraints, and reads few rows (ISO/IEC
 -- 9075:1992, 4.10, 4.21, 12.4 and clause 13).
-use Rattle.std.proofs.Common.{◌≡◌, ℕ, Bool, true, false, List, [], ◌∷◌, Option, Some, None, Result, Ok, Err, refl, sym, ap, subst, ◌∙◌}
+use Rattle.std.proofs.Common.{◌≡◌, ℕ, ◌-◌, ◌≤◌, Bool, true, false, List, [], ◌∷◌, Option, Some, None, Result, Ok, Err, refl, sym, ap, subst, ◌∙◌}
 use Rattle.std.specs.Option.{option_and_then, option_map, option_map_or}
-use Rattle.std.specs.Prelude.{IfOk, flat_map, is_ok, is_some, not, slice_get}
+use Rattle.std.specs.Prelude.{IfOk, flat_map, is_err, is_ok, is_some, not, slice_get, unwrap_or}
 use Rattle.std.specs.Result.{result_err, result_map_both, result_ok}
 use Rattle.sq_lex.specs.declared.name.Name.{Name}
 use Rattle.sq_value.specs.declared.value.Value.{Value}
 use Rattle.sq_store.specs.Content.{table_at}
+use Rattle.sq_tree.specs.declared.«module».Cursor.{Cursor}
 use Rattle.sq_tree.specs.declared.«module».ModuleText.{ModuleText}
 use Rattle.sq_tree.specs.declared.«module».Procedure.{Procedure}
 use Rattle.sq_tree.specs.declared.schema.SchemaText.{SchemaText}
+use Rattle.sq_tree.specs.declared.statement.Fetch.{Fetch}
 use Rattle.sq_tree.specs.declared.statement.Statement.{Statement}
 use Rattle.sq_tree.specs.declared.statement.Statement.TheVariants as statement
+use Rattle.sq_meaning.specs.Cursor.{number_on}
 use Rattle.sq_meaning.specs.Machine as by_name
-use Rattle.sq_meaning.specs.Machine.{Call, first_state, replied, stepped}
-use Rattle.sq_meaning.specs.Module.{declared_parameters, module_named, procedure_named}
+use Rattle.sq_meaning.specs.Machine.{Call, cursor_at, first_state, replied, stepped}
+use Rattle.sq_meaning.specs.Module.{cursor_named, declared_parameters, module_named, procedure_named}
 use Rattle.sq_meaning.specs.Parameter.{Reply as MachineReply}
 use Rattle.sq_meaning.specs.Report.{Bytes}
 use Rattle.sq_meaning.specs.Run.{program_of}
@@ -43,11 +46,14 @@ use Rattle.sq_perform.specs.Opened.{Opened}
 use Rattle.sq_perform.specs.Run.{IsOpened as IsOpenedSession}
 use Rattle.sq_perform.specs.Steps.{told}
 use Rattle.sq_run.specs.Beside.{Brought, Called, IsBeside, Numbered, after_calls, first_machine}
+use Rattle.sq_run.specs.Faulty.{is_syntax_error}
 use Rattle.sq_run.specs.Processor.{AllHold, AreAccepted, CallReadsFew, FailsWithoutChange, IsOpened, IsStep, Machine, after_call, call_at, call_of, has_fault, needs_memory, number_of, procedure_at, ReadsFew, rows_of, takes, takes_memory, with_module}
 use Rattle.sq_run.proofs.Agrees.{unmapped_at}
-use Rattle.sq_run.proofs.CallIsStep.{numbered_is_step}
+use Rattle.sq_run.proofs.AheadWalks.{AreAhead, all_closed_ahead, call_ahead}
+use Rattle.sq_run.proofs.CallIsStep.{ends_faulty, numbered_is_step}
 use Rattle.sq_run.proofs.CallLaws.{failed_changes_nothing}
 use Rattle.sq_run.proofs.Exact.{IsBoundExactly, IsOpenedFrom, IsProcedureExactly}
+use Rattle.sq_run.proofs.FetchReads.{fetch_reads}
 use Rattle.sq_run.proofs.Found.{each_of_all, module_found, procedure_found}
 use Rattle.sq_run.proofs.Headline as headline
 use Rattle.sq_run.proofs.KeyedCalls.{keyed_call_reads_one}
@@ -58,12 +64,17 @@ use Rattle.sq_run.proofs.ProcedureNumbers.{IsOf, StandAt, number_same, of_sessio
 use Rattle.sq_run.proofs.Quiet.{quiet_open_reads_none}
 use Rattle.sq_run.proofs.ReadCalls.{IsCall}
 use Rattle.sq_run.proofs.Reports.{IsSession, base_found}
+use Rattle.sq_run.proofs.RisingNumbers.{CursorsRise, fetch_goes_on, first_rise, rises_after}
 use Rattle.sq_run.proofs.SameStates.{SameReply}
 use Rattle.sq_run.proofs.Scripts.{base_missing}
 
 there_if : {A : Type 0} (f : A → Bool) (o : Option A) → option_map_or f o false ≡ true → (x : A) × (o ≡ Some x)
 there_if f None e = cc
 there_if f (Some x) e = (x, refl)
+
+err_there : {A E : Type 0} (r : Result A E) → is_some (result_err r) ≡ is_err r
+err_there (Ok x) = refl
+err_there (Err e) = refl
 
 told_same : (reply : Reply) (r : MachineReply) → SameReply (record { status = reply.status; outputs = reply.outputs }) r → told reply ≡ r
 told_same reply r h = λ i. record { status = h.status i; outputs = h.outputs i }
@@ -141,6 +152,8 @@ module _ (row_numbers : ℕ) (texts : List SchemaText) (modules : List ModuleTex
   record Stands (s : Session) (m : Machine) : Type 0 where
     runs : m.program ≡ machine
     is : Is s m.state
+    rise : CursorsRise m.state
+    ahead : AreAhead s.state.cursors
 
   called_at : (m : Machine) → m.program ≡ machine → (number : ℕ) (values : List Value) (e : ModuleText × Procedure) → slice_get all number ≡ Some e
       → call_at m.program number values ≡ Some (call_of values e)
@@ -157,11 +170,22 @@ module _ (row_numbers : ℕ) (texts : List SchemaText) (modules : List ModuleTex
       → Called s number values reply t → Stands t (after_call m number values)
   stands_after s m h number values reply t c =
       let one = one_call s m.state h.is number values reply t c in
-      record { runs = h.runs; is = subst (Is t) (sym (state_after m h.runs number values one.called one.there)) one.is }
+      let state = sym (state_after m h.runs number values one.called one.there) in
+      record {
+        runs = h.runs;
+        is = subst (Is t) state one.is;
+        rise = subst CursorsRise state (rises_after machine m.state (call_of values one.called) h.is.agrees.rising.0 h.rise);
+        ahead = call_ahead s.schemas (kind_at s.procedures number) values s.state (record { status = reply.status; outputs = reply.outputs }) t.state h.ahead c.may;
+      }
 
   all_stand : (calls : List Numbered) (s : Session) → Brought calls start s → Stands s (after_calls first calls)
   all_stand [] s h =
-      record { runs = refl; is = subst (λ z. Is z (first_state machine)) (sym h) (headline.starts row_numbers texts modules start opened) }
+      record {
+        runs = refl;
+        is = subst (λ z. Is z (first_state machine)) (sym h) (headline.starts row_numbers texts modules start opened);
+        rise = first_rise machine;
+        ahead = subst (λ z. AreAhead z.state.cursors) (sym h) (subst AreAhead (sym opened.start.closed) (all_closed_ahead start.state.cursors));
+      }
   all_stand (c ∷ earlier) s h =
       stands_after h.0 (after_calls first earlier) (all_stand earlier h.0 h.2) c.0 c.1 h.1 s h.3
 
@@ -302,13 +326,30 @@ module _ (row_numbers : ℕ) (texts : List SchemaText) (modules : List ModuleTex
           reads = reads;
         }
 
-        reads_few : (m_after : Machine) → ReadsFew (record { program = machine; state = x }) values e reply.reads m_after
-        reads_few m_after = record {
+        -- the machine that is behind it
+        steps : Is t (stepped machine x (call_of values e))
+        steps =
+            let made : Steps x number values reply t = one_call s x h.is number values reply t c in
+            subst (λ k. Is t (stepped machine x (call_of values k))) (some_same made.called e (sym made.there ∙ at.there)) made.is
+
+        fetches_few : (f : Fetch) (k : Cursor) (n : ℕ) → e.1.statement ≡ statement.Fetch f → cursor_named e.0 f.cursor ≡ Some k
+            → number_on (cursor_at (stepped machine x (call_of values e)) e.0.name f.cursor) ≡ Some n
+            → (1 ≤ reply.reads) × (reply.reads ≤ n - unwrap_or (number_on (cursor_at x e.0.name f.cursor)) 0)
+        fetches_few f k n fetches named on =
+            let later = fetch_goes_on machine x (call_of values e) h.is.agrees.rising.0 h.rise e.0 text_found e.1 found sound f fetches k named n on in
+            fetch_reads texts modules row_numbers opened.known start.schemas program o exact s x h.is e.0 e.1 values reply t.state is_call f fetches k named
+            h.ahead t (stepped machine x (call_of values e)) steps refl n on later
+
+        reads_few : (m_after : Machine) → m_after.state ≡ stepped machine x (call_of values e)
+            → ReadsFew (record { program = machine; state = x }) values e reply.reads m_after
+        reads_few m_after behind = record {
           changes = keyed_call_reads_one texts modules row_numbers opened.known start.schemas program o exact s x h.is e.0 e.1 values reply t.state is_call;
           selects = λ w selects keyed.
               keyed_select_reads_one texts modules row_numbers opened.known start.schemas program o exact s x h.is e.0 e.1 values reply t.state is_call w selects keyed;
           opens = λ name c opens named quiet.
               quiet_open_reads_none texts modules row_numbers opened.known start.schemas program o exact s x h.is e.0 e.1 values reply t.state is_call name opens c named quiet;
+          fetches = λ f k n fetches named on.
+              fetches_few f k n fetches named (ap (λ (z : by_name.State). number_on (cursor_at z e.0.name f.cursor)) (sym behind) ∙ on);
         }
 
     abbrev fits_if : List Value → Option session.Procedure → Bool
@@ -421,11 +462,23 @@ module _ (s : Session) (m : Machine) (b : IsBeside s m) where
 
     pub reads_is : CallReads (kind_at s.procedures number) values s.state reply.reads → CallReadsFew m number values reply.reads (after_call m number values)
     reads_is reads e there sound =
-        let at = of_texts b.modules s.procedures (names b.row_numbers b.schemas b.modules b.start b.opened s m.state stands.is) number e
-        (ap (λ p. procedure_at p number) (sym stands.runs) ∙ there) in
+        let here = ap (λ p. procedure_at p number) (sym stands.runs) ∙ there in
+        let at = of_texts b.modules s.procedures (names b.row_numbers b.schemas b.modules b.start b.opened s m.state stands.is) number e here in
         subst (λ (p : by_name.Program). ReadsFew (record { program = p; state = m.state }) values e reply.reads (after_call m number values)) (sym stands.runs)
         (reads_few b.row_numbers b.schemas b.modules b.start b.opened s m stands number e at.0 at.1 values reply t c reads
-        (ap (λ (p : by_name.Program). is_well_formed_procedure p.elements e.0 e.1) (sym stands.runs) ∙ sound) (after_call m number values))
+        (ap (λ (p : by_name.Program). is_well_formed_procedure p.elements e.0 e.1) (sym stands.runs) ∙ sound) (after_call m number values)
+        (state_after b.row_numbers b.schemas b.modules b.start b.opened m stands.runs number values e here))
+
+    -- It answers 42000 exactly where the rules find a fault in its statement.
+    pub faults_is : is_syntax_error reply.status ≡ has_fault m.program number
+    faults_is = by_procedure (there_if (λ (p : session.Procedure). fit p.parameters values) (slice_get s.procedures number) c.fits) ∙ fault_is number
+      where
+        by_procedure : (q : session.Procedure) × (slice_get s.procedures number ≡ Some q) → is_syntax_error reply.status ≡ is_some (fault_at s.procedures number)
+        by_procedure q =
+            ends_faulty s.schemas q.0 values s.state (record { status = reply.status; outputs = reply.outputs }) t.state
+            (subst (λ z. MayCall s.schemas (option_and_then (λ (p : session.Procedure). result_ok p.statement) z) values s.state
+            (record { status = reply.status; outputs = reply.outputs }) t.state) q.1 c.may)
+            ∙ sym (ap (λ z. is_some (option_and_then (λ (p : session.Procedure). result_err p.statement) z)) q.1 ∙ err_there (q.0).statement)
 
   -- CLOSE, COMMIT and ROLLBACK take no memory.
   pub memory_is : (number : ℕ) (values : List Value) → fits_at s.procedures number values ≡ true → needs_memory m.program number ≡ false
@@ -449,6 +502,7 @@ module _ (s : Session) (m : Machine) (b : IsBeside s m) (old : Machine) (view : 
   pub record CallKeeps (reply : Reply) (t : Session) (after : Machine) : Type 0 where
     pub beside : IsBeside t after
     pub step : IsStep old number values reply after
+    pub faults : is_syntax_error reply.status ≡ has_fault old.program number
     pub failures : FailsWithoutChange old reply after
     pub holds : AllHold after
     pub few : CallReads (kind_at s.procedures number) values s.state reply.reads → CallReadsFew old number values reply.reads after
@@ -462,6 +516,7 @@ module _ (s : Session) (m : Machine) (b : IsBeside s m) (old : Machine) (view : 
       record {
         beside = stays;
         step = subst (λ n. IsStep n number values reply after) view (subst (IsStep m number values reply) (sym is) (step_is s m b number values reply t c));
+        faults = faults_is s m b number values reply t c ∙ ap (λ (n : Machine). has_fault n.program number) view;
         failures = subst (λ n. FailsWithoutChange n reply after) view (subst (FailsWithoutChange m reply) (sym is) (failure_is s m b number values reply t c));
         holds = all_hold t after stays;
         few = λ reads. subst (λ n. CallReadsFew n number values reply.reads after) view

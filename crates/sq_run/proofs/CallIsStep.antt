@@ -7,7 +7,7 @@ use Rattle.std.proofs.Common.{◌≡◌, ℕ, Bool, true, false, ◌&&◌, List,
 use Rattle.std.specs.Cmp.Lexicographic.{same_text}
 use Rattle.std.specs.List.{list_any}
 use Rattle.std.specs.Option.{option_and_then, option_map, option_map_or}
-use Rattle.std.specs.Prelude.{IfOk, Result, is_ok, slice_get, unwrap_or}
+use Rattle.std.specs.Prelude.{IfOk, Result, is_err, is_ok, not, slice_get, unwrap_or}
 use Rattle.std.specs.Result.{result_map_both, result_ok}
 use Rattle.std.proofs.lemmas.Bool.{and_parts}
 use Rattle.sq_lex.specs.declared.name.Name.{Name}
@@ -22,6 +22,9 @@ use Rattle.sq_value.specs.declared.value.Value.{Value}
 use Rattle.sq_meaning.specs.Environment.{same_name}
 use Rattle.sq_meaning.specs.Spelled.{table_of}
 use Rattle.sq_meaning.specs.Status.{Outcome}
+use Rattle.sq_meaning.specs.WellFormed.{IsNoSyntaxError}
+use Rattle.sq_meaning.specs.Words.{is_some_and}
+use Rattle.sq_meaning.specs.declared.status.Status.{Status}
 use Rattle.sq_meaning.specs.declared.status.Status.TheVariants as status
 use Rattle.sq_meaning.specs.Module.{module_named, procedure_named}
 use Rattle.sq_meaning.specs.Script.{fit}
@@ -50,12 +53,13 @@ use Rattle.sq_module.specs.declared.program.BoundProcedure.{BoundProcedure}
 use Rattle.sq_module.specs.declared.program.DeclaredCursor.{DeclaredCursor}
 use Rattle.sq_module.specs.declared.program.ProcedureName.{ProcedureName}
 use Rattle.sq_module.specs.declared.program.Program.{Program}
-use Rattle.sq_session.specs.Kind.{Procedure, fits_at, kind_at, kind_of}
+use Rattle.sq_session.specs.Kind.{Kind, Procedure, fits_at, kind_at, kind_of}
 use Rattle.sq_session.specs.Schemas.{Schemas, columns_of}
 use Rattle.sq_session.specs.Session.{is_procedure, procedure_number, procedure_of, procedures_of}
 use Rattle.sq_session.specs.State.{State}
 use Rattle.sq_session.specs.Step.{MayCall}
 use Rattle.sq_session.specs.declared.reply.Done.{Done}
+use Rattle.sq_run.specs.Faulty.{is_faulty, is_syntax_error}
 use Rattle.sq_run.proofs.SameStates.{SameReply, SameStates, ended_same}
 use Rattle.sq_run.proofs.Agrees.{Agrees, has_one, module_of, name_of, unmapped_at}
 use Rattle.sq_run.proofs.Exact.{IsBoundExactly, IsOpenedFrom, IsProcedureExactly}
@@ -66,6 +70,38 @@ use Rattle.sq_run.proofs.Projected.{IsOver, is_named, performed_projected, proje
 use Rattle.sq_run.proofs.Started.{as_many}
 use Rattle.sq_run.proofs.PerformedStatements.{some_same, statement_is}
 use Rattle.sq_run.proofs.Turns.{any_at, over_after}
+
+-- ---- how a call ends
+
+no_syntax_error : (st : Status) → IsNoSyntaxError st → is_syntax_error st ≡ false
+no_syntax_error status.SuccessfulCompletion h = refl
+no_syntax_error status.TextTruncated h = refl
+no_syntax_error status.NoData h = refl
+no_syntax_error status.CardinalityViolation h = refl
+no_syntax_error status.TextTooLong h = refl
+no_syntax_error status.NullWithoutIndicator h = refl
+no_syntax_error status.NumericValueOutOfRange h = refl
+no_syntax_error status.DivisionByZero h = refl
+no_syntax_error status.InvalidEscapeCharacter h = refl
+no_syntax_error status.InvalidEscapeSequence h = refl
+no_syntax_error status.IntegrityConstraintViolation h = refl
+no_syntax_error status.InvalidCursorState h = refl
+no_syntax_error status.SyntaxErrorOrAccessRuleViolation h = absurd h
+no_syntax_error status.CheckOptionViolation h = refl
+no_syntax_error status.NoRowNumberLeft h = refl
+
+-- with 42000 exactly where the procedure's statement has a fault
+pub ends_faulty : (schemas : Schemas) (q : Procedure) (values : List Value) (s : State) (d : Done) (after : State)
+    → MayCall schemas (result_ok q.statement) values s d after → is_syntax_error d.status ≡ is_err q.statement
+ends_faulty schemas q values s d after may = by_statement q.statement may
+  where
+    by_statement : (r : Result Kind Fault) → MayCall schemas (result_ok r) values s d after → is_syntax_error d.status ≡ is_err r
+    by_statement (Ok k) h = no_syntax_error d.status h.1
+    by_statement (Err fault) h = ap (λ (x : Done). is_syntax_error x.status) h.0
+
+is_err_mapped : {A B : Type 0} (g : A → B) (r : Result A Fault) → is_err (result_map_both g (λ z. z) r) ≡ not (is_ok r)
+is_err_mapped g (Ok x) = refl
+is_err_mapped g (Err fault) = refl
 
 module _ (texts : List SchemaText) (modules : List ModuleText) (row_numbers : ℕ) (known : KnownTables) (schemas : Schemas) (program : Program)
     (o : IsOpenedFrom texts modules known schemas program) (exact : IsBoundExactly texts modules program) where
@@ -186,6 +222,26 @@ module _ (texts : List SchemaText) (modules : List ModuleText) (row_numbers : �
       let procedure : h.procedure ≡ f.procedure
       = some_same h.procedure f.procedure (sym h.is_procedure ∙ (λ i. procedure_named (text i) (f.is_named i)) ∙ procedure_found modules o.admitted f.text f.among f.procedure f.is_item) in
       h.accepted ∙ (λ i. is_well_formed_procedure (elements_of texts) (text i) (procedure i))
+
+  -- It answers 42000 exactly where the rules find a fault in its statement.
+  pub numbered_faults : (s : State) (procedures : List Procedure) → procedures ≡ procedures_of declared program.procedures.entries
+      → («module» name : Name) (number : ℕ) (q : Procedure) → slice_get procedures number ≡ Some q → is_procedure «module» name q ≡ true
+      → (values : List Value) (d : Done) (after : State) → MayCall schemas (kind_at procedures number) values s d after
+      → is_syntax_error d.status ≡ is_faulty machine (record { in_module = «module»; procedure = name; values = values })
+  numbered_faults s procedures are «module» name number q at named values d after may =
+      let found = unmapped_at (procedure_of declared) program.procedures.entries number q (ap (λ ps. slice_get ps number) (sym are) ∙ at) in
+      let e : ProcedureName × BoundProcedure = found.0 in
+      let is : procedure_of declared e ≡ q = found.2 in
+      let here : slice_get procedures number ≡ Some (procedure_of declared e) = at ∙ ap (λ p. Some p) (sym is) in
+      let names = and_parts _ _ (subst (λ p. is_procedure «module» name p ≡ true) (sym is) named) in
+      let f : IsFromTexts known modules declared e = each_of_all (IsFromTexts known modules declared) program.procedures.entries o.is_of.procedures number e found.1 in
+      ends_faulty schemas (procedure_of declared e) values s d after
+      (subst (λ z. MayCall schemas (option_and_then (λ (q : Procedure). result_ok q.statement) z) values s d after) here may)
+      ∙ is_err_mapped (kind_of declared e.1.user e.1.parameters) e.1.statement ∙ ap not (exactly number e found.1 f)
+      ∙ sym (ap (is_some_and (λ m. is_some_and (λ q. not (is_well_formed_procedure (elements_of texts) m q)) (procedure_named m name)))
+      (ap (module_named modules) (same_text «module» e.0.«module» (sym names.0) ∙ f.named) ∙ module_found modules o.admitted f.text f.among)
+      ∙ ap (is_some_and (λ q. not (is_well_formed_procedure (elements_of texts) f.text q)))
+      (ap (procedure_named f.text) (same_text name e.0.name (sym names.1) ∙ f.is_named) ∙ procedure_found modules o.admitted f.text f.among f.procedure f.is_item))
 
   -- A call of the procedure with this number, with values that fit it, is the machine's step by that name.
   pub numbered_is_step : (s : State) (x : by_name.State) → Agrees texts row_numbers schemas declared s x → (procedures : List Procedure)

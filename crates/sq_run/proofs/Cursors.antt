@@ -1,5 +1,5 @@
 -- The cursor that a session has under a number, in a session of accepted texts that stands for the machine:
--- where it walks it is on the number of a row that the machine's cursor is on (ISO/IEC 9075:1992, 4.21).
+-- it is on the number of a row that the machine's cursor is on (ISO/IEC 9075:1992, 4.21).
 use Rattle.std.proofs.Common.{◌≡◌, ℕ, zero, suc, List, [], ◌∷◌, map, Some, sym, ap, subst, ◌∙◌}
 use Rattle.std.specs.Prelude.{slice_get, slice_index_or}
 use Rattle.sq_tree.specs.declared.«module».Cursor.{Cursor}
@@ -13,10 +13,11 @@ use Rattle.sq_module.specs.declared.program.DeclaredCursor.{DeclaredCursor}
 use Rattle.sq_module.specs.declared.program.Program.{Program}
 use Rattle.sq_session.specs.Schemas.{Schemas}
 use Rattle.sq_session.specs.Session.{Session}
-use Rattle.sq_session.specs.State.{cursor_at}
+use Rattle.sq_session.specs.State.{cursor_at, number_on}
 use Rattle.sq_session.specs.declared.cursor.CursorState.{CursorState}
 use Rattle.sq_session.specs.declared.cursor.CursorState.TheVariants as cursor
 use Rattle.sq_session.specs.declared.walk.WalkingCursor.{WalkingCursor}
+use Rattle.sq_run.proofs.DeleteAtSame.{on_same}
 use Rattle.sq_run.proofs.SameCursors.{AreSame}
 use Rattle.sq_run.proofs.SameStates.{SameCursor}
 use Rattle.sq_run.proofs.Agrees.{module_of, name_of}
@@ -42,6 +43,16 @@ same_at tables x (e ∷ ds) (k ∷ cs) (suc n) d h at = same_at tables x ds cs n
 
 module _ (texts : List SchemaText) (modules : List ModuleText) (row_numbers : ℕ) (known : KnownTables) (schemas : Schemas) (program : Program)
     (o : IsOpenedFrom texts modules known schemas program) (exact : IsBoundExactly texts modules program) where
+  -- It is on the number that the machine's cursor of that module and name is on.
+  pub number_is_on : (s : Session) (x : by_name.State) → IsSession texts modules row_numbers known schemas program o exact s x
+      → (m : ModuleText) (c : Cursor) (n : ℕ) → IsCursorAt program m c n
+      → machine.number_on (by_name.cursor_at x m.name c.name) ≡ number_on (cursor_at s.state n)
+  number_is_on s x stands m c n at =
+      let d : DeclaredCursor = at.declared_as in
+      let same = same_at s.state.tables x program.cursors.items s.state.cursors n d stands.agrees.same.cursors at.there in
+      (λ i. machine.number_on (by_name.cursor_at x (sym at.of_module i) (sym at.named i)))
+      ∙ on_same s.state.tables d (cursor_at s.state n) (by_name.cursor_at x d.«module» d.name) same
+
   -- Where it walks it is on the number that the machine's cursor of that module and name is on.
   pub walk_is_on : (s : Session) (x : by_name.State) → IsSession texts modules row_numbers known schemas program o exact s x
       → (m : ModuleText) (c : Cursor) (n : ℕ) → IsCursorAt program m c n → (w : WalkingCursor) → cursor_at s.state n ≡ cursor.Walking w

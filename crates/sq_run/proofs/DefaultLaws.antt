@@ -191,7 +191,7 @@ shown_there (Some place) e = refl
 shown_there None e = cc
 
 pub defaults_are_not_reached : (schemas : List SchemaText) (modules : List ModuleText) (row_numbers : ℕ)
-    → first_schema_refusal schemas ≡ None → first_module_refusal modules ≡ None → DefaultsAreNotReached schemas modules row_numbers
+    → first_schema_refusal schemas ≡ None → first_module_refusal modules ≡ None → DefaultsAreNotReached (program_of schemas modules row_numbers)
 defaults_are_not_reached schemas modules row_numbers accepted admitted = record {
   columns = all_columns (elements_of schemas) (accepted_elements schemas accepted);
   parameters = parameters_of modules admitted;

@@ -167,3 +167,11 @@ pub mod ProcedureNumbers
 pub mod DefaultLaws
 pub mod ConfinedLaws
 pub mod Worked
+pub mod AheadWalks
+pub mod FaultLaws
+pub mod FetchReads
+pub mod LawfulTexts
+pub mod RefusedLaws
+pub mod RisingNumbers
+pub mod Tokens
+pub mod Rows

@@ -94,7 +94,7 @@ module _ (texts : List SchemaText) (modules : List ModuleText) (row_numbers : �
     reads_of y e =
         subst (λ k. CallReads k values s.state reply.reads) (b.kind ∙ ap (λ z. Some (kind_of declared m.authorization b.parameters z)) e) call.reads
 
-    may_of : (y : BoundStatement) → b.statement ≡ y
+    pub may_of : (y : BoundStatement) → b.statement ≡ y
         → MayCall s.schemas (Some (kind_of declared m.authorization b.parameters y)) values s.state (done reply) after
     may_of y e =
         subst (λ k. MayCall s.schemas k values s.state (done reply) after) (b.kind ∙ ap (λ z. Some (kind_of declared m.authorization b.parameters z)) e) call.may

@@ -91,12 +91,12 @@ module _ (texts : List SchemaText) (modules : List ModuleText) (row_numbers : �
   p = program_of texts modules row_numbers
 
   -- the lines of an item, and the session behind it
-  abbrev IsStep : Action → Type 0
+  abbrev pub IsStep : Action → Type 0
   IsStep a =
       (s : Session) (x : by_name.State) → IsSession s x → (lines : Bytes) (t : Session) → Step a s lines t
       → (lines ≡ item_lines p x (item_of a)) × IsSession t (after_item p x (item_of a))
 
-  step_is : (a : Action) → IsStep a
+  pub step_is : (a : Action) → IsStep a
   step_is =
       by_action IsStep
       (λ c s x is lines t h.

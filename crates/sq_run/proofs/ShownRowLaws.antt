@@ -192,6 +192,13 @@ closed_at k other (e ∷ es) h = by_test (is_entry k other e) (closed_at k other
     by_test true others = h.0
     by_test false others = others
 
+pub first_closed : (p : Program) (k other : Name) → cursor_at (first_state p) k other ≡ CursorState.closed
+first_closed p k other =
+    closed_at k other (flat_map entries_of p.modules)
+    (all_flat_mapped (λ x. ⊤) (λ e. e.state ≡ CursorState.closed) entries_of
+    (λ x t. all_mapped (λ c. ⊤) (λ e. e.state ≡ CursorState.closed) (λ c. record { in_module = x.name; name = c.name; state = CursorState.closed }) (λ c u. refl) (cursors x) (all_true (cursors x)))
+    p.modules (all_true p.modules))
+
 -- ---- what is kept of each updatable cursor
 
 -- A cursor over numbers of which P holds goes on over such.
@@ -389,12 +396,7 @@ module _ (p : Program) where
       ap (module_named p.modules) same ∙ e
 
   first_kept : AllKept []
-  first_kept = λ m name is_m d target named is.
-      subst (Over (WasMet p [] m name target))
-      (sym (closed_at m.name name (flat_map entries_of p.modules)
-      (all_flat_mapped (λ x. ⊤) (λ e. e.state ≡ CursorState.closed) entries_of
-      (λ x t. all_mapped (λ c. ⊤) (λ e. e.state ≡ CursorState.closed) (λ c. record { in_module = x.name; name = c.name; state = CursorState.closed }) (λ c u. refl) (cursors x) (all_true (cursors x)))
-      p.modules (all_true p.modules)))) tt
+  first_kept = λ m name is_m d target named is. subst (Over (WasMet p [] m name target)) (sym (first_closed p m.name name)) tt
 
   unchanged : (items : List Item) → AllKept items → (i : Item) → after_item p (state_after p items) i ≡ state_after p items → AllKept (items ++ i ∷ [])
   unchanged items all i e = λ m name is_m.

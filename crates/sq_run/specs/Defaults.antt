@@ -1,7 +1,7 @@
 -- Where the definitions write a default for what can't be, accepted texts never come to it (ISO/IEC 9075:1992, 11.4, 12.3
 -- and 13.1).
 use Rattle.std.specs.List.{AllByRecursion, AllZip, IsAmong, list_any}
-use Rattle.std.specs.Prelude.{◌≡◌, ◌⊎◌, ⊤, ℕ, true, List, is_some, None, Ok}
+use Rattle.std.specs.Prelude.{◌≡◌, ◌⊎◌, ⊤, true, List, is_some, None, Ok}
 use Rattle.sq_lex.specs.declared.name.Name.{Name}
 use Rattle.sq_value.specs.declared.value.Value.{Value}
 use Rattle.sq_value.specs.declared.value.Value.TheVariants as value
@@ -11,7 +11,6 @@ use Rattle.sq_tree.specs.declared.module.ModuleText.{ModuleText}
 use Rattle.sq_tree.specs.declared.module.Procedure.{Procedure}
 use Rattle.sq_tree.specs.declared.schema.SchemaElement.{SchemaElement}
 use Rattle.sq_tree.specs.declared.schema.SchemaElement.TheVariants as element
-use Rattle.sq_tree.specs.declared.schema.SchemaText.{SchemaText}
 use Rattle.sq_tree.specs.declared.script.ScriptItem.TheVariants as script
 use Rattle.sq_meaning.specs.Assignment.{assigned}
 use Rattle.sq_meaning.specs.Spelled.{domain_of}
@@ -19,9 +18,8 @@ use Rattle.sq_meaning.specs.Tables.{Declared}
 use Rattle.sq_meaning.specs.Machine.{Program, State, is_entry}
 use Rattle.sq_meaning.specs.Module.{cursors, declared_parameters, parameter_declarations}
 use Rattle.sq_meaning.specs.Parameter.{started}
-use Rattle.sq_meaning.specs.Run.{Item, program_of}
+use Rattle.sq_meaning.specs.Run.{Item}
 use Rattle.sq_meaning.specs.Schema.{base_place, column_definitions}
-use Rattle.sq_meaning.specs.SchemaRefusal.{elements_of}
 use Rattle.sq_meaning.specs.Script.{fit, script_fault_of}
 use Rattle.sq_run.specs.ShownRows.{state_after}
 
@@ -45,15 +43,12 @@ abbrev pub HasCursors : Program → State → Type 0
 HasCursors p s = (m : ModuleText) (c : Cursor) → IsAmong p.modules m → IsAmong (cursors m) c
     → list_any (is_entry m.name c.name) s.cursors ≡ true
 
-pub record DefaultsAreNotReached (schemas : List SchemaText) (modules : List ModuleText)
-    (row_numbers : ℕ) : Type 0 where
-  pub columns : AllByRecursion (λ e. HaveDomains e.element) (elements_of schemas)
-  pub parameters : (m : ModuleText) (q : Procedure) → IsAmong modules m → IsAmong m.items (item.Procedure q)
+pub record DefaultsAreNotReached (p : Program) : Type 0 where
+  pub columns : AllByRecursion (λ e. HaveDomains e.element) p.elements
+  pub parameters : (m : ModuleText) (q : Procedure) → IsAmong p.modules m → IsAmong m.items (item.Procedure q)
       → ParametersHaveDomains q
   pub values : (q : Procedure) (values : List Value) → fit (declared_parameters q) values ≡ true
       → AreStarted (declared_parameters q) values
-  pub cursors : (items : List Item)
-      → HasCursors (program_of schemas modules row_numbers)
-      (state_after (program_of schemas modules row_numbers) items)
-  pub shown : (user table : Name) → script_fault_of (elements_of schemas) modules (script.Table user table) ≡ None
-      → is_some (base_place (elements_of schemas) (record { user = user; name = table })) ≡ true
+  pub cursors : (items : List Item) → HasCursors p (state_after p items)
+  pub shown : (user table : Name) → script_fault_of p.elements p.modules (script.Table user table) ≡ None
+      → is_some (base_place p.elements (record { user = user; name = table })) ≡ true

@@ -1,6 +1,6 @@
 -- A processor of schema and module texts: the table machine, the state to which calls have brought it, and what each
 -- call does and keeps (ISO/IEC 9075:1992, 4.21, 12.3, 12.4 and clause 13).
-use Rattle.std.specs.Prelude.{◌≡◌, ◌≤◌, ◌&&◌, ℕ, Bool, true, false, not, List, map, flat_map, position, slice_get, Option, Some, None, option_map}
+use Rattle.std.specs.Prelude.{◌≡◌, ◌≤◌, ◌-◌, ◌&&◌, ℕ, Bool, true, false, not, List, map, flat_map, position, slice_get, Option, Some, None, option_map, unwrap_or}
 use Rattle.std.specs.Option.{option_map_or}
 use Rattle.sq_lex.specs.declared.name.Name.{Name}
 use Rattle.sq_value.specs.declared.value.Value.{Value}
@@ -12,13 +12,15 @@ use Rattle.sq_tree.specs.declared.module.Cursor.{Cursor}
 use Rattle.sq_tree.specs.declared.module.ModuleText.{ModuleText}
 use Rattle.sq_tree.specs.declared.module.Procedure.{Procedure}
 use Rattle.sq_tree.specs.declared.schema.SchemaText.{SchemaText}
+use Rattle.sq_tree.specs.declared.statement.Fetch.{Fetch}
 use Rattle.sq_tree.specs.declared.statement.Select.{Select}
 use Rattle.sq_tree.specs.declared.statement.Statement.{Statement}
 use Rattle.sq_tree.specs.declared.statement.Statement.TheVariants as statement
 use Rattle.sq_meaning.specs.Constraints.{ConstraintsHold}
 use Rattle.sq_meaning.specs.Environment.{Input, same_name}
 use Rattle.sq_meaning.specs.Keyed.{is_keyed_statement, is_quiet_cursor}
-use Rattle.sq_meaning.specs.Machine.{Call, Program, State, first_state, replied, stepped}
+use Rattle.sq_meaning.specs.Cursor.{number_on}
+use Rattle.sq_meaning.specs.Machine.{Call, Program, State, cursor_at, first_state, replied, stepped}
 use Rattle.sq_meaning.specs.Module.{cursor_named, declared_parameters, procedures}
 use Rattle.sq_meaning.specs.ModuleRefusal.{first_module_refusal}
 use Rattle.sq_meaning.specs.Parameter.{inputs_of, started_parameters}
@@ -131,14 +133,22 @@ has_fault p number =
 abbrev pub inputs : List Value → Procedure → List Input
 inputs values p = inputs_of (started_parameters (declared_parameters p) values)
 
+-- the number of the row that a cursor of a module is on
+abbrev pub number_at : Machine → ModuleText → Name → Option ℕ
+number_at m in_module cursor = number_on (cursor_at m.state in_module.name cursor)
+
 -- A call of this procedure of a module, in whose statement the rules find no fault: UPDATE, DELETE and SELECT INTO that
--- name their row by a key read one at most, and OPEN of a quiet cursor reads none.
+-- name their row by a key read one at most, and OPEN of a quiet cursor reads none. A FETCH that takes an updatable cursor
+-- from the row of one number, or from no row, to that of another reads one at least, and no more than the numbers differ.
 pub record ReadsFew (m : Machine) (values : List Value) (e : ModuleText × Procedure) (count : ℕ) (after : Machine) : Type 0 where
   pub changes : is_keyed_statement m.program.elements e.0.authorization (inputs values e.1) e.1.statement ≡ true → count ≤ 1
   pub selects : (q : Select) → e.1.statement ≡ statement.Select q
       → is_keyed_select m.program.elements e.0.authorization (inputs values e.1) q ≡ true → count ≤ 1
   pub opens : (name : Name) (c : Cursor) → e.1.statement ≡ statement.Open name → cursor_named e.0 name ≡ Some c
       → is_quiet_cursor (surroundings_of m.program.elements e.0 e.1) c ≡ true → count ≡ 0
+  pub fetches : (f : Fetch) (c : Cursor) (number : ℕ) → e.1.statement ≡ statement.Fetch f
+      → cursor_named e.0 f.cursor ≡ Some c → number_at after e.0 f.cursor ≡ Some number
+      → (1 ≤ count) × (count ≤ number - unwrap_or (number_at m e.0 f.cursor) 0)
 
 -- so it is of the call of the procedure with this number
 abbrev pub CallReadsFew : Machine → ℕ → List Value → ℕ → Machine → Type 0

@@ -39,6 +39,8 @@ impl<S: Store> Model for Processor<S> {
 
 impl<S: Store> Processor<S> {
     ghost use Rattle.sq_run.specs.Answer.{opened};
+    ghost use Rattle.sq_run.specs.Faulty.{is_syntax_error};
+    ghost use Rattle.sq_run.specs.Lawful.{Lawful};
     ghost use Rattle.sq_run.specs.Opens.{Opens};
     ghost use Rattle.sq_run.specs.Processor.{AllHold, CallReadsFew, FailsWithoutChange, IsStep, has_fault, needs_memory, number_of, rows_of, takes};
 
@@ -53,6 +55,7 @@ impl<S: Store> Processor<S> {
         requires numbers { limits.row_numbers ≤ MOST_ROW_NUMBERS }
         ensures opened { Opens (opened (texts schemas.now) (texts modules.now) limits.row_numbers) result }
         ensures constraints { IfOk result AllHold }
+        ensures laws { IfOk result (λ m. Lawful m.program) }
     {
         match open_session::<S>(alloc, schemas, modules, limits) {
             Ok(session) => {
@@ -91,6 +94,7 @@ impl<S: Store> Processor<S> {
         requires fits { takes self.old.program procedure values.now ≡ true }
         ensures step { IfOk result (λ r. IsStep self.old procedure values.now r self.new) }
         ensures err { OnErr result (self.new ≡ self.old) }
+        ensures faults { IfOk result (λ r. is_syntax_error r.status ≡ has_fault self.old.program procedure) }
         ensures constraints { AllHold self.new }
         ensures failures { IfOk result (λ r. FailsWithoutChange self.old r self.new) }
         ensures memory { needs_memory self.old.program procedure ≡ false → IsOk result }

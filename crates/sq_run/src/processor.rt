@@ -1,14 +1,14 @@
 //! The entry of a run: its contract says what is written and refused by the
 //! definitions of the language alone.
 
-ghost use Rattle.std.specs.Prelude.{◌≡◌, ◌≤◌, false, IfErr, OnOk};
+ghost use Rattle.std.specs.Prelude.{◌≡◌, ◌≤◌, false, IfErr, IfOk, OnOk};
 ghost use Rattle.sq_run.specs.Answer.{answered};
 ghost use Rattle.sq_perform.specs.Stop.{is_write};
 ghost use Rattle.sq_perform.specs.Texts.{texts};
-ghost use Rattle.sq_run.specs.Accepted.{AcceptedSpellTrees, TextsHaveOneTree};
 ghost use Rattle.sq_run.specs.Answers.{Answers};
-ghost use Rattle.sq_run.specs.Kept.{ConstraintsAreKept, FailuresChangeNothing};
-ghost use Rattle.sq_run.specs.Refused.{RefusedText};
+ghost use Rattle.sq_run.specs.Faulty.{FaultsAnswer42000};
+ghost use Rattle.sq_run.specs.Lawful.{Lawful};
+ghost use Rattle.sq_run.specs.Trees.{TellsOfTrees};
 
 use sq_perform::{Limits, Out, RunFault};
 use sq_store::{MOST_ROW_NUMBERS, Store};
@@ -41,18 +41,17 @@ pub fn run<S: Store, W: Out>(
     ensures still { OnOk result (W.failed out.new ≡ false) }
     ensures failed { IfErr result (λ fault. W.failed out.new ≡ is_write fault) }
 
-    // Accepted texts spell the trees of the machine, a text spells one tree at most, and a refused one none, or only
-    // deeper ones, unless it is refused for what it means.
-    ensures spelled { AcceptedSpellTrees
-        limits.row_numbers (texts schemas.now) (texts modules.now) script.now }
-    ensures one_tree { TextsHaveOneTree }
-    ensures refused { IfErr result (RefusedText (texts schemas.now) (texts modules.now) script.now) }
+    // What the answer says of trees: accepted texts spell those of the machine, no text spells two, one that is refused for
+    // how it is spelled has none, or only deeper ones, and none goes on with a token that is `Unexpected`.
+    ensures trees { TellsOfTrees limits.row_numbers (texts schemas.now) (texts modules.now) script.now }
 
-    // Behind each item each declared constraint holds, and a call that is not successful changes no table.
-    ensures constraints { ConstraintsAreKept
-        limits.row_numbers (texts schemas.now) (texts modules.now) script.now }
-    ensures failures { FailuresChangeNothing
-        limits.row_numbers (texts schemas.now) (texts modules.now) script.now }
+    // The machine of accepted texts keeps constraints, privileges and what else `Lawful` asks of it.
+    ensures laws { IfOk (answered (texts schemas.now) (texts modules.now) script.now limits.row_numbers)
+        (λ task. Lawful task.machine) }
+
+    // Each call answers 42000 exactly where the rules find a fault in the statement of its procedure.
+    ensures faults { OnOk result (IfOk
+        (answered (texts schemas.now) (texts modules.now) script.now limits.row_numbers) FaultsAnswer42000) }
 {
     sq_perform::run::<S, W>(alloc, schemas, modules, script, limits, out)
 }

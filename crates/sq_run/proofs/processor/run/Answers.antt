@@ -1,6 +1,7 @@
 use Rattle.sq_perform.specs.Texts.{texts}
-use Rattle.sq_run.proofs.AcceptedTexts.{accepted_spell_trees, constraints_kept, failures_change_nothing, texts_have_one_tree}
-use Rattle.sq_run.proofs.Accepts.{answers, refuses}
+use Rattle.sq_run.proofs.Accepts.{answers}
+use Rattle.sq_run.proofs.FaultLaws.{faults_answer}
+use Rattle.sq_run.proofs.LawfulTexts.{accepted_lawful, tells_of_trees}
 use Rattle.sq_run.proofs.processor.run.Goals as goal
 
 pub returns-clause-answers : goal.returns-clause-answers
@@ -8,18 +9,13 @@ returns-clause-answers g c =
     answers c.args.limits.row_numbers (texts c.args.schemas.now) (texts c.args.modules.now) c.args.script.now (g.W.Out.taken c.args.out.now) (g.W.Out.taken c.run.new.out) c.run.result
     c.run.ensures.report c.run.ensures.stopped c.run.ensures.refused
 
-pub returns-clause-spelled : goal.returns-clause-spelled
-returns-clause-spelled g c = accepted_spell_trees c.args.limits.row_numbers (texts c.args.schemas.now) (texts c.args.modules.now) c.args.script.now
+pub returns-clause-trees : goal.returns-clause-trees
+returns-clause-trees g c = tells_of_trees c.args.limits.row_numbers (texts c.args.schemas.now) (texts c.args.modules.now) c.args.script.now
 
-pub returns-clause-one_tree : goal.returns-clause-one_tree
-returns-clause-one_tree g c = texts_have_one_tree
+pub returns-clause-laws : goal.returns-clause-laws
+returns-clause-laws g c = accepted_lawful c.args.limits.row_numbers (texts c.args.schemas.now) (texts c.args.modules.now) c.args.script.now
 
-pub returns-clause-refused : goal.returns-clause-refused
-returns-clause-refused g c =
-    refuses c.args.limits.row_numbers (texts c.args.schemas.now) (texts c.args.modules.now) c.args.script.now c.run.result c.run.ensures.refused
-
-pub returns-clause-constraints : goal.returns-clause-constraints
-returns-clause-constraints g c = constraints_kept c.args.limits.row_numbers (texts c.args.schemas.now) (texts c.args.modules.now) c.args.script.now
-
-pub returns-clause-failures : goal.returns-clause-failures
-returns-clause-failures g c = failures_change_nothing c.args.limits.row_numbers (texts c.args.schemas.now) (texts c.args.modules.now) c.args.script.now
+pub returns-clause-faults : goal.returns-clause-faults
+returns-clause-faults g c =
+    faults_answer c.args.limits.row_numbers (texts c.args.schemas.now) (texts c.args.modules.now) c.args.script.now (g.W.Out.taken c.args.out.now) (g.W.Out.taken c.run.new.out) c.run.result
+    c.run.ensures.report

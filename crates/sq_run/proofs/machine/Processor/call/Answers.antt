@@ -24,6 +24,14 @@ returns-clause-step g c =
     c.call.ensures.tables c.call.ensures.schemas in
     kept.step
 
+pub returns-clause-faults : goal.returns-clause-faults
+returns-clause-faults g c =
+    let here = c.self.inside in
+    let kept = call_keeps here.session here.counterpart.machine c.self.invariant c.args.self.now c.self.view_is c.args.procedure c.args.values.now c.in_ok-reply.reply
+    c.call.new.self c.then-self-inside.result.machine c.then-self-inside.ensures c.requires.fits c.in_ok-reply.ensures.step c.call.ensures.procedures
+    c.call.ensures.tables c.call.ensures.schemas in
+    kept.faults
+
 pub returns-clause-failures : goal.returns-clause-failures
 returns-clause-failures g c =
     let here = c.self.inside in

@@ -1,6 +1,6 @@
 use Rattle.sq_perform.specs.Texts.{texts}
 use Rattle.sq_run.proofs.BesideLaws.{accepted_by, all_hold, beside_first}
-use Rattle.sq_run.proofs.Opened.{opens, refuses}
+use Rattle.sq_run.proofs.Opened.{opens, opens_lawful, refuses}
 use Rattle.sq_run.proofs.machine.Processor.open.Goals as goal
 
 pub start-counterpart-requires : goal.start-counterpart-requires
@@ -22,6 +22,10 @@ returns-in-Ok-clause-constraints g c =
     all_hold c.in-Ok.session c.start-counterpart.result.machine
     (beside_first c.args.limits.row_numbers (texts c.args.schemas.now) (texts c.args.modules.now) c.in-Ok.session c.in-Ok.ensures.opened
     c.start-counterpart.result.machine c.start-counterpart.ensures)
+
+pub returns-in-Ok-clause-laws : goal.returns-in-Ok-clause-laws
+returns-in-Ok-clause-laws g c =
+    opens_lawful c.args.limits.row_numbers (texts c.args.schemas.now) (texts c.args.modules.now) c.start-counterpart.result.machine c.start-counterpart.ensures
 
 pub returns-in-Err-clause-opened : goal.returns-in-Err-clause-opened
 returns-in-Err-clause-opened g c =

@@ -1,0 +1,15 @@
+pub mod Ahead
+pub mod Final
+pub mod NamesFinal
+pub mod ExprFinal
+pub mod DataTypeFinal
+pub mod SelectFinal
+pub mod CondFinal
+pub mod QueryFinal
+pub mod StatementFinal
+pub mod ModuleFinal
+pub mod ScriptFinal
+pub mod SchemaFinal
+pub mod SchemaTextFinal
+pub mod GoesNoFurther
+pub mod UnexpectedTokens
