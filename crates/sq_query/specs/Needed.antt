@@ -158,9 +158,6 @@ inside_tables (select distinct list from filter by having) = clause_tables filte
 abbrev pub specification_tables : BoundSpecification → List TablePlace
 specification_tables s = select_tables (select_of s)
 
-abbrev pub specifications_tables : List BoundSpecification → List TablePlace
-specifications_tables specifications = flat_map specification_tables specifications
-
 -- these tables are added, each where it isn't there yet
 abbrev pub Adds : Needed → List TablePlace → Needed → Type 0
 Adds before tables after = places_in after ≡ fold with_table (places_in before) tables
