@@ -1,9 +1,8 @@
 -- What is needed after the tables of a tree were added.
-use Rattle.std.proofs.Common.{◌≡◌, ◌∙◌, ℕ, ◌+◌, ◌<◌, ◌≤◌, nat_eq, Bool, true, false, List, [], ◌∷◌, ◌++◌, length, drop, map, get_or, fold, Result, refl, sym, ap, subst, append-nil}
+use Rattle.std.proofs.Common.{◌≡◌, ◌∙◌, ℕ, ◌+◌, ◌<◌, ◌≤◌, nat_eq, Bool, true, false, List, [], ◌∷◌, ◌++◌, length, drop, map, get_or, fold, Result, refl, sym, ap, subst}
 use Rattle.std.specs.List.{AllByRecursion, list_any}
 use Rattle.std.specs.Option.{option_map}
-use Rattle.std.specs.Prelude.{◌||◌, if◌then◌else◌, flat_map, OnOk}
-use Rattle.std.proofs.lemmas.Grind.{flat_map-append}
+use Rattle.std.specs.Prelude.{◌||◌, if◌then◌else◌, OnOk}
 use Rattle.std.proofs.lemmas.Bool.{eqb-true, eq-eqb}
 use Rattle.std.proofs.lemmas.List.{drop_more}
 use Rattle.std.proofs.lemmas.List.Folds.{list_any-append}
@@ -16,7 +15,6 @@ use Rattle.sq_meaning.proofs.AnswerLaws.{all_weaker}
 use Rattle.sq_tree.specs.declared.cond.Comparison.{Comparison}
 use Rattle.sq_bound.specs.Condition.{PlacedCond, PlacedClause, PlacedSelect, cond_of, conj_of, test_of, predicate_of, select_of, not_if, compared_with}
 use Rattle.sq_bound.specs.Expression.{PlacedExpr, expr_of}
-use Rattle.sq_bound.specs.Joined.{specifications_of, term_specifications, union_specifications}
 use Rattle.sq_bound.specs.declared.condition.BoundCond.{BoundCond, out-BoundCond}
 use Rattle.sq_bound.specs.declared.condition.BoundConj.{BoundConj, out-BoundConj}
 use Rattle.sq_bound.specs.declared.condition.BoundTest.{BoundTest}
@@ -27,11 +25,6 @@ use Rattle.sq_bound.specs.declared.condition.Predicate.TheOpen as layer
 use Rattle.sq_bound.specs.declared.condition.Predicate.TheVariants as bound
 use Rattle.sq_bound.specs.declared.expression.BoundExpr.{BoundExpr}
 use Rattle.sq_bound.proofs.ConditionLaws.{cond_of-out, conj_of-out, test_of-out, predicate_of-Compare, predicate_of-CompareQuery, predicate_of-Between, predicate_of-InQuery, predicate_of-InList, predicate_of-Like, predicate_of-Null, predicate_of-Exists, predicate_of-Bracketed}
-use Rattle.sq_bound.proofs.JoinedLaws.{specifications_of-out, union_specifications-out, term_specifications-Specification, term_specifications-Bracketed}
-use Rattle.sq_bound.specs.declared.query.BoundQuery.{BoundQuery, out-BoundQuery}
-use Rattle.sq_bound.specs.declared.query.BoundUnion.{BoundUnion}
-use Rattle.sq_bound.specs.declared.query.BoundTerm.{BoundTerm}
-use Rattle.sq_bound.specs.declared.query.BoundTerm.TheVariants as term
 use Rattle.sq_bound.specs.WellFormed.{TableKinds}
 use Rattle.sq_bound.specs.declared.condition.BoundSpecification.{BoundSpecification}
 use Rattle.sq_bound.specs.declared.condition.Grouping.{Grouping}

@@ -1,5 +1,5 @@
 -- The sizes of query expressions, by which a walk down their terms ends.
-use Rattle.std.proofs.Common.{◌≡◌, ℕ, zero, suc, ◌+◌, ◌<◌, List, [], ◌∷◌, length, get_or, map, arith, refl, sym, ap, ◌∙◌}
+use Rattle.std.proofs.Common.{◌≡◌, ℕ, zero, suc, ◌+◌, ◌<◌, List, [], ◌∷◌, length, get_or, map, arith, sym, ap, ◌∙◌}
 use Rattle.sq_bound.specs.declared.query.BoundQuery.{BoundQuery, BoundQuery-F, fold-BoundQuery, fold_out-BoundQuery, out-BoundQuery}
 use Rattle.sq_bound.specs.declared.query.BoundTerm.{BoundTerm, BoundTerm-F, fold-BoundTerm, fold-roll-BoundTerm}
 use Rattle.sq_bound.specs.declared.query.BoundTerm.TheOpen as layer

@@ -1,5 +1,5 @@
 -- The rows of a query expression, UNION by UNION (ISO/IEC 9075:1992, 7.10).
-use Rattle.std.proofs.Common.{◌≡◌, ℕ, zero, suc, ◌+◌, ◌<◌, ◌≤◌, Bool, List, [], ◌∷◌, ◌++◌, length, take, get_or, true, sym, subst, ap, ◌∙◌, Option, None, Some, Result, Ok, Err}
+use Rattle.std.proofs.Common.{◌≡◌, ℕ, zero, suc, ◌+◌, ◌<◌, ◌≤◌, Bool, List, [], ◌∷◌, ◌++◌, length, take, get_or, true, sym, subst, ap, ◌∙◌, Option, Some, Result, Ok, Err}
 use Rattle.std.proofs.lemmas.List.Sums.{fold_more}
 use Rattle.std.proofs.lemmas.List.{take_all}
 use Rattle.std.specs.Prelude.{fold, flat_map, Vec, IfOk, IsErrAnd}
@@ -46,7 +46,7 @@ use Rattle.sq_expression.specs.declared.fault.Fault.{Fault}
 use Rattle.sq_expression.specs.declared.fault.Fault.TheVariants as fault
 use Rattle.sq_query.proofs.Bringable.{both_bringable}
 use Rattle.sq_query.proofs.JoinedTerms.{IsJoined, all_left, all_right, all_within, opened, kept_are, sides, kinds_so_far, query_of_term}
-use Rattle.sq_query.proofs.Fitting.{exact, query_fits}
+use Rattle.sq_query.proofs.Fitting.{query_fits}
 use Rattle.sq_expression.proofs.Kept.{ok_same}
 use Rattle.sq_query.proofs.Terms.{HasParts, every_term}
 

@@ -1,5 +1,5 @@
 -- Query expressions (ISO/IEC 9075:1992, 7.10).
-use Rattle.std.specs.Prelude.{◌≡◌, ◌≤◌, ⊤, Bool, true, false, nat_eq, if◌then◌else◌, List, [], ◌++◌, Option, None, Some, IfSome, IfOk, Result, Vec, Ok}
+use Rattle.std.specs.Prelude.{◌≡◌, ◌≤◌, ⊤, Bool, true, false, nat_eq, if◌then◌else◌, List, ◌++◌, Option, None, Some, IfSome, IfOk, Result, Vec, Ok}
 use Rattle.std.specs.Cmp.Lexicographic.{pointwise}
 use Rattle.std.specs.List.{AllByRecursion, zip}
 use Rattle.std.specs.declared.alloc.Global.{Global}

@@ -16,8 +16,8 @@ ghost use Rattle.sq_bound.specs.declared.condition.TablePlace.TheVariants as at_
 
 use crate::items::is_found;
 use sq_bound::{
-    BoundCond, BoundConj, BoundSpecification, BoundTest, Names, Predicate,
-    TableBody, TablePlace, View,
+    BoundCond, BoundConj, BoundSpecification, BoundTest, Names, Predicate, TableBody, TablePlace,
+    View,
 };
 use sq_expression::BaseRows;
 use std::alloc::{AllocError, Global};
