@@ -242,6 +242,16 @@ def opened(n):
                asked("A", "FROM R WHERE K = {}", keys(n)))
 
 
+def united(n):
+    """Each term has one row."""
+    words = "SELECT K, A FROM R WHERE K = {0} UNION SELECT K, 1000 FROM P WHERE K = {0}"
+    procedures = (f"DECLARE X CURSOR FOR {words.format(':K')}\nPROCEDURE OPX (SQLCODE, :K INTEGER); OPEN X;\n"
+                  "PROCEDURE FEX (SQLCODE, :K INTEGER, :A INTEGER); FETCH X INTO :K, :A;\nPROCEDURE CLX (SQLCODE); CLOSE X;\n")
+    return Row({"R": one_more(n), "P": one_more(n)}, procedures,
+               calls("OPX ({}); CALL M.FEX (*, *); CALL M.FEX (*, *); CALL M.CLX", keys(n)),
+               Beside(lambda db: [number for key in keys(n) for number in answers_to(db, [words.format("?1")], key)], None))
+
+
 def updated_through_a_view(n):
     """sqlite3's views are read only; it gets the statement that this one stands for."""
     return Row({"R": one_more(n)}, "PROCEDURE UPV (SQLCODE, :K INTEGER, :A INTEGER); UPDATE V SET A = :A WHERE K = :K;\n",
@@ -356,6 +366,7 @@ ROWS = {
     "SELECT INTO by key": lambda n: selected("R", n),
     "SELECT INTO by key from a view": lambda n: selected("V", n),
     "OPEN, FETCH, CLOSE by key": opened,
+    "OPEN, two FETCHes, CLOSE of a UNION of two lookups by key": united,
     "UPDATE by key through a view": updated_through_a_view,
     "INSERT from a query by key": inserted_from_a_query,
     "INSERT of a child": child_inserted,

@@ -30,7 +30,7 @@ use sq_store::{ApplyFault, Change, Store};
 use sq_value::Value;
 use std::alloc::Global;
 
-/// What a statement changes.
+/// The changes of a statement.
 #[derive(Drop)]
 pub struct Changed {
     pub changes: Vec<Change>,

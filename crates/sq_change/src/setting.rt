@@ -19,7 +19,7 @@ use sq_store::Store;
 use sq_value::{Row, Truth, Value};
 use std::alloc::Global;
 
-/// What a statement reads: what names mean, the tables as they are before it, and its inputs.
+/// Everything that a statement reads: the meaning of names, the tables as they are before it, and its inputs.
 #[derive(Drop)]
 pub struct Setting<'a, N: Names, S: Store> {
     pub alloc: Global,

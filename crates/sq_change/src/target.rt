@@ -26,7 +26,7 @@ use sq_store::{Change, Meter, Store};
 use sq_value::{Row, copy_row};
 use std::alloc::{AllocError, Global};
 
-/// What is under the table that a statement changes.
+/// The leaf of the table that a statement changes.
 pub fn leaf_under(target: &ChangeTarget) -> &Leaf
     ensures { result.now ≡ under target.now }
 {
@@ -95,8 +95,8 @@ fn only(alloc: Global, number: u64) -> Result<Vec<u64>, Fault>
     Ok(numbers)
 }
 
-/// The rows, with their numbers: those that the search condition keeps, of which there has to be one, or the row that a cursor
-/// is on.
+/// The rows that a statement changes, with their numbers: the rows that the search condition keeps, at least one, or
+/// the row that a cursor is on.
 pub fn rows_changed<'a, N: Names, S: Store>(
     setting: &Setting<'a, N, S>,
     target: &ChangeTarget,

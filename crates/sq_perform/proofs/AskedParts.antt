@@ -1,24 +1,22 @@
 -- What a script asks for whose parts, each of whole lines, are read one after the other.
-use Rattle.std.proofs.Common.{◌≡◌, Bool, true, ℕ, ◌+◌, ◌-◌, ◌<◌, ◌≤◌, List, [], ◌∷◌, ◌++◌, All, length, map, take, drop, refl, sym, ap, subst, ◌∙◌, arith, append_assoc, inl, inr, Ok}
+use Rattle.std.proofs.Common.{◌≡◌, Bool, true, ℕ, ◌+◌, ◌-◌, ◌<◌, ◌≤◌, List, [], ◌∷◌, ◌++◌, All, length, take, drop, refl, sym, ap, subst, ◌∙◌, arith, append_assoc, inl, inr, Ok}
 use Rattle.std.proofs.Math.Seq.{take-add}
 use Rattle.std.proofs.lemmas.List.{append-nil, length-drop, map-append, take_all}
 use Rattle.std.proofs.lemmas.List.Elements.{All-append, All-nil}
 use Rattle.sq_lex.specs.Reading.{reading}
 use Rattle.sq_lex.specs.Token.{lexemes}
 use Rattle.sq_lex.specs.declared.lexeme.Lexeme.{Lexeme}
-use Rattle.sq_lex.specs.declared.token.Token.{Token}
-use Rattle.sq_tree.specs.Script.{script_depth, script_tokens}
-use Rattle.sq_tree.specs.declared.script.ScriptText.{ScriptText}
+use Rattle.sq_tree.specs.Script.{script_tokens}
 use Rattle.sq_grammar.specs.declared.brackets.TheConstants.{MAX_DEPTH}
 use Rattle.sq_meaning.specs.Report.{Bytes}
 use Rattle.sq_meaning.specs.Run.{item_of_script}
 use Rattle.sq_session.specs.Session.{Session}
 use Rattle.sq_perform.specs.Action.{item_of}
-use Rattle.sq_perform.specs.Asked.{AreActions, AreAsked}
+use Rattle.sq_perform.specs.Asked.{AreAsked}
 use Rattle.sq_perform.specs.Items.{IsTaken}
-use Rattle.sq_perform.specs.Lines.{AreLines, EndsLine}
+use Rattle.sq_perform.specs.Lines.{AreLines}
 use Rattle.sq_perform.specs.Steps.{IsPrepared}
-use Rattle.sq_perform.specs.Texts.{Spells, SpellsTree}
+use Rattle.sq_perform.specs.Texts.{Spells}
 use Rattle.sq_perform.specs.declared.action.Action.{Action}
 use Rattle.sq_perform.proofs.LinesRead.{lines_joined}
 use Rattle.sq_perform.proofs.ScriptJoined.{joined, shallow_joined, tokens_joined}

@@ -1,10 +1,10 @@
 -- The tokens and the depth of the items of two scripts.
-use Rattle.std.proofs.Common.{◌≡◌, ℕ, ◌≤◌, max, List, [], ◌∷◌, ◌++◌, map, refl, sym, ap, subst, ◌∙◌, arith}
+use Rattle.std.proofs.Common.{◌≡◌, ℕ, ◌≤◌, List, [], ◌∷◌, ◌++◌, map, sym, subst, arith}
 use Rattle.std.proofs.lemmas.Grind.{flat_map-append}
 use Rattle.sq_tree.specs.Script.{ended_item_tokens, script_depth, script_tokens}
 use Rattle.sq_tree.specs.declared.script.ScriptItem.{ScriptItem}
 use Rattle.sq_tree.specs.declared.script.ScriptText.{ScriptText}
-use Rattle.sq_tree.proofs.ScriptDepth.{script_item_depth, script_text_depth}
+use Rattle.sq_tree.proofs.ScriptDepth.{script_item_depth}
 use Rattle.sq_tree.proofs.ScriptNests.{script_depth-parts}
 use Rattle.sq_tree.proofs.TreeDepth.{greatest}
 

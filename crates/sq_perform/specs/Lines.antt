@@ -1,5 +1,5 @@
 -- Texts of whole lines.
-use Rattle.std.specs.Prelude.{◌≡◌, ◌++◌, ◌⊎◌, List, [], ◌∷◌}
+use Rattle.std.specs.Prelude.{◌≡◌, ◌++◌, ◌⊎◌, [], ◌∷◌}
 use Rattle.sq_lex.specs.Characters.{line_feed}
 use Rattle.sq_meaning.specs.Report.{Bytes}
 

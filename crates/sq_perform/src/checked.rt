@@ -37,14 +37,14 @@ pub struct Note {
     /// The module that the part is in, or the user whose schema it is in.
     pub owner: Name,
     pub name: Name,
-    /// What is said of the part; `None` for a procedure whose statement has no fault.
+    /// The remark on the part; `None` for a procedure whose statement has no fault.
     pub remark: Option<Remark>,
 }
 
-/// What is to be said of each text of a kind, in their order.
+/// The remarks on each text of a kind, in their order.
 pub type Notes = Vec<Items<Note>>;
 
-/// What is to be said of schema and module texts.
+/// The remarks on schema and module texts.
 #[derive(Drop)]
 pub struct Checked {
     pub schemas: Notes,

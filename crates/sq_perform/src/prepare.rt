@@ -62,7 +62,7 @@ pub fn open_session<S: Store>(
     }
 }
 
-/// What the script asks a session for.
+/// The actions that the script asks of a session.
 pub fn read_script<S: Store>(
     alloc: Global,
     session: &Session<S>,

@@ -23,11 +23,11 @@ pub enum RunFault {
     NoMemory(usize),
 }
 
-/// What is refused in a text, and where.
+/// The refusal of a text: its name, and its place.
 #[derive(Clone, Copy, Debug, PartialEq, Eq, Error)]
 #[error("{what}")]
 pub struct Refusal {
-    /// The text's index among those of its kind, from 0.
+    /// The text's index among the texts of its kind, from 0.
     pub text: usize,
     /// The line of the token that is refused, from 1; a line ends with LF.
     pub line: usize,

@@ -1,9 +1,8 @@
 -- What is needed after the tables of a tree were added.
-use Rattle.std.proofs.Common.{◌≡◌, ◌∙◌, ℕ, ◌+◌, ◌<◌, ◌≤◌, nat_eq, Bool, true, false, List, [], ◌∷◌, ◌++◌, length, drop, map, get_or, fold, Result, refl, sym, ap, subst, append-nil}
+use Rattle.std.proofs.Common.{◌≡◌, ◌∙◌, ℕ, ◌+◌, ◌<◌, ◌≤◌, nat_eq, Bool, true, false, List, [], ◌∷◌, ◌++◌, length, drop, map, get_or, fold, Result, refl, sym, ap, subst}
 use Rattle.std.specs.List.{AllByRecursion, list_any}
 use Rattle.std.specs.Option.{option_map}
-use Rattle.std.specs.Prelude.{◌||◌, if◌then◌else◌, flat_map, OnOk}
-use Rattle.std.proofs.lemmas.Grind.{flat_map-append}
+use Rattle.std.specs.Prelude.{◌||◌, if◌then◌else◌, OnOk}
 use Rattle.std.proofs.lemmas.Bool.{eqb-true, eq-eqb}
 use Rattle.std.proofs.lemmas.List.{drop_more}
 use Rattle.std.proofs.lemmas.List.Folds.{list_any-append}
@@ -16,7 +15,6 @@ use Rattle.sq_meaning.proofs.AnswerLaws.{all_weaker}
 use Rattle.sq_tree.specs.declared.cond.Comparison.{Comparison}
 use Rattle.sq_bound.specs.Condition.{PlacedCond, PlacedClause, PlacedSelect, cond_of, conj_of, test_of, predicate_of, select_of, not_if, compared_with}
 use Rattle.sq_bound.specs.Expression.{PlacedExpr, expr_of}
-use Rattle.sq_bound.specs.Joined.{specifications_of, term_specifications, union_specifications}
 use Rattle.sq_bound.specs.declared.condition.BoundCond.{BoundCond, out-BoundCond}
 use Rattle.sq_bound.specs.declared.condition.BoundConj.{BoundConj, out-BoundConj}
 use Rattle.sq_bound.specs.declared.condition.BoundTest.{BoundTest}
@@ -27,18 +25,13 @@ use Rattle.sq_bound.specs.declared.condition.Predicate.TheOpen as layer
 use Rattle.sq_bound.specs.declared.condition.Predicate.TheVariants as bound
 use Rattle.sq_bound.specs.declared.expression.BoundExpr.{BoundExpr}
 use Rattle.sq_bound.proofs.ConditionLaws.{cond_of-out, conj_of-out, test_of-out, predicate_of-Compare, predicate_of-CompareQuery, predicate_of-Between, predicate_of-InQuery, predicate_of-InList, predicate_of-Like, predicate_of-Null, predicate_of-Exists, predicate_of-Bracketed}
-use Rattle.sq_bound.proofs.JoinedLaws.{specifications_of-out, union_specifications-out, term_specifications-Specification, term_specifications-Bracketed}
-use Rattle.sq_bound.specs.declared.query.BoundQuery.{BoundQuery, out-BoundQuery}
-use Rattle.sq_bound.specs.declared.query.BoundUnion.{BoundUnion}
-use Rattle.sq_bound.specs.declared.query.BoundTerm.{BoundTerm}
-use Rattle.sq_bound.specs.declared.query.BoundTerm.TheVariants as term
 use Rattle.sq_bound.specs.WellFormed.{TableKinds}
 use Rattle.sq_bound.specs.declared.condition.BoundSpecification.{BoundSpecification}
 use Rattle.sq_bound.specs.declared.condition.Grouping.{Grouping}
 use Rattle.sq_bound.specs.declared.condition.TablePlace.{TablePlace}
 use Rattle.sq_bound.specs.declared.condition.TablePlace.TheVariants.{Base, View}
 use Rattle.sq_query.specs.Inner.{ReadsAround, around_tables}
-use Rattle.sq_query.specs.Needed.{ReadsCond, ReadsConds, ReadsClause, ReadsInside, ReadsSelect, IsNeeded, AreKnown, NeedsMore, NeedsNone, places_in, with_table, cond_tables, conds_tables, clause_tables, inside_tables, select_tables, specification_tables, specifications_tables, Adds}
+use Rattle.sq_query.specs.Needed.{ReadsCond, ReadsConds, ReadsClause, ReadsInside, ReadsSelect, IsNeeded, AreKnown, NeedsMore, NeedsNone, places_in, with_table, cond_tables, conds_tables, clause_tables, inside_tables, select_tables, specification_tables, Adds}
 use Rattle.sq_query.specs.declared.needed.Needed.{Needed}
 
 abbrev Places : Type 0
@@ -206,15 +199,6 @@ module _ (P : TablePlace → Type 0) where
   inside_read (select distinct list from filter by having) h =
       (clause_read filter (all_left P (clause_tables filter) (clause_tables having) h), clause_read having (all_right P (clause_tables filter) (clause_tables having) h))
 
-  specifications_listed : (ss : List BoundSpecification) → AllByRecursion (λ s. ReadsSelect P (select_of s)) ss → AllByRecursion P (specifications_tables ss)
-  specifications_listed [] h = tt
-  specifications_listed (s ∷ ss) h = all_joined P (specification_tables s) (specifications_tables ss) (select_listed (select_of s) h.0) (specifications_listed ss h.1)
-
-  specifications_read : (ss : List BoundSpecification) → AllByRecursion P (specifications_tables ss) → AllByRecursion (λ s. ReadsSelect P (select_of s)) ss
-  specifications_read [] h = tt
-  specifications_read (s ∷ ss) h =
-      (select_read (select_of s) (all_left P (specification_tables s) (specifications_tables ss) h), specifications_read ss (all_right P (specification_tables s) (specifications_tables ss) h))
-
 -- ---- after tables were added
 
 module _ (before after : Needed) (ts : List TablePlace) (adds : Adds before ts after) where
@@ -248,9 +232,6 @@ module _ (before after : Needed) where
   pub cond_needed : (c : PlacedCond) → Adds before (cond_tables c) after → ReadsCond (IsNeeded after) c
   cond_needed c adds = cond_read (IsNeeded after) c (own before after (cond_tables c) adds)
 
-  pub specifications_needed : (ss : List BoundSpecification) → Adds before (specifications_tables ss) after → AllByRecursion (λ s. ReadsSelect (IsNeeded after) (select_of s)) ss
-  specifications_needed ss adds = specifications_read (IsNeeded after) ss (own before after (specifications_tables ss) adds)
-
   module _ (columns : TableKinds) (known : AreKnown columns before) where
     pub select_known : (q : PlacedSelect) → Adds before (select_tables q) after → ReadsSelect (λ t. HasValue (columns t)) q → AreKnown columns after
     select_known q adds h = old_or_added before after (select_tables q) adds (λ t. HasValue (columns t)) known (select_listed (λ t. HasValue (columns t)) q h)
@@ -260,9 +241,6 @@ module _ (before after : Needed) where
 
     pub cond_known : (c : PlacedCond) → Adds before (cond_tables c) after → ReadsCond (λ t. HasValue (columns t)) c → AreKnown columns after
     cond_known c adds h = old_or_added before after (cond_tables c) adds (λ t. HasValue (columns t)) known (cond_listed (λ t. HasValue (columns t)) c h)
-
-    pub specifications_known : (ss : List BoundSpecification) → Adds before (specifications_tables ss) after → AllByRecursion (λ s. ReadsSelect (λ t. HasValue (columns t)) (select_of s)) ss → AreKnown columns after
-    specifications_known ss adds h = old_or_added before after (specifications_tables ss) adds (λ t. HasValue (columns t)) known (specifications_listed (λ t. HasValue (columns t)) ss h)
 
 -- nothing is needed at the beginning
 pub none_known : (columns : TableKinds) (needed : Needed) → NeedsNone needed → AreKnown columns needed
@@ -365,32 +343,6 @@ added_both start first whole items others is one =
 pub items_added : (start now : Places) (items from : List TablePlace) (i : ℕ) → items ≡ from → length items ≤ i → fold with_table now (drop i items) ≡ fold with_table start items → now ≡ fold with_table start from
 items_added start now items from i are past so_far =
     added_all (λ ts. ts) (λ t. t ∷ []) (λ t ts. refl) now (fold with_table start items) items i refl past so_far ∙ ap (fold with_table start) are
-
--- ---- query expressions
-
-pub tables_of_query : (q : BoundQuery) (unions : List BoundUnion) (start now : Places) → unions ≡ (out-BoundQuery q).rest
-    → now ≡ fold with_table start (specifications_tables (term_specifications (out-BoundQuery q).first))
-    → fold with_table now (specifications_tables (flat_map union_specifications unions)) ≡ fold with_table start (specifications_tables (specifications_of q))
-tables_of_query q unions start now are first =
-    let own = specifications_tables (term_specifications (out-BoundQuery q).first) in
-    let others = flat_map union_specifications (out-BoundQuery q).rest in
-    ap (λ (us : List BoundUnion). fold with_table now (specifications_tables (flat_map union_specifications us))) are
-    ∙ ap (λ (ps : Places). fold with_table ps (specifications_tables others)) first
-    ∙ sym (fold-append with_table start own (specifications_tables others))
-    ∙ ap (fold with_table start) (sym (ap specifications_tables (specifications_of-out q) ∙ flat_map-append specification_tables (term_specifications (out-BoundQuery q).first) others))
-
-pub union_more : (u : BoundUnion) (us : List BoundUnion)
-    → specifications_tables (flat_map union_specifications (u ∷ us)) ≡ specifications_tables (union_specifications u) ++ specifications_tables (flat_map union_specifications us)
-union_more u us = flat_map-append specification_tables (union_specifications u) (flat_map union_specifications us)
-
-pub tables_of_union : (u : BoundUnion) → specifications_tables (term_specifications u.term) ≡ specifications_tables (union_specifications u)
-tables_of_union u = ap specifications_tables (sym (union_specifications-out u))
-
-pub tables_of_term : (t : BoundTerm) (s : BoundSpecification) → t ≡ term.Specification s → specifications_tables (term_specifications t) ≡ specification_tables s
-tables_of_term t s e = ap (λ x. specifications_tables (term_specifications x)) e ∙ ap specifications_tables (term_specifications-Specification s) ∙ append-nil (specification_tables s)
-
-pub tables_of_bracketed_term : (t : BoundTerm) (q : BoundQuery) → t ≡ term.Bracketed q → specifications_tables (term_specifications t) ≡ specifications_tables (specifications_of q)
-tables_of_bracketed_term t q e = ap (λ x. specifications_tables (term_specifications x)) e ∙ ap specifications_tables (term_specifications-Bracketed q)
 
 -- ---- answers
 

@@ -43,6 +43,7 @@ pub mod NotedKeys
 pub mod NumbersThere
 pub mod OnlyOne
 pub mod QuietTargets
+pub mod QuerySizes
 pub mod ReadAs
 pub mod ReadRows
 pub mod ReadTables

@@ -1,38 +1,45 @@
 -- The tables that a statement reads were read as they are meant.
 use Rattle.std.proofs.Common.{◌≡◌, ℕ, List, [], ◌∷◌, Option, Some, None, Result, refl, subst, ◌∙◌, Ok, Err}
-use Rattle.std.specs.Prelude.{⊤, find, nat_eq, IfOk}
-use Rattle.std.specs.List.{AllByRecursion}
+use Rattle.std.specs.Prelude.{⊤, find, nat_eq, Vec, IfOk}
+use Rattle.std.specs.declared.alloc.Global.{Global}
 use Rattle.std.specs.Option.{option_map}
 use Rattle.sq_value.specs.declared.domain.Kind.{Kind}
 use Rattle.sq_value.specs.declared.truth.Truth.{Truth}
+use Rattle.sq_value.specs.declared.value.Value.{Value}
 use Rattle.sq_store.specs.Content.{Content}
 use Rattle.sq_meaning.specs.Status.{Outcome, and_then, each, well_formed}
 use Rattle.sq_meaning.specs.Environment.{Row}
-use Rattle.sq_meaning.specs.WellFormed.{Answers}
+use Rattle.sq_meaning.specs.Placed.{by_place}
+use Rattle.sq_meaning.specs.Query.{rows}
+use Rattle.sq_meaning.specs.WellFormed.{Answers, AreRowsOf, IsRowOf}
 use Rattle.sq_bound.specs.Condition.{cond_of, select_of}
 use Rattle.sq_bound.specs.Expression.{PlacedExpr}
-use Rattle.sq_bound.specs.WellFormed.{TableKinds}
+use Rattle.sq_bound.specs.WellFormed.{IsSelect, TableKinds, kinds_of_select}
 use Rattle.sq_bound.specs.declared.condition.BoundCond.{BoundCond}
 use Rattle.sq_bound.specs.declared.condition.BoundSpecification.{BoundSpecification}
 use Rattle.sq_bound.specs.declared.condition.TablePlace.{TablePlace}
 use Rattle.sq_bound.specs.declared.condition.TablePlace.TheVariants.{Base, View}
-use Rattle.sq_expression.specs.Fault.{Means, Meets}
-use Rattle.sq_expression.specs.Frame.{lent, table_rows}
+use Rattle.sq_expression.specs.Fault.{HasRows, Means, MeansRows, Meets, rows_in}
+use Rattle.sq_expression.specs.Frame.{inputs_of, lent, table_rows}
+use Rattle.sq_expression.specs.Lines.{env_around}
 use Rattle.sq_condition.specs.Memo.{Meant}
+use Rattle.sq_condition.specs.Specification.{rows_meant}
 use Rattle.sq_query.specs.Needed.{IsNeeded, NeedsBases, ReadsCond, ReadsSelect}
 use Rattle.sq_query.specs.Row.{IsOnRow, outside, truth_on_row}
-use Rattle.sq_condition.specs.Subquery.{KnowsCond}
+use Rattle.sq_condition.specs.Subquery.{KnowsCond, KnowsQuery}
 use Rattle.sq_query.specs.Table.{ReadsAsMeant, bases_of, rows_among, rows_read, stored_base}
-use Rattle.sq_query.specs.Union.{IsReadAs}
+use Rattle.sq_query.specs.Union.{AreFitting}
 use Rattle.sq_expression.specs.declared.context.Context.{Context}
 use Rattle.sq_expression.specs.declared.fault.Fault.{Fault}
 use Rattle.sq_query.specs.declared.needed.Needed.{Needed}
 use Rattle.sq_expression.specs.declared.table.BaseRows.{BaseRows}
 use Rattle.sq_query.specs.declared.view.Tables.{Tables}
-use Rattle.sq_query.proofs.Fitting.{answers_right}
-use Rattle.sq_query.proofs.KnownQueries.{known_cond_of}
+use Rattle.sq_query.proofs.Fitting.{answers_right, exact}
+use Rattle.sq_query.proofs.KeyedRows.{inputs_are}
+use Rattle.sq_query.proofs.KnownQueries.{known_cond_of, known_of}
 use Rattle.sq_query.proofs.NeededViews.{cond_reads_weaker, reads_weaker}
-use Rattle.sq_query.proofs.SameTables.{same_truth}
+use Rattle.sq_query.proofs.SameTables.{same_rows, same_truth}
+use Rattle.sq_query.proofs.TablesMeant.{select_fits}
 
 -- ---- what was read stands in the context
 
@@ -43,6 +50,10 @@ table_same context (Base p) = by (find (λ (t : BaseRows). nat_eq t.place p) con
     by None = refl
     by (Some t) = refl
 table_same context (View p) = refl
+
+-- the tables in the FROM clauses of a query specification, subqueries included, have these rows
+abbrev pub IsReadAs : (TablePlace → Outcome (List Row)) → Context → BoundSpecification → Type 0
+IsReadAs tables context s = ReadsSelect (λ t. table_rows context t ≡ tables t) (select_of s)
 
 pub read_in : (context : Context) (read : Tables) → context.bases.now ≡ read.bases.items → context.views.now ≡ read.views.items → (rows_of : TablePlace → Outcome (List Row)) (s : BoundSpecification)
     → ReadsSelect (λ t. rows_read read t ≡ rows_of t) (select_of s) → IsReadAs rows_of context s
@@ -75,20 +86,10 @@ module _ {E : Type 0} (r : Result Needed E) (content : Content) (read : Tables) 
     table_read : (n : Needed) → ReadsAsMeant n (rows_read read) tables → (t : TablePlace) → IsNeeded n t → table_rows context t ≡ tables t
     table_read n as_meant t needed = table_same context t ∙ (λ i. rows_among (bases_are i) (views_are i) t) ∙ as_meant t needed
 
-    select_read_as : (n : Needed) → ReadsAsMeant n (rows_read read) tables → (s : BoundSpecification) → ReadsSelect (IsNeeded n) (select_of s) → IsReadAs tables context s
-    select_read_as n as_meant s reads = reads_weaker (IsNeeded n) (λ t. table_rows context t ≡ tables t) (table_read n as_meant) (select_of s) reads
-
     pub cond_read_as : (c : BoundCond) → IfOk r (λ n. (functions : List PlacedExpr) → ReadsCond (IsNeeded n) (cond_of functions c)) → ReadsCond (λ t. table_rows context t ≡ tables t) (cond_of [] c)
     cond_read_as c reads =
         of_needed (λ n. ReadsAsMeant n (rows_read read) tables) (λ n. (functions : List PlacedExpr) → ReadsCond (IsNeeded n) (cond_of functions c)) meant reads
         (λ n as_meant needs. cond_reads_weaker (IsNeeded n) (λ t. table_rows context t ≡ tables t) (table_read n as_meant) (cond_of [] c) (needs []))
-
-    pub all_read_as : (ss : List BoundSpecification) → IfOk r (λ n. AllByRecursion (λ s. ReadsSelect (IsNeeded n) (select_of s)) ss) → AllByRecursion (IsReadAs tables context) ss
-    all_read_as ss reads = of_needed (λ n. ReadsAsMeant n (rows_read read) tables) (λ n. AllByRecursion (λ s. ReadsSelect (IsNeeded n) (select_of s)) ss) meant reads (λ n as_meant. each_read n as_meant ss)
-      where
-        each_read : (n : Needed) → ReadsAsMeant n (rows_read read) tables → (ts : List BoundSpecification) → AllByRecursion (λ s. ReadsSelect (IsNeeded n) (select_of s)) ts → AllByRecursion (IsReadAs tables context) ts
-        each_read n as_meant [] needs = tt
-        each_read n as_meant (t ∷ ts) needs = (select_read_as n as_meant t needs.0, each_read n as_meant ts needs.1)
 
 -- ---- conditions on a row
 
@@ -101,3 +102,15 @@ truth_of_cond context tables columns parameters row c result on h read ends =
     let known = known_cond_of context c on.well.notes on.well.numbers in
     let same = same_truth (table_rows context) tables (cond_of [] c) read (outside (row ∷ []) context.parameters.now context.user) in
     subst (Means result) same (h known.0 known.1) (answers_right (λ t. ⊤) (truth_on_row tables context.parameters.now context.user row c) ends)
+
+-- ---- query specifications outside every query
+
+-- the rows are those of the tables that it reads
+pub rows_of_select : (result : Result (Vec (List Value) Global) Fault) (context : Context) (s : BoundSpecification) → ((meant : Meant) → KnowsQuery context s meant → MeansRows result (rows_meant s None context))
+    → (columns : TableKinds) (parameters : List Kind) (tables : TablePlace → Outcome (List Row)) → AreFitting columns tables → IsRowOf parameters context.parameters.now → IsSelect columns parameters [] s → IsReadAs tables context s
+    → HasRows result (rows (by_place tables) (select_of s) (env_around None context))
+rows_of_select result context s h columns parameters tables fitting inputs well read =
+    let known = known_of context s well.notes well.numbers in
+    let same = same_rows (table_rows context) tables (select_of s) read (env_around None context) in
+    exact rows_in result (AreRowsOf (kinds_of_select s)) (rows (by_place tables) (select_of s) (env_around None context))
+    (subst (MeansRows result) same (h known.0 known.1)) (select_fits columns tables fitting parameters (inputs_of context.parameters.now) (inputs_are parameters context.parameters.now inputs) context.user s well)

@@ -1,5 +1,5 @@
 -- Which tables a statement reads.
-use Rattle.std.specs.Prelude.{⊤, ◌≡◌, ◌≤◌, ℕ, true, nat_eq, if◌then◌else◌, List, [], ◌∷◌, ◌++◌, flat_map, fold, slice_get, IfSome}
+use Rattle.std.specs.Prelude.{⊤, ◌≡◌, ◌≤◌, ℕ, true, nat_eq, if◌then◌else◌, List, [], ◌∷◌, ◌++◌, fold, slice_get, IfSome}
 use Rattle.std.specs.List.{AllByRecursion, list_any}
 use Rattle.sq_meaning.specs.Syntax.{Conds, compare, compare_subquery, compare_quantified, between, in_subquery, in_list, like, is_null, exists, negated, conjunction, disjunction, no_cond, a_cond, absent, present, select}
 use Rattle.sq_meaning.specs.Placed.{Placed}
@@ -157,9 +157,6 @@ inside_tables (select distinct list from filter by having) = clause_tables filte
 
 abbrev pub specification_tables : BoundSpecification → List TablePlace
 specification_tables s = select_tables (select_of s)
-
-abbrev pub specifications_tables : List BoundSpecification → List TablePlace
-specifications_tables specifications = flat_map specification_tables specifications
 
 -- these tables are added, each where it isn't there yet
 abbrev pub Adds : Needed → List TablePlace → Needed → Type 0

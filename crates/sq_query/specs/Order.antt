@@ -1,5 +1,6 @@
 -- Query expressions outside every query, and the columns that ORDER BY sorts by (ISO/IEC 9075:1992, 7.10 and 13.1).
-use Rattle.std.specs.Prelude.{◌≡◌, Bool, true, false, List, Result, Vec, map}
+use Rattle.std.specs.Prelude.{◌≡◌, Bool, true, false, List, [], Result, Vec, map, Ok}
+use Rattle.std.specs.List.{AllByRecursion}
 use Rattle.std.specs.declared.alloc.Global.{Global}
 use Rattle.std.specs.declared.cmp.Ordering.{Ordering}
 use Rattle.sq_lex.specs.declared.name.Name.{Name}
@@ -13,12 +14,14 @@ use Rattle.sq_meaning.specs.QueryExpression.{query_rows}
 use Rattle.sq_meaning.specs.Rows as meaning
 use Rattle.sq_meaning.specs.Status.{Outcome}
 use Rattle.sq_meaning.specs.WellFormed.{kinds_by_place}
-use Rattle.sq_bound.specs.Query.{query_of}
-use Rattle.sq_bound.specs.WellFormed.{IsQuery, TableKinds}
+use Rattle.sq_bound.specs.Joined.{term_kinds, term_specifications}
+use Rattle.sq_bound.specs.Query.{query_of, term_of}
+use Rattle.sq_bound.specs.WellFormed.{IsQuery, IsSelect, TableKinds}
 use Rattle.sq_bound.specs.declared.condition.BoundSpecification.{BoundSpecification}
 use Rattle.sq_bound.specs.declared.condition.TablePlace.{TablePlace}
 use Rattle.sq_bound.specs.declared.names.BaseTable.{BaseTable}
 use Rattle.sq_bound.specs.declared.query.BoundQuery.{BoundQuery}
+use Rattle.sq_bound.specs.declared.query.BoundTerm.{BoundTerm}
 use Rattle.sq_bound.specs.declared.query.SortColumn.{SortColumn}
 use Rattle.sq_expression.specs.Fault.{HasRows}
 use Rattle.sq_expression.specs.Frame.{inputs_of}
@@ -34,6 +37,17 @@ HasQueryRows result bases queries columns content user values q =
     (parameters : List Kind) (tables : TablePlace → Outcome (List Row))
     → MayRead bases queries columns content user values parameters tables → IsQuery columns parameters q
     → HasRows result (query_rows (by_place tables) (kinds_by_place columns parameters) (query_of q)
+    (outermost (inputs_of values) user))
+
+-- the same for a term of it, whose columns have kinds
+abbrev pub HasTermRows : Result (Vec Row Global) Fault → List BaseTable → List BoundSpecification
+    → TableKinds → Content → Name → List Value → BoundTerm → Type 0
+HasTermRows result bases queries columns content user values term =
+    (parameters : List Kind) (tables : TablePlace → Outcome (List Row))
+    → MayRead bases queries columns content user values parameters tables
+    → AllByRecursion (IsSelect columns parameters []) (term_specifications term)
+    → (kinds : List Kind) → term_kinds term ≡ Ok kinds
+    → HasRows result (query_rows (by_place tables) (kinds_by_place columns parameters) (term_of term)
     (outermost (inputs_of values) user))
 
 -- ---- ORDER BY

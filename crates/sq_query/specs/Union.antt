@@ -1,5 +1,5 @@
 -- Query expressions (ISO/IEC 9075:1992, 7.10).
-use Rattle.std.specs.Prelude.{◌≡◌, ◌≤◌, ⊤, Bool, true, false, nat_eq, if◌then◌else◌, List, [], ◌++◌, Option, None, Some, IfSome, IfOk, Result, Vec, Ok}
+use Rattle.std.specs.Prelude.{◌≡◌, ◌≤◌, ⊤, Bool, true, false, nat_eq, if◌then◌else◌, List, ◌++◌, Option, None, Some, IfSome, IfOk, Result, Vec, Ok}
 use Rattle.std.specs.Cmp.Lexicographic.{pointwise}
 use Rattle.std.specs.List.{AllByRecursion, zip}
 use Rattle.std.specs.declared.alloc.Global.{Global}
@@ -9,26 +9,14 @@ use Rattle.sq_value.specs.declared.value.Value.{Value}
 use Rattle.sq_value.specs.declared.value.Value.TheVariants.{Num}
 use Rattle.sq_meaning.specs.Status.{Outcome, ◌>>=◌, each}
 use Rattle.sq_meaning.specs.Environment.{Row}
-use Rattle.sq_meaning.specs.Placed.{by_place}
-use Rattle.sq_meaning.specs.QueryExpression.{row_brought_to, query_rows}
+use Rattle.sq_meaning.specs.QueryExpression.{row_brought_to}
 use Rattle.sq_meaning.specs.Rows.{firsts, same_row}
-use Rattle.sq_meaning.specs.WellFormed.{Fits, IsRowOf, AreRowsOf, kinds_by_place}
-use Rattle.sq_bound.specs.Condition.{select_of}
-use Rattle.sq_bound.specs.Joined.{specifications_of, term_specifications, joined_kinds, term_kinds}
-use Rattle.sq_bound.specs.Query.{query_of, term_of}
-use Rattle.sq_bound.specs.WellFormed.{TableKinds, IsSelect, kinds_of_query, kinds_of_results}
-use Rattle.sq_bound.specs.declared.condition.BoundSpecification.{BoundSpecification}
+use Rattle.sq_meaning.specs.WellFormed.{Fits, AreRowsOf}
+use Rattle.sq_bound.specs.WellFormed.{TableKinds, kinds_of_results}
 use Rattle.sq_bound.specs.declared.condition.ResultColumn.{ResultColumn}
 use Rattle.sq_bound.specs.declared.condition.TablePlace.{TablePlace}
-use Rattle.sq_bound.specs.declared.query.BoundQuery.{BoundQuery, out-BoundQuery}
-use Rattle.sq_bound.specs.declared.query.BoundTerm.{BoundTerm}
-use Rattle.sq_bound.specs.declared.query.BoundTerm.TheVariants as term
 use Rattle.sq_bound.specs.declared.query.BoundUnion.{BoundUnion}
-use Rattle.sq_expression.specs.Fault.{HasRows, MeetsAs}
-use Rattle.sq_expression.specs.Frame.{table_rows}
-use Rattle.sq_expression.specs.Lines.{env_around}
-use Rattle.sq_query.specs.Needed.{ReadsSelect}
-use Rattle.sq_expression.specs.declared.context.Context.{Context}
+use Rattle.sq_expression.specs.Fault.{MeetsAs}
 use Rattle.sq_expression.specs.declared.fault.Fault.{Fault}
 
 -- ---- what is read
@@ -36,43 +24,6 @@ use Rattle.sq_expression.specs.declared.fault.Fault.{Fault}
 -- each table that is known has rows of its columns' kinds, or ends with a status other than 42000
 abbrev pub AreFitting : TableKinds → (TablePlace → Outcome (List Row)) → Type 0
 AreFitting columns tables = (t : TablePlace) → Fits AreRowsOf (columns t) (tables t)
-
--- the tables in the FROM clauses of a query specification, subqueries included, have these rows
-abbrev pub IsReadAs : (TablePlace → Outcome (List Row)) → Context → BoundSpecification → Type 0
-IsReadAs tables context s = ReadsSelect (λ t. table_rows context t ≡ tables t) (select_of s)
-
--- what query specifications outside every query read: tables that fit, and parameters of their kinds
-pub record MayReadAs (columns : TableKinds) (parameters : List Kind)
-    (tables : TablePlace → Outcome (List Row)) (context : Context)
-    (specifications : List BoundSpecification) : Type 0 where
-  pub fitting : AreFitting columns tables
-  pub inputs : IsRowOf parameters context.parameters.now
-  pub well : AllByRecursion (IsSelect columns parameters []) specifications
-  pub read : AllByRecursion (IsReadAs tables context) specifications
-
--- ---- several query specifications
-
--- the rows of a well-formed query expression outside every query
-abbrev pub HasUnionRows : Result (Vec (List Value) Global) Fault → BoundQuery → Context → Type 0
-HasUnionRows result query context =
-    (columns : TableKinds) (parameters : List Kind) (tables : TablePlace → Outcome (List Row))
-    → MayReadAs columns parameters tables context (specifications_of query)
-    → joined_kinds query ≡ Ok (kinds_of_query query)
-    → HasRows result (query_rows (by_place tables) (kinds_by_place columns parameters) (query_of query)
-    (env_around None context))
-
--- the rows of a well-formed term outside every query
-abbrev pub HasTermRows : Result (Vec (List Value) Global) Fault → BoundTerm → Context → Type 0
-HasTermRows result term context =
-    (columns : TableKinds) (parameters : List Kind) (tables : TablePlace → Outcome (List Row))
-    → MayReadAs columns parameters tables context (term_specifications term)
-    → (kinds : List Kind) → term_kinds term ≡ Ok kinds
-    → HasRows result (query_rows (by_place tables) (kinds_by_place columns parameters) (term_of term)
-    (env_around None context))
-
--- a query expression is this query specification, without UNION
-abbrev pub IsOnly : BoundQuery → BoundSpecification → Type 0
-IsOnly query s = ((out-BoundQuery query).first ≡ term.Specification s) × ((out-BoundQuery query).rest ≡ [])
 
 -- ---- both sides of UNION
 

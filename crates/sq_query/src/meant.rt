@@ -29,10 +29,10 @@ use sq_store::{Meter, Store};
 use sq_value::Row;
 use std::alloc::Global;
 
-/// The rows that a target means, with their numbers, which rise: those for which each condition in turn is true, over all rows.
-/// Where the target names one row by a key, no other row is looked at: on each of them one of the first tests of its own condition,
-/// those of the key's columns, is false, and decides before a later test can end with a status or reads a table, and the conditions of
-/// views between have a truth. The meter counts the rows that are read.
+/// The rows that a target means, with their numbers, which rise: each condition in turn is true of them, over all rows.
+/// If the target names one row by a key, no other row is looked at: on each of them one of the first tests of its own
+/// condition, the tests of the key's columns, is false. It decides before a later test can end with a status or reads a
+/// table, and the conditions of views between have a truth. The meter counts the rows that are read.
 pub fn rows_of<'a, N: Names, S: Store>(
     alloc: Global,
     names: &N,

@@ -5,10 +5,9 @@ ghost use Rattle.std.specs.List.{AllByRecursion, list_any};
 ghost use Rattle.sq_meaning.specs.WellFormed.{HasValue};
 ghost use Rattle.sq_bound.specs.Condition.{cond_of, conj_of, predicate_of, clause_of, select_of};
 ghost use Rattle.sq_bound.specs.Expression.{PlacedExpr};
-ghost use Rattle.sq_bound.specs.Joined.{specifications_of, term_specifications};
 ghost use Rattle.sq_bound.specs.WellFormed.{BasesAreThere, TableKinds};
 ghost use Rattle.sq_meaning.specs.Target.{has_subquery, clause_has_subquery};
-ghost use Rattle.sq_query.specs.Needed.{Adds, AddsBefore, AreKnown, IsClosed, IsClosedAt, IsNeeded, NeedsMore, ReadsCond, ReadsInside, ReadsSelect, NeedsNone, clause_tables, cond_tables, inside_tables, places_in, specification_tables, specifications_tables, with_place, with_table};
+ghost use Rattle.sq_query.specs.Needed.{Adds, AddsBefore, AreKnown, IsClosed, IsClosedAt, IsNeeded, NeedsMore, ReadsCond, ReadsInside, ReadsSelect, NeedsNone, clause_tables, cond_tables, inside_tables, places_in, specification_tables, with_place, with_table};
 ghost use Rattle.sq_query.specs.Inner.{around_tables, terms_tables, tests_tables};
 ghost use Rattle.sq_query.specs.Items.{is_left};
 ghost use Rattle.sq_query.specs.Table.{IsViewAt};
@@ -17,8 +16,8 @@ ghost use Rattle.sq_bound.specs.declared.condition.TablePlace.TheVariants as at_
 
 use crate::items::is_found;
 use sq_bound::{
-    BoundCond, BoundConj, BoundQuery, BoundSpecification, BoundTerm, BoundTest, Names, Predicate,
-    TableBody, TablePlace, View,
+    BoundCond, BoundConj, BoundSpecification, BoundTest, Names, Predicate, TableBody, TablePlace,
+    View,
 };
 use sq_expression::BaseRows;
 use std::alloc::{AllocError, Global};
@@ -66,21 +65,6 @@ impl Needed {
     {
         let mut needed = Needed::new(alloc);
         needed.add_of_subqueries(query)?;
-        Ok(needed)
-    }
-
-    /// The tables in the FROM clauses of a query expression.
-    pub(crate) fn of_query(alloc: Global, query: &BoundQuery) -> Result<Needed, AllocError>
-        ensures reads { IfOk result
-            (λ needed. AllByRecursion (λ s. ReadsSelect (IsNeeded needed) (select_of s))
-            (specifications_of query.now)) }
-        ensures known { (columns : TableKinds)
-            → AllByRecursion (λ s. ReadsSelect (λ t. HasValue (columns t)) (select_of s))
-            (specifications_of query.now)
-            → IfOk result (AreKnown columns) }
-    {
-        let mut needed = Needed::new(alloc);
-        needed.add_of_query(query)?;
         Ok(needed)
     }
 
@@ -228,28 +212,6 @@ impl Needed {
         match table {
             TablePlace::Base(place) => add_place(place, &mut self.bases),
             TablePlace::View(place) => add_place(place, &mut self.views),
-        }
-    }
-
-    #[cycle(needed_of_query)]
-    pub(crate) fn add_of_query(&mut self, query: &BoundQuery) -> Result<(), AllocError>
-        ensures { OnOk result (Adds self.old (specifications_tables (specifications_of query.now)) self.new) }
-    {
-        self.add_of_term(&query.first)?;
-        for union in query.rest.as_slice() {
-            self.add_of_term(&union.term)?;
-        }
-        Ok(())
-    }
-
-    #[cycle(needed_of_query)]
-    fn add_of_term(&mut self, term: &BoundTerm) -> Result<(), AllocError>
-        ensures { OnOk result
-            (Adds self.old (specifications_tables (term_specifications term.now)) self.new) }
-    {
-        match term {
-            BoundTerm::Specification(specification) => self.add_of_specification(specification),
-            BoundTerm::Bracketed(query) => self.add_of_query(query.get()),
         }
     }
 

@@ -6,43 +6,63 @@ ghost use Rattle.sq_value.specs.declared.domain.Kind.TheVariants.{Num, Chars};
 ghost use Rattle.sq_value.specs.declared.value.Value.{Value as AnyValue};
 ghost use Rattle.sq_meaning.specs.QueryExpression as meaning;
 ghost use Rattle.sq_meaning.specs.Status.{and_then, each};
+ghost use Rattle.sq_bound.specs.Joined.{specifications_of, term_specifications};
 ghost use Rattle.sq_bound.specs.WellFormed.{kinds_of_results};
 ghost use Rattle.sq_expression.specs.Fault.{Meets, HasRows};
-ghost use Rattle.sq_query.specs.Union.{HasUnionRows, HasTermRows, MayBeBrought, IsBringable, AreBringable, IsJoinedTo, WereJoined, all_stay, rows_behind, stays};
+ghost use Rattle.sq_query.specs.Order.{HasQueryRows, HasTermRows};
+ghost use Rattle.sq_query.specs.Search.{AreReadable};
+ghost use Rattle.sq_query.specs.Union.{MayBeBrought, IsBringable, AreBringable, IsJoinedTo, WereJoined, all_stay, rows_behind, stays};
 
-use sq_bound::{BoundQuery, BoundTerm, BoundUnion, ResultColumn};
-use sq_condition::outermost_rows;
+use crate::search::rows_of_specification;
+use sq_bound::{BoundQuery, BoundTerm, BoundUnion, Names, ResultColumn};
 use sq_expression::{Context, Fault, distinct_rows, number_value};
+use sq_store::{Meter, Store};
 use sq_value::{Decimal, Domain, Kind, Row, StoreFault, Text, Value, store};
 use std::alloc::Global;
 
-/// The rows of a query expression: terms are joined from left to right.
+/// The rows of a query expression outside every other query: terms are joined from left to right. Each query specification, at any
+/// depth, reads its own tables.
 #[cycle(query_rows)]
-pub(crate) fn query_rows<'a, 'm>(
+pub(crate) fn query_rows<'a, N: Names, S: Store>(
+    names: &N,
     query: &'a BoundQuery,
-    context: &'a Context<'m>,
+    store: &'a S,
+    call: &Context<'a>,
+    meter: &mut Meter,
 ) -> Result<Vec<Row>, Fault>
-    ensures { HasUnionRows result query.now context.now }
+    requires readable { AreReadable (N.base_tables names.now) (N.column_kinds names.now)
+        (S.content_now store.now) (S.key_columns store.now) (specifications_of query.now) }
+    ensures { HasQueryRows result (N.base_tables names.now) (N.view_queries names.now)
+        (N.column_kinds names.now) (S.content_now store.now) call.now.user call.now.parameters.now query.now }
 {
-    let mut so_far = term_rows(&query.first, context)?;
+    let mut so_far = term_rows(names, &query.first, store, call, meter)?;
     let mut before = None;
     for union in query.rest.as_slice() {
-        match term_rows(&union.term, context) {
-            Ok(others) => so_far = joined(before, union, so_far, others, context.alloc)?,
+        match term_rows(names, &union.term, store, call, meter) {
+            Ok(others) => so_far = joined(before, union, so_far, others, call.alloc)?,
             Err(fault) => return Err(fault),
         }
         before = Some(union);
     }
-    without_repeats(before, so_far, context.alloc)
+    without_repeats(before, so_far, call.alloc)
 }
 
 #[cycle(query_rows)]
-fn term_rows<'a, 'm>(term: &'a BoundTerm, context: &'a Context<'m>) -> Result<Vec<Row>, Fault>
-    ensures { HasTermRows result term.now context.now }
+fn term_rows<'a, N: Names, S: Store>(
+    names: &N,
+    term: &'a BoundTerm,
+    store: &'a S,
+    call: &Context<'a>,
+    meter: &mut Meter,
+) -> Result<Vec<Row>, Fault>
+    requires readable { AreReadable (N.base_tables names.now) (N.column_kinds names.now)
+        (S.content_now store.now) (S.key_columns store.now) (term_specifications term.now) }
+    ensures { HasTermRows result (N.base_tables names.now) (N.view_queries names.now)
+        (N.column_kinds names.now) (S.content_now store.now) call.now.user call.now.parameters.now term.now }
 {
     match term {
-        BoundTerm::Specification(query) => outermost_rows(query, context),
-        BoundTerm::Bracketed(query) => query_rows(query.get(), context),
+        BoundTerm::Specification(query) => rows_of_specification(names, query, store, call, meter),
+        BoundTerm::Bracketed(query) => query_rows(names, query.get(), store, call, meter),
     }
 }
 

@@ -41,8 +41,8 @@ pub struct NumbersCursor {
 #[derive(Drop)]
 pub struct RowsCursor {
     pub rows: Items<Row>,
-    /// The place of the cursor: 0 before the first row, n on the nth, and one more than the count of rows
-    /// behind the last.
+    /// The place of the cursor: 0 before the first row, n on the nth, and one more than the count of rows after the
+    /// last.
     pub place: usize,
 }
 

@@ -172,7 +172,7 @@ impl<S: Store> Session<S> {
         self.program.procedures.get_index_of(&name)
     }
 
-    /// Why each call of a procedure answers 42000, where its statement has a fault.
+    /// The fault for which each call of a procedure answers 42000, if its statement has one.
     pub fn fault(&self, procedure: usize) -> Option<Fault>
         ensures { result ≡ fault_at self.now.procedures procedure }
     {
@@ -194,8 +194,8 @@ impl<S: Store> Session<S> {
     }
 
     /// Makes one call of the procedure with this number, with these values for its named parameters in the order in
-    /// which they are declared. Where its statement has a fault the status is 42000. Where memory runs out the session is as
-    /// it was.
+    /// which they are declared. If its statement has a fault, the status is 42000. If memory runs out, the session is
+    /// as it was.
     #[tactic(auto, using(crate::proofs::Failed::kept_by_failure, crate::proofs::Metering::told))]
     pub fn call(
         &mut self,
@@ -242,8 +242,8 @@ impl<S: Store> Session<S> {
         self.catalog.base(user, name)
     }
 
-    /// The rows of the base table of this owner and name as they are now, with their numbers; `None` where
-    /// there is no such base table.
+    /// The rows of the base table of this owner and name as they are now, with their numbers; `None` if there is no
+    /// such base table.
     #[tactic(auto, using(crate::proofs::Holding::as_many_tables, crate::proofs::Holding::as_many_names))]
     pub fn rows(&self, user: Name, name: Name) -> Option<TableRows<'_, S>>
         ensures { result ≡ rows_named self.now user name }
@@ -252,7 +252,7 @@ impl<S: Store> Session<S> {
         Some(TableRows::of(&self.machine.store, table))
     }
 
-    /// What the schemas define.
+    /// The catalog that the schemas define.
     pub fn catalog(&self) -> &Catalog
         ensures tables { result.now.tables ≡ self.now.tables }
         ensures schemas { schemas_of result.now ≡ self.now.schemas }
@@ -275,7 +275,7 @@ impl<S: Store> Session<S> {
         self.machine.cursors.as_slice()
     }
 
-    /// What the session works on. It is in order.
+    /// The parts that the session works on. They are in order.
     pub fn inside(&self) -> Inside<'_, S>
         ensures procedures { self.now.procedures ≡ procedures_of result.program.now.cursors.items
             result.program.now.procedures.entries }

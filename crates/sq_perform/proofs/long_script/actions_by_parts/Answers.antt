@@ -1,4 +1,4 @@
-use Rattle.std.proofs.Common.{rules, arith, refl, inl, All}
+use Rattle.std.proofs.Common.{rules, arith, refl, inl}
 use Rattle.std.proofs.lemmas.List.Elements.{All-nil}
 use Rattle.sq_perform.specs.Steps.{IsPrepared}
 use Rattle.sq_perform.proofs.AskedParts.{none_asked, part_added, rest_of, size_of}

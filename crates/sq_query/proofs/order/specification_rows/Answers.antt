@@ -5,6 +5,9 @@ use Rattle.sq_query.proofs.Fitting.{found_so, never_ends}
 use Rattle.sq_query.proofs.ReadRows.{select_answers}
 use Rattle.sq_query.proofs.order.specification_rows.Goals as goal
 
+pub rows_of_specification-requires : goal.rows_of_specification-requires
+rows_of_specification-requires g c = record { finds = c.requires.finds; keys = c.requires.keys; not_null = c.requires.not_null }
+
 pub returns-clause-kinds : goal.returns-clause-kinds
 returns-clause-kinds g c = λ parameters tables may well.
     let names = c.args.names.now in
