@@ -1,2 +1,3 @@
 pub mod Expected
 pub mod Line
+pub mod Passed
