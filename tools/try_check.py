@@ -2,7 +2,7 @@
 """Tries `check` on texts with their wanted lines, and on the texts of every run of crates/sq_cases/data.
 
 try_check.py PROGRAM: the status is 0 if each of tools/checks.txt comes to its lines, which show each fault of a name with one; each of
-tools/words.txt to its lines and words; each text of tools/hints.txt to its hint, and each hint of the program has a text there; and of
+tools/words.txt to its lines and words, which show each warning; each text of tools/hints.txt to its hint, and each hint of the program has a text there; and of
 each run: the schemas and modules are refused as the run says; or each procedure that
 a call of the run answers with 42000 has a fault, by the name that the run gives it, no procedure that answers otherwise has one,
 behind the faults of a name stands one that the texts have, and the exit status says whether there is a fault; and the same is said of these
@@ -126,6 +126,17 @@ def hints_of_program():
     return set(re.findall(r'^        says: "(.*)",$', "".join(path.read_text() for path in (ROOT / "crates/sq_advice/src/hints").glob("*.rt")), re.M))
 
 
+def are_warnings_shown(cases):
+    """Whether each warning of the program stands in a wanted line, and in docs/LANGUAGE.md."""
+    text = (ROOT / "crates/sqmod/src/remarks.rt").read_text()
+    forms = re.findall(r'Doubt::\w+ => (?:\{\s*)?format!\(in alloc;\s*"([^"]+)"', text)
+    lines = "\n".join(line for _, wanted in cases for line in wanted)
+    page = (ROOT / "docs/LANGUAGE.md").read_text()
+    return bool(forms) and all(
+        re.search(": warning: " + form.replace("{}", r"\w+"), lines) and "warning: " + form.replace("{}", "NAME") in page for form in forms
+    )
+
+
 def faults_in(lines):
     """The procedure or cursor, the fault and the name behind it, or None, of each line that has a fault."""
     return [found.groups() for line in lines if (found := LINE.fullmatch(line)) and found[2]]
@@ -210,7 +221,9 @@ def tried(program):
     yield "names_behind", names_behind(cases) == OF_A_NAME
     for run, lines in cases:
         yield run.name, is_listed(program, run, lines)
-    for run, lines in own_cases(ROOT / "tools/words.txt"):
+    worded = own_cases(ROOT / "tools/words.txt")
+    yield "warnings", are_warnings_shown(worded)
+    for run, lines in worded:
         yield run.name, says(program, run, lines)
     tried_hints = list(hints())
     yield "hints", {line.removeprefix("  hint: ") for _, _, words in tried_hints for line in words[-1:]} >= hints_of_program()

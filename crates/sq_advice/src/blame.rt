@@ -1,7 +1,10 @@
 //! What is said beside a refusal of a schema for what it means: which name it is about.
 
+ghost use Rattle.std.specs.Prelude.{◌≡◌, IfSome};
+ghost use Rattle.sq_advice.specs.Named as spec;
+
 use crate::advice::Advice;
-use crate::element::{element_of, token_at};
+use crate::element::{element_of, start_of, token_at};
 use crate::kind::TextKind;
 use crate::names::{before, is_word, name_at};
 use crate::need::{Grant, Need};
@@ -70,10 +73,12 @@ fn at_name(
     tokens: &[Token],
     index: usize,
     found: Vec<u8>,
-) -> Option<Advice> {
+) -> Option<Advice>
+    ensures { IfSome result (λ advice. advice.start ≡ spec.start_of tokens.now index) }
+{
     match tokens.get(index) {
-        Some(token) => Some(Advice {
-            start: token.start,
+        Some(_) => Some(Advice {
+            start: start_of(tokens, index),
             length: length_of_written(source.text.bytes, tokens, index),
             found,
             expected: Vec::new(alloc),
@@ -218,11 +223,7 @@ fn privilege_missing(
 }
 
 /// Adds who lacks which privilege.
-pub(crate) fn add_lacking(
-    words: &mut Vec<u8>,
-    user: Name,
-    need: &Need,
-) -> Result<(), AllocError> {
+pub(crate) fn add_lacking(words: &mut Vec<u8>, user: Name, need: &Need) -> Result<(), AllocError> {
     words.extend_from_slice(user.codes())?;
     words.extend_from_slice(b" lacks ")?;
     add_need(words, need)

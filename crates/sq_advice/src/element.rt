@@ -1,6 +1,7 @@
 //! The elements of a text: those of a schema, the cursors and procedures of a module, and the items of a script.
 
-ghost use Rattle.std.specs.Prelude.{◌≤◌, length};
+ghost use Rattle.std.specs.Prelude.{◌≡◌, ◌≤◌, length};
+ghost use Rattle.sq_advice.specs.Named as spec;
 
 use crate::kind::TextKind;
 use crate::names::{before, behind, is_symbol, is_word};
@@ -42,9 +43,11 @@ pub(crate) fn next_start(kind: TextKind, tokens: &[Token]) -> usize
 pub(crate) fn last_start(kind: TextKind, tokens: &[Token]) -> usize {
     let found = match kind {
         TextKind::Script => {
-            (0..tokens.len())
-                .rev()
-                .find(|index| is_symbol(tokens, before(*index), Symbol::Semicolon))
+            (0..tokens.len()).rev().find(|index| is_symbol(
+                tokens,
+                before(*index),
+                Symbol::Semicolon,
+            ))
         }
         _ => {
             (0..tokens.len())
@@ -142,5 +145,15 @@ pub(crate) fn token_at(tokens: &[Token], byte: usize) -> Option<usize> {
         Some(index)
     } else {
         None
+    }
+}
+
+/// The first byte of the token of a number, or 0 where there is no such token.
+pub(crate) fn start_of(tokens: &[Token], index: usize) -> usize
+    ensures { result ≡ spec.start_of tokens.now index }
+{
+    match tokens.get(index) {
+        Some(token) => token.start,
+        None => 0,
     }
 }

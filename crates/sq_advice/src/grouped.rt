@@ -121,10 +121,7 @@ fn is_summed(part: &[Token], query: usize, index: usize) -> bool {
 
 /// Whether the name at the token of a number is one of the grouping columns of a query.
 fn is_grouping(part: &[Token], query: usize, index: usize) -> bool {
-    match (
-        word_of(part, query, Word::Group),
-        name_at(part, index),
-    ) {
+    match (word_of(part, query, Word::Group), name_at(part, index)) {
         (Some(group), Some(name)) => lists(part, group, name),
         _ => false,
     }

@@ -36,14 +36,14 @@ mod text;
 mod typed;
 
 pub use advice::{Advice, Trouble, What};
+pub use blame::advice_on_schema;
 pub use item::{Form, Item, Part, Weight, write_item};
 pub use kind::TextKind;
-pub use blame::advice_on_schema;
 pub use meaning::Module;
 pub use offset::offset_of;
 pub use pass::troubles_of;
 pub use passed::{Piece, Why, passed_over};
 pub use schemas::Schemas;
+pub use slips::{Doubt, Slip, slips_of};
 pub use source::Source;
 pub use text::Text;
-pub use slips::{Doubt, Slip, slips_of};

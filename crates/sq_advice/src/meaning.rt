@@ -1,8 +1,11 @@
 //! Where the name stands that a fault of meaning is about, and the declared name nearest to it.
 
+ghost use Rattle.std.specs.Prelude.{◌≡◌};
+ghost use Rattle.sq_advice.specs.Named as spec;
+
 use crate::advice::Advice;
 use crate::blame::{add_lacking, add_written, length_of_written};
-use crate::element::{begins_at, element_of, token_at};
+use crate::element::{begins_at, element_of, start_of, token_at};
 use crate::grouped::ungrouped;
 use crate::kind::TextKind;
 use crate::names::{
@@ -83,7 +86,7 @@ impl<'t, 's> Module<'t, 's> {
             (BindingFault::PrivilegeMissing, _) => self.advice_on_privilege(alloc, part),
             (BindingFault::UngroupedColumn, _) => self.advice_on_group(alloc, part),
             (_, Some(name)) => self.advice_about(alloc, part, &subject_of(rule, name)),
-            (_, None) => Ok(self.at_token(alloc, part.first(), Vec::new(alloc), Vec::new(alloc))),
+            (_, None) => Ok(self.at_token(alloc, part, 0, Vec::new(alloc), Vec::new(alloc))),
         }
     }
 
@@ -97,7 +100,7 @@ impl<'t, 's> Module<'t, 's> {
                 at = need.at;
             }
         }
-        let mut advice = self.at_token(alloc, part.get(at), words, Vec::new(alloc));
+        let mut advice = self.at_token(alloc, part, at, words, Vec::new(alloc));
         advice.length = length_of_written(self.source.text.bytes, part, at);
         Ok(advice)
     }
@@ -106,11 +109,11 @@ impl<'t, 's> Module<'t, 's> {
     fn advice_on_group(&self, alloc: Global, part: &[Token]) -> Result<Advice, AllocError> {
         let mut words = Vec::new(alloc);
         let Some(at) = ungrouped(part) else {
-            return Ok(self.at_token(alloc, part.first(), words, Vec::new(alloc)));
+            return Ok(self.at_token(alloc, part, 0, words, Vec::new(alloc)));
         };
         add_written(&mut words, &self.source, part, start_of_name(part, at))?;
         words.extend_from_slice(b" is no grouping column, and in no set function")?;
-        Ok(self.at_token(alloc, part.get(at), words, Vec::new(alloc)))
+        Ok(self.at_token(alloc, part, at, words, Vec::new(alloc)))
     }
 
     /// What is said of a name in a part.
@@ -131,7 +134,7 @@ impl<'t, 's> Module<'t, 's> {
         if found.is_empty() && subject.kind == NameKind::Table {
             self.add_user(&mut found, part, at)?;
         }
-        Ok(self.at_token(alloc, part.get(at), found, hint))
+        Ok(self.at_token(alloc, part, at, found, hint))
     }
 
     /// Adds that an unknown cursor or table is declared with a fault or an error, if it is.
@@ -152,12 +155,7 @@ impl<'t, 's> Module<'t, 's> {
     }
 
     /// Adds where a cursor is declared, if it is, and what is wrong with it.
-    fn add_cursor(
-        &self,
-        words: &mut Vec<u8>,
-        alloc: Global,
-        name: Name,
-    ) -> Result<(), AllocError> {
+    fn add_cursor(&self, words: &mut Vec<u8>, alloc: Global, name: Name) -> Result<(), AllocError> {
         let Some(index) = self.cursors.get(&name) else {
             return Ok(());
         };
@@ -225,7 +223,12 @@ impl<'t, 's> Module<'t, 's> {
         let near = match subject.kind {
             NameKind::Table => self.schemas.nearest_table(subject.name),
             NameKind::Column => self.schemas.nearest_column(subject.name),
-            NameKind::Cursor => nearest_of(alloc, NameKind::Cursor, self.source.tokens.as_slice(), subject.name)?,
+            NameKind::Cursor => nearest_of(
+                alloc,
+                NameKind::Cursor,
+                self.source.tokens.as_slice(),
+                subject.name,
+            )?,
             NameKind::Parameter => nearest_of(alloc, NameKind::Parameter, part, subject.name)?,
         };
         if let Some(near) = near {
@@ -235,18 +238,20 @@ impl<'t, 's> Module<'t, 's> {
         Ok(words)
     }
 
-    /// An advice at a token that says what stands there, and what to do.
+    /// An advice at the token of a number that says what stands there, and what to do.
     fn at_token(
         &self,
         alloc: Global,
-        token: Option<&Token>,
+        part: &[Token],
+        at: usize,
         found: Vec<u8>,
         hint: Vec<u8>,
-    ) -> Advice {
-        let (start, length) = place_of(self.source.text.bytes, token);
+    ) -> Advice
+        ensures { result.start ≡ spec.start_of part.now at }
+    {
         Advice {
-            start,
-            length,
+            start: start_of(part, at),
+            length: place_of(self.source.text.bytes, part.get(at)).1,
             found,
             expected: Vec::new(alloc),
             hint,

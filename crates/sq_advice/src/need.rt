@@ -15,6 +15,26 @@ pub(crate) struct Need {
     pub(crate) at: usize,
 }
 
+/// What a privilege is needed for.
+#[derive(Clone, Copy)]
+pub(crate) enum Use {
+    /// To do to a table what a statement does.
+    Table,
+    /// To set a column.
+    Column,
+    /// To read a table that is changed.
+    Reading,
+}
+
+/// The privilege that is needed at the token of a number for a use.
+pub(crate) fn need_for(tokens: &[Token], index: usize, user: Name, how: Use) -> Option<Need> {
+    match how {
+        Use::Table => need_at(tokens, index, user),
+        Use::Column => need_of_set(tokens, index, user),
+        Use::Reading => need_to_read(tokens, index, user),
+    }
+}
+
 /// The privilege that is needed for the table whose name begins at the token of a number, where no other user is written for this user.
 pub(crate) fn need_at(tokens: &[Token], index: usize, user: Name) -> Option<Need> {
     let action = action_at(tokens, index)?;
@@ -22,13 +42,7 @@ pub(crate) fn need_at(tokens: &[Token], index: usize, user: Name) -> Option<Need
     Some(need_of(action, &written, index, user, None))
 }
 
-fn need_of(
-    action: Word,
-    written: &TableName,
-    at: usize,
-    user: Name,
-    column: Option<Name>,
-) -> Need {
+fn need_of(action: Word, written: &TableName, at: usize, user: Name, column: Option<Name>) -> Need {
     Need {
         action,
         owner: written.owner.unwrap_or(user),
@@ -79,7 +93,7 @@ fn is_of_sources(token: &Token) -> bool {
 }
 
 /// The privilege that is needed for the column that an UPDATE sets at the token of a number.
-pub(crate) fn need_of_set(tokens: &[Token], index: usize, user: Name) -> Option<Need> {
+fn need_of_set(tokens: &[Token], index: usize, user: Name) -> Option<Need> {
     let column = name_at(tokens, index)?;
     let is_first = is_word(tokens, before(index), Word::Set)
         || is_symbol(tokens, before(index), Symbol::Comma);
@@ -90,17 +104,11 @@ pub(crate) fn need_of_set(tokens: &[Token], index: usize, user: Name) -> Option<
         .rev()
         .find(|at| is_word(tokens, *at, Word::Update))?;
     let written = table_name_at(tokens, behind(update))?;
-    Some(need_of(
-        Word::Update,
-        &written,
-        behind(update),
-        user,
-        Some(column),
-    ))
+    Some(need_of(Word::Update, &written, behind(update), user, Some(column)))
 }
 
 /// The privilege that is needed where an UPDATE or a DELETE reads the table whose name begins at the token of a number.
-pub(crate) fn need_to_read(tokens: &[Token], index: usize, user: Name) -> Option<Need> {
+fn need_to_read(tokens: &[Token], index: usize, user: Name) -> Option<Need> {
     match action_at(tokens, index)? {
         Word::Update | Word::Delete => {
             let written = table_name_at(tokens, index)?;

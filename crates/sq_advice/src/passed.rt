@@ -7,6 +7,7 @@ ghost use Rattle.sq_advice.specs.Passed.{IsPieceOf};
 use crate::element::begins_at;
 use crate::kind::TextKind;
 use crate::lexical::{is_in_comment, tokens_of};
+use crate::line::first_line;
 use crate::names::{behind, is_word};
 use crate::spelled::{behind as bytes_behind, length_of_word, spelled};
 use sq_lex::{Token, Word};
@@ -42,6 +43,34 @@ pub fn passed_over(
 ) -> Result<Option<Vec<u8>>, AllocError>
     ensures { IfOk result (λ answer. IfSome answer (λ left. spec.IsLeft text.now left.items)) }
 {
+    let piece = if why == Why::NoToken && is_in_comment(text, at) {
+        rest_of_line(text, at)
+    } else {
+        piece_around(alloc, kind, text, at, why)?
+    };
+    match piece {
+        Some(piece) => Ok(Some(with_blanks(alloc, text, piece)?)),
+        None => Ok(None),
+    }
+}
+
+/// What stands from a byte on in its line.
+fn rest_of_line(text: &[u8], at: usize) -> Option<Piece>
+    ensures { IfSome result (IsPieceOf text.now) }
+{
+    piece_of(text, at, first_line(bytes_behind(text, at)).len())
+}
+
+/// The piece of a text to be passed over for what is refused at a byte that stands in no comment.
+fn piece_around(
+    alloc: Global,
+    kind: TextKind,
+    text: &[u8],
+    at: usize,
+    why: Why,
+) -> Result<Option<Piece>, AllocError>
+    ensures { IfOk result (λ answer. IfSome answer (IsPieceOf text.now)) }
+{
     let mut troubles = Vec::new(alloc);
     let tokens = tokens_of(alloc, text, &mut troubles)?;
     drop(troubles);
@@ -50,22 +79,17 @@ pub fn passed_over(
         None => None,
     };
     drop(tokens);
-    match piece {
-        Some(piece) => Ok(Some(with_blanks(alloc, text, piece)?)),
-        None => Ok(None),
-    }
+    Ok(piece)
 }
 
-/// The piece of a text to be passed over for what is refused at a byte.
+/// The piece of a text, by its tokens, to be passed over for what is refused at a byte.
 fn piece_at(kind: TextKind, text: &[u8], tokens: &[Token], at: usize, why: Why) -> Option<Piece>
     ensures { IfSome result (IsPieceOf text.now) }
 {
-    if why == Why::NoToken && is_in_comment(text, at) {
-        return piece_of(text, at, 1);
-    }
     match element_at(kind, tokens, at, why) {
-        Some(index) if !is_word(tokens, behind(index), Word::Schema) =>
-            element_from(kind, text, tokens, index),
+        Some(index) if !is_word(tokens, behind(index), Word::Schema) => element_from(
+            kind, text, tokens, index,
+        ),
         Some(index) if why == Why::Element => schema_from(text, tokens, index),
         _ => piece_of_head(kind, text, tokens, at, why),
     }
@@ -73,9 +97,8 @@ fn piece_at(kind: TextKind, text: &[u8], tokens: &[Token], at: usize, why: Why) 
 
 /// The number of the token with which the element begins that is refused at a byte: before the byte, where a token is refused.
 fn element_at(kind: TextKind, tokens: &[Token], at: usize, why: Why) -> Option<usize> {
-    (0..tokens.len())
-        .rev()
-        .find(|index| begins_at(kind, tokens, *index) && is_up_to(tokens, *index, at, why))
+    (0..tokens.len()).rev().find(|index| begins_at(kind, tokens, *index)
+        && is_up_to(tokens, *index, at, why))
 }
 
 /// Whether a token begins before a byte, or at it where no token is refused there.

@@ -2,28 +2,23 @@
 
 use crate::element::{begins_at, element_of};
 use crate::kind::TextKind;
-use crate::need::{Grant, Need, need_at, need_of_set, need_to_read};
+use crate::need::{Grant, Need, Use, need_for};
 use crate::schemas::Schemas;
 use crate::source::Source;
 use crate::table::user_before;
 use sq_lex::{Name, Token, Word};
 use std::alloc::{AllocError, Global};
 
-/// A privilege that is needed and that no grant before it gives.
+/// A privilege that is needed and that no grant gives: on a table, on a column that is set, or to read what is changed.
 pub(crate) fn lacking(schemas: &Schemas<'_>, part: &[Token], user: Name) -> Option<Need> {
-    let first = first_lacking(schemas, part, user, need_at);
-    let set = first.or(first_lacking(schemas, part, user, need_of_set));
-    set.or(first_lacking(schemas, part, user, need_to_read))
+    first_lacking(schemas, part, user, Use::Table)
+        .or(first_lacking(schemas, part, user, Use::Column))
+        .or(first_lacking(schemas, part, user, Use::Reading))
 }
 
-fn first_lacking<F: Fn(&[Token], usize, Name) -> Option<Need>>(
-    schemas: &Schemas<'_>,
-    part: &[Token],
-    user: Name,
-    need: F,
-) -> Option<Need> {
+fn first_lacking(schemas: &Schemas<'_>, part: &[Token], user: Name, how: Use) -> Option<Need> {
     for index in 0..part.len() {
-        if let Some(need) = need(part, index, user) {
+        if let Some(need) = need_for(part, index, user, how) {
             if need.owner != user && !is_granted(schemas, &need, user) {
                 return Some(need);
             }
@@ -69,10 +64,7 @@ fn is_passed(source: &Source<'_>, index: usize) -> bool {
 }
 
 /// Adds a privilege, its column and its table, with the table's owner.
-pub(crate) fn add_need(
-    words: &mut Vec<u8>,
-    need: &Need,
-) -> Result<(), AllocError> {
+pub(crate) fn add_need(words: &mut Vec<u8>, need: &Need) -> Result<(), AllocError> {
     words.extend_from_slice(action_text(need.action))?;
     if let Some(column) = need.column {
         words.extend_from_slice(b" (")?;

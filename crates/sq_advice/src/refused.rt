@@ -38,7 +38,9 @@ pub(crate) fn token_of_refusal(
         SchemaFault::BadKey => bad_key(tokens),
         SchemaFault::BadReference => bad_reference(schemas, element),
         SchemaFault::BadCheck => (0..tokens.len()).find(|index| is_bad_in_check(tokens, *index)),
-        SchemaFault::BadDefault => (0..tokens.len()).find(|index| column_at(tokens, *index).is_some()
+        SchemaFault::BadDefault => (0..tokens.len()).find(|index| column_at(
+            tokens, *index,
+        ).is_some()
             && has_bad_default(element.text, definition_at(tokens, *index))),
         SchemaFault::BadView => bad_in_view(schemas, element),
         SchemaFault::BadCheckOption => Some(2),
@@ -133,12 +135,7 @@ fn table_written<'s>(
 }
 
 /// Whether a list that a bracket opens is none of columns, or its table may have a column of this name.
-fn is_listed_column(
-    schemas: &Schemas<'_>,
-    element: &Element<'_>,
-    open: usize,
-    name: Name,
-) -> bool {
+fn is_listed_column(schemas: &Schemas<'_>, element: &Element<'_>, open: usize, name: Name) -> bool {
     let tokens = element.tokens;
     let last = before(open);
     if is_word(tokens, last, Word::Key) || is_word(tokens, last, Word::Unique) {
@@ -293,9 +290,8 @@ fn are_same(key: &[Token], columns: &[Token]) -> bool {
 
 /// Whether the last column that is declared before the token of a number is the first of these.
 fn is_of_column(table: &[Token], index: usize, columns: &[Token]) -> bool {
-    let declared = (0..index)
-        .rev()
-        .find(|at| name_at(table, *at).is_some() && is_type(table, behind(*at)));
+    let declared = (0..index).rev().find(|at| name_at(table, *at).is_some()
+        && is_type(table, behind(*at)));
     match (declared, name_at(columns, 0)) {
         (Some(at), Some(name)) => is_name(table, at, name),
         _ => false,
@@ -325,9 +321,8 @@ fn is_no_check(tokens: &[Token], index: usize) -> bool {
 
 /// Whether the token of a number stands in the brackets of a CHECK.
 fn is_in_check(tokens: &[Token], index: usize) -> bool {
-    (0..index)
-        .rev()
-        .any(|check| is_word(tokens, check, Word::Check) && is_inside(tokens, behind(check), index))
+    (0..index).rev().any(|check| is_word(tokens, check, Word::Check)
+        && is_inside(tokens, behind(check), index))
 }
 
 /// Whether a bracket is open from one token to another.

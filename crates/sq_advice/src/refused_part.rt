@@ -73,7 +73,9 @@ impl Module<'_, '_> {
         let Some(name) = name_at(part, 1) else {
             return Ok(());
         };
-        let earlier = (0..first.min(tokens.len())).find(|index| is_same(tokens, *index, part, name));
+        let earlier = (0..first.min(tokens.len())).find(|index| is_same(
+            tokens, *index, part, name,
+        ));
         if let Some(token) = tokens.get(earlier.unwrap_or(tokens.len())) {
             words.extend_from_slice(name.codes())?;
             words.extend_from_slice(b" is declared at ")?;
@@ -177,11 +179,11 @@ fn second(part: &[Token], word: Word) -> Option<usize> {
 
 /// A parameter that is declared before, or of a bad type, or the 65th.
 fn bad_parameter(text: &[u8], part: &[Token]) -> Option<usize> {
-    twice(part)
-        .or(ill_typed(text, part))
-        .or((0..part.len())
+    twice(part).or(ill_typed(text, part)).or(
+        (0..part.len())
             .filter(|index| is_declared(part, *index))
-            .nth(64))
+            .nth(64),
+    )
 }
 
 /// A parameter that is declared before.
@@ -203,9 +205,7 @@ fn is_declared(part: &[Token], index: usize) -> bool {
 /// Whether a parameter is declared before, too.
 fn is_earlier(part: &[Token], index: usize) -> bool {
     match name_at(part, index) {
-        Some(name) => {
-            (0..index).any(|at| is_name(part, at, name) && is_declared(part, at))
-        }
+        Some(name) => { (0..index).any(|at| is_name(part, at, name) && is_declared(part, at)) }
         None => false,
     }
 }

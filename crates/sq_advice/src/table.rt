@@ -181,5 +181,8 @@ pub(crate) fn list_of(tokens: &[Token], index: usize) -> Option<usize> {
 }
 
 fn is_of_list(token: &Token) -> bool {
-    matches!(token.lexeme, Lexeme::Name(_) | Lexeme::Symbol(Symbol::Comma))
+    matches!(
+        token.lexeme,
+        Lexeme::Name(_) | Lexeme::Symbol(Symbol::Comma)
+    )
 }

@@ -40,8 +40,7 @@ impl<'t> Text<'t> {
 
     /// The byte at a line and column, both from 1.
     pub fn byte_at(&self, line: usize, column: usize) -> usize {
-        self.start_of(line)
-            .saturating_add(column.saturating_sub(1))
+        self.start_of(line).saturating_add(column.saturating_sub(1))
     }
 
     /// The first byte of a line, which are counted from 1; past the last line the text's end.

@@ -26,8 +26,11 @@ pub(crate) fn has_bad_type(text: &[u8], definition: &[Token]) -> bool {
 
 /// The number of the bracket behind a type.
 fn length_open(definition: &[Token]) -> Option<usize> {
-    let open = (1..definition.len().min(4))
-        .find(|index| is_symbol(definition, *index, Symbol::Open))?;
+    let open = (1..definition.len().min(4)).find(|index| is_symbol(
+        definition,
+        *index,
+        Symbol::Open,
+    ))?;
     if is_word(definition, open.saturating_sub(1), Word::Check) {
         None
     } else {
@@ -92,7 +95,8 @@ fn letters(literal: &[u8]) -> usize {
 
 /// Whether the digits of a number before its point are more than a type has.
 fn is_large(text: &[u8], definition: &[Token], at: usize) -> bool {
-    let number = if is_symbol(definition, at, Symbol::Minus) || is_symbol(definition, at, Symbol::Plus)
+    let number = if is_symbol(definition, at, Symbol::Minus)
+        || is_symbol(definition, at, Symbol::Plus)
     {
         behind(at)
     } else {

@@ -1,5 +1,5 @@
 -- What is left of texts, where one piece after the other is passed over.
-use Rattle.std.proofs.Common.{◌≡◌, ◌∙◌, ℕ, zero, suc, ◌<◌, ◌+◌, List, [], ◌∷◌, ◌++◌, ap, arith, length, map, refl, slice_set, slice_get, sym, subst, get_or, Vec}
+use Rattle.std.proofs.Common.{◌≡◌, ◌∙◌, ℕ, zero, suc, List, [], ◌∷◌, ◌++◌, ap, refl, slice_set, sym, subst, get_or, Vec}
 use Rattle.std.specs.declared.alloc.Global.{Global}
 use Rattle.sq_advice.specs.Passed.{IsLeft, all_passed, passed}
 use Rattle.sq_advice.specs.declared.passed.Piece.{Piece}

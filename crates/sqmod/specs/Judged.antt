@@ -22,7 +22,7 @@ pub record AreSourcesLeft (sources left : Sources) : Type 0 where
 pub record IsJudged (sources : Sources) (judged : Judged) : Type 0 where
   pub left : AreSourcesLeft sources judged.left
   pub checked :
-    AreCheckedTexts
+      AreCheckedTexts
       (texts judged.left.schemas.items)
       (texts judged.left.modules.items)
       judged.checked

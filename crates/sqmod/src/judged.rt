@@ -107,7 +107,6 @@ fn why(what: RefusalName) -> Why {
 }
 
 /// A copy of texts.
-#[tactic(auto, using(crate::proofs::Left::sources_copied))]
 fn copied(alloc: Global, sources: &Sources) -> Result<Sources, AllocError>
     ensures { IfOk result (spec.AreSourcesLeft sources.now) }
 {

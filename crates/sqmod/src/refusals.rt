@@ -41,7 +41,14 @@ pub(crate) fn write_refused(
 ) -> Result<(), AllocError> {
     let is_script = matches!(source, Source::Script);
     if checking.form == Form::Lines || is_script && !is_of_tokens(refusal.what) {
-        write_refusal(&mut told.refusals, alloc, checking, checking.sources, source, refusal)?;
+        write_refusal(
+            &mut told.refusals,
+            alloc,
+            checking,
+            checking.sources,
+            source,
+            refusal,
+        )?;
     }
     if checking.form == Form::Lines {
         return Ok(());

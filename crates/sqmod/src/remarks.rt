@@ -207,7 +207,10 @@ fn write_slip(
         }
         Doubt::NeverFetched => format!(in alloc; "the cursor is never fetched")?,
         Doubt::NoIndicator => {
-            format!(in alloc; "parameter {} has no indicator for a null", name_text(&slip.name))?
+            format!(in alloc;
+                "parameter {} has no indicator for a null",
+                name_text(&slip.name)
+            )?
         }
     };
     let part = Some(slip.part);
