@@ -2,10 +2,11 @@
 """Tries `check` on texts with their wanted lines, and on the texts of every run of crates/sq_cases/data.
 
 try_check.py PROGRAM: the status is 0 if each of tools/checks.txt comes to its lines, which show each fault of a name with one; each of
-tools/words.txt to its lines and words; each text of tools/hints.txt to its hint, and each hint of the program has a text there; and of
+tools/words.txt to its lines and words, which show each warning; each text of tools/hints.txt to its hint, and each hint of the program has a text there; and of
 each run: the schemas and modules are refused as the run says; or each procedure that
 a call of the run answers with 42000 has a fault, by the name that the run gives it, no procedure that answers otherwise has one,
-behind the faults of a name stands one that the texts have, and the exit status says whether there is a fault.
+behind the faults of a name stands one that the texts have, and the exit status says whether there is a fault; and the same is said of these
+texts where each has one element more, with an error.
 Of each of all these texts `--quiet` prints the lines of refusals and faults alone, and `--json` an object for each line.
 """
 
@@ -43,16 +44,22 @@ def plain(text):
 
 def are_same(words, quiet, objects):
     """Whether the three forms say the same: with words, with `--quiet` and with `--json`."""
-    lines = plain(words[0]) + plain(words[1])
-    grave = [line for line in lines if not re.search(r": (warning: .*|updatable|not updatable: .*)$", line)]
+    out, err = plain(words[0]), plain(words[1])
+    grave = [line for line in out + err if not re.search(r": (warning: .*|updatable|not updatable: .*)$", line)]
     read = [json.loads(line) for line in objects[0].splitlines()]
     weights = [it["weight"] for it in read]
     return (
         quiet[0].splitlines() + quiet[1].splitlines() == grave
-        and len(read) == len(lines)
+        and (is_said(read, out + err) or is_said(read, err + out))
         and sum(weight in ("refusal", "fault") for weight in weights) == len(grave)
-        and all(f"{it['file']}:{it['line']}:{it['column']}: " in line and line.endswith(it["says"]) for it, line in zip(read, lines))
         and words[2] == quiet[2] == objects[2]
+    )
+
+
+def is_said(read, lines):
+    """Whether objects say what lines say, in their order."""
+    return len(read) == len(lines) and all(
+        f"{it['file']}:{it['line']}:{it['column']}: " in line and line.endswith(it["says"]) for it, line in zip(read, lines)
     )
 
 
@@ -61,7 +68,7 @@ def checked(program, words, room):
     found = said(program, words, room)
     if not are_same(found, said(program, [*words, "--quiet"], room), said(program, [*words, "--json"], room)):
         return "the forms differ", "", 0
-    out = [line for line in plain(found[0]) if ": warning: " not in line]
+    out = plain_lines(found[0])
     return "".join(line + "\n" for line in out), "".join(line + "\n" for line in plain(found[1])[:1]), found[2]
 
 
@@ -69,6 +76,11 @@ def words_of(run, room):
     """The words of `check` for the schemas and modules of a run."""
     words = written(run, room)[1:]
     return words[: words.index("--script")]
+
+
+def plain_lines(text):
+    """The lines of a text that are neither words nor warnings."""
+    return [line for line in plain(text) if ": warning: " not in line]
 
 
 def own_cases(path):
@@ -106,12 +118,23 @@ def is_hinted(program, heading, text, words):
                 given += [f"--{kind}", kind]
         out, err, status = said(program, given, room)
     first = re.split(r"\n(?=sqmod: )", err)[0].splitlines()[3:]
-    return (out, status) == ("", 2) and [line for line in first if not line.startswith("  expected: ")] == words
+    return all(map(LINE.fullmatch, plain_lines(out))) and status == 2 and [line for line in first if not line.startswith("  expected: ")] == words
 
 
 def hints_of_program():
     """What each hint of the program says."""
-    return set(re.findall(r'^        says: "(.*)",$', (ROOT / "crates/sq_advice/src/hints.rt").read_text(), re.M))
+    return set(re.findall(r'^        says: "(.*)",$', "".join(path.read_text() for path in (ROOT / "crates/sq_advice/src/hints").glob("*.rt")), re.M))
+
+
+def are_warnings_shown(cases):
+    """Whether each warning of the program stands in a wanted line, and in docs/LANGUAGE.md."""
+    text = (ROOT / "crates/sqmod/src/remarks.rt").read_text()
+    forms = re.findall(r'Doubt::\w+ => (?:\{\s*)?format!\(in alloc;\s*"([^"]+)"', text)
+    lines = "\n".join(line for _, wanted in cases for line in wanted)
+    page = (ROOT / "docs/LANGUAGE.md").read_text()
+    return bool(forms) and all(
+        re.search(": warning: " + form.replace("{}", r"\w+"), lines) and "warning: " + form.replace("{}", "NAME") in page for form in forms
+    )
 
 
 def faults_in(lines):
@@ -159,7 +182,7 @@ def answers_as_run(found, run, named):
     out, err, status = found
     if run.refused and run.refused[0] != "script":
         kind, number, place, fault = run.refused
-        return found == ("", f"sqmod: {kind}{number}:{place}: {fault}\n", 2)
+        return (err, status) == (f"sqmod: {kind}{number}:{place}: {fault}\n", 2) and all(map(LINE.fullmatch, out.splitlines()))
     lines = out.splitlines()
     found = faults_in(lines)
     if err or not all(map(LINE.fullmatch, lines)) or status != (4 if found else 0) or not are_named(found, run):
@@ -170,13 +193,37 @@ def answers_as_run(found, run, named):
     return all((name in faults) == (state == "42000") for name, state in calls) and all(faults.get(name) == fault for name, fault in names.items())
 
 
+# Elements with an error, which stand at the end of a text or before its first element.
+WRONG = {"--schema": " CREATE TABLE ZZ (ZZ DATE, ZY TIME)", "--module": " PROCEDURE ZZ (SQLCODE; COMMIT;"}
+
+
+def with_errors(words, room):
+    """The words of `check` for texts with one element more, which has an error."""
+    given = []
+    for option, name in zip(words[::2], words[1::2]):
+        text = Path(room, name).read_bytes().rstrip()
+        Path(room, "wrong_" + name).write_bytes(text.rstrip(b";" if option == "--schema" else b"") + b"\n" + WRONG[option].encode())
+        given += [option, "wrong_" + name]
+    return given
+
+
+def passes_over(program, words, room, found):
+    """Whether the same is said of texts with one element more, which has an error."""
+    if not words or found[2] == 2:
+        return True
+    out, err, status = said(program, with_errors(words, room), room)
+    return status == 2 and "".join(line + "\n" for line in plain_lines(out)).replace("wrong_", "") == found[0]
+
+
 def tried(program):
     """The name of each run and each case, with whether it comes out."""
     cases = own_cases(ROOT / "tools/checks.txt")
     yield "names_behind", names_behind(cases) == OF_A_NAME
     for run, lines in cases:
         yield run.name, is_listed(program, run, lines)
-    for run, lines in own_cases(ROOT / "tools/words.txt"):
+    worded = own_cases(ROOT / "tools/words.txt")
+    yield "warnings", are_warnings_shown(worded)
+    for run, lines in worded:
         yield run.name, says(program, run, lines)
     tried_hints = list(hints())
     yield "hints", {line.removeprefix("  hint: ") for _, _, words in tried_hints for line in words[-1:]} >= hints_of_program()
@@ -187,7 +234,8 @@ def tried(program):
         for place, run in enumerate(runs_of(path)):
             with tempfile.TemporaryDirectory() as room:
                 found = checked(program, words_of(run, room), room)
-            yield run.name, answers_as_run(found, run, named.get(place, {}))
+                passes = passes_over(program, words_of(run, room), room, found)
+            yield run.name, passes and answers_as_run(found, run, named.get(place, {}))
 
 
 def main():

@@ -1,2 +1,2 @@
 pub mod Fit
-pub mod Lines
+pub mod Left

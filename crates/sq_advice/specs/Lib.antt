@@ -1,2 +1,4 @@
 pub mod Expected
 pub mod Line
+pub mod Named
+pub mod Passed

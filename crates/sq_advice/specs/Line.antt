@@ -1,5 +1,5 @@
 -- The lines of a text.
-use Rattle.std.specs.Prelude.{ℕ, zero, suc, ◌+◌, ◌==◌, Bool, not, List, drop, length, take}
+use Rattle.std.specs.Prelude.{ℕ, ◌-◌, ◌==◌, Bool, not, List, drop, length, reverse, take}
 use Rattle.std.specs.List.{take_while}
 use Rattle.sq_lex.specs.Characters.{line_feed}
 
@@ -14,11 +14,11 @@ line_length text = length (take_while is_of_line text)
 abbrev pub first_line : List ℕ → List ℕ
 first_line text = take (line_length text) text
 
--- What stands behind the end of the first line.
-abbrev pub behind_line : List ℕ → List ℕ
-behind_line text = drop (line_length text + 1) text
+-- How many bytes the last line has.
+abbrev pub last_length : List ℕ → ℕ
+last_length text = length (take_while is_of_line (reverse text))
 
--- The line behind so many others.
-abbrev pub line_behind : ℕ → List ℕ → List ℕ
-line_behind zero text = first_line text
-line_behind (suc n) text = line_behind n (behind_line text)
+-- The line in which a byte stands, without its end: from behind the last end of a line before it.
+abbrev pub line_around : List ℕ → ℕ → List ℕ
+line_around text byte =
+    first_line (drop (length (take byte text) - last_length (take byte text)) text)

@@ -1,7 +1,7 @@
 //! A line of a text, and carets below a part of it.
 
-use crate::line::line_of;
-use sq_lex::Position;
+use crate::line::line_around;
+use crate::text::Text;
 use std::alloc::{AllocError, Global};
 
 /// Adds the line in which a byte stands, with its number, and below it a caret for each byte from there on, as many as asked for
@@ -9,12 +9,12 @@ use std::alloc::{AllocError, Global};
 pub(crate) fn write_excerpt(
     out: &mut Vec<u8>,
     alloc: Global,
-    text: &[u8],
+    text: &Text<'_>,
     start: usize,
     length: usize,
 ) -> Result<(), AllocError> {
-    let place = Position::of(text, start);
-    let line = line_of(text, place.line);
+    let place = text.place(start);
+    let line = line_around(text.bytes, place.byte);
     let before = place.column.saturating_sub(1).min(line.len());
     let carets = length.min(line.len() - before).max(1);
     let number = format!(in alloc; "  {} | ", place.line)?;

@@ -3,6 +3,7 @@
 use crate::advice::Advice;
 use crate::excerpt::write_excerpt;
 use crate::json::write_object;
+use crate::text::Text;
 use sq_lex::Name;
 use std::alloc::{AllocError, Global};
 
@@ -41,11 +42,11 @@ pub struct Part {
 
 /// What is said of a place in a text.
 #[derive(Clone, Copy)]
-pub struct Item<'f, 't, 's, 'd> {
+pub struct Item<'f, 't, 'l, 's, 'd> {
     pub weight: Weight,
     /// The name of the text's file.
     pub file: &'f str,
-    pub text: &'t [u8],
+    pub text: &'t Text<'l>,
     pub line: usize,
     pub column: usize,
     pub part: Option<Part>,
@@ -57,7 +58,7 @@ pub struct Item<'f, 't, 's, 'd> {
 pub fn write_item(
     out: &mut Vec<u8>,
     alloc: Global,
-    item: &Item<'_, '_, '_, '_>,
+    item: &Item<'_, '_, '_, '_, '_>,
     form: Form,
 ) -> Result<(), AllocError> {
     match form {
@@ -72,7 +73,7 @@ pub fn write_item(
 fn write_grave(
     out: &mut Vec<u8>,
     alloc: Global,
-    item: &Item<'_, '_, '_, '_>,
+    item: &Item<'_, '_, '_, '_, '_>,
 ) -> Result<(), AllocError> {
     match item.weight {
         Weight::Refusal | Weight::Fault => write_line(out, alloc, item),
@@ -84,7 +85,7 @@ fn write_grave(
 fn write_sure(
     out: &mut Vec<u8>,
     alloc: Global,
-    item: &Item<'_, '_, '_, '_>,
+    item: &Item<'_, '_, '_, '_, '_>,
 ) -> Result<(), AllocError> {
     match item.weight {
         Weight::Warning => Ok(()),
@@ -96,7 +97,7 @@ fn write_sure(
 fn write_with_words(
     out: &mut Vec<u8>,
     alloc: Global,
-    item: &Item<'_, '_, '_, '_>,
+    item: &Item<'_, '_, '_, '_, '_>,
 ) -> Result<(), AllocError> {
     write_line(out, alloc, item)?;
     match item.advice {
@@ -109,7 +110,7 @@ fn write_with_words(
 fn write_line(
     out: &mut Vec<u8>,
     alloc: Global,
-    item: &Item<'_, '_, '_, '_>,
+    item: &Item<'_, '_, '_, '_, '_>,
 ) -> Result<(), AllocError> {
     if item.weight == Weight::Refusal {
         out.extend_from_slice(b"sqmod: ")?;
@@ -138,7 +139,7 @@ pub(crate) fn write_part(out: &mut Vec<u8>, part: Part) -> Result<(), AllocError
 fn write_advice(
     out: &mut Vec<u8>,
     alloc: Global,
-    text: &[u8],
+    text: &Text<'_>,
     advice: &Advice,
 ) -> Result<(), AllocError> {
     write_excerpt(out, alloc, text, advice.start, advice.length)?;

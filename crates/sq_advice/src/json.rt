@@ -2,14 +2,14 @@
 
 use crate::advice::Advice;
 use crate::item::{Item, Part, Weight, write_part};
-use sq_lex::Position;
+use crate::text::Text;
 use std::alloc::{AllocError, Global};
 
 /// Adds an item as an object: where it is, what it weighs, of which part it is, what is said, and the words beside it.
 pub(crate) fn write_object(
     out: &mut Vec<u8>,
     alloc: Global,
-    item: &Item<'_, '_, '_, '_>,
+    item: &Item<'_, '_, '_, '_, '_>,
 ) -> Result<(), AllocError> {
     out.extend_from_slice(b"{\"file\":")?;
     write_text(out, item.file.as_bytes())?;
@@ -52,10 +52,10 @@ fn write_owner(out: &mut Vec<u8>, part: Option<Part>) -> Result<(), AllocError> 
 fn write_advice(
     out: &mut Vec<u8>,
     alloc: Global,
-    text: &[u8],
+    text: &Text<'_>,
     advice: &Advice,
 ) -> Result<(), AllocError> {
-    let place = Position::of(text, advice.start);
+    let place = text.place(advice.start);
     let at = format!(in alloc;
         ",\"at\":{{\"line\":{},\"column\":{},\"length\":{}}}",
         place.line, place.column, advice.length

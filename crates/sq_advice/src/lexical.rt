@@ -55,6 +55,31 @@ fn pass_piece(
     Ok(())
 }
 
+/// Whether a byte of a text stands in a comment. No literal ends in another line than the one that it begins in.
+pub(crate) fn is_in_comment(text: &[u8], at: usize) -> bool {
+    let before = &text[..at.min(text.len())];
+    let length = before
+        .iter()
+        .rev()
+        .take_while(|byte| **byte != b'\n')
+        .count();
+    has_comment(&before[before.len() - length.min(before.len())..])
+}
+
+/// Whether a comment begins in a line.
+fn has_comment(line: &[u8]) -> bool {
+    let mut is_text = false;
+    let mut last = b' ';
+    for byte in line {
+        if !is_text && last == b'-' && *byte == b'-' {
+            return true;
+        }
+        is_text = is_text != (*byte == b'\'');
+        last = *byte;
+    }
+    false
+}
+
 fn blank(text: &mut [u8], start: usize, length: usize) {
     for (index, byte) in text.iter_mut().enumerate() {
         if start <= index && index - start < length {

@@ -3,8 +3,11 @@
 #![tactic(auto)]
 
 mod advice;
+mod blame;
+mod element;
 mod excerpt;
 mod expected;
+mod grouped;
 mod hint;
 mod hints;
 mod item;
@@ -15,18 +18,32 @@ mod line;
 mod meaning;
 mod names;
 mod near;
+mod need;
+mod nullable;
 mod offset;
-mod part;
 mod pass;
+mod passed;
+mod privilege;
+mod refused;
+mod refused_part;
+mod schemas;
 mod slips;
+mod source;
 mod spelled;
 mod stands;
+mod table;
+mod text;
+mod typed;
 
 pub use advice::{Advice, Trouble, What};
+pub use blame::advice_on_schema;
 pub use item::{Form, Item, Part, Weight, write_item};
 pub use kind::TextKind;
-pub use meaning::{Module, Subject};
-pub use names::NameKind;
+pub use meaning::Module;
 pub use offset::offset_of;
 pub use pass::troubles_of;
+pub use passed::{Piece, Why, passed_over};
+pub use schemas::Schemas;
 pub use slips::{Doubt, Slip, slips_of};
+pub use source::Source;
+pub use text::Text;

@@ -1,18 +1,29 @@
 //! The lines of a text.
 
-ghost use Rattle.std.specs.Prelude.{◌≡◌, ◌-◌};
+ghost use Rattle.std.specs.Prelude.{◌≡◌, ◌≤◌, length};
 ghost use Rattle.sq_advice.specs.Line as spec;
 
-/// The line of a text with this number, from 1, without its end; past the last one it is empty.
-#[tactic(auto, using(crate::proofs::Lines::turn))]
-pub(crate) fn line_of(text: &[u8], number: usize) -> &[u8]
-    ensures { result.now ≡ spec.line_behind (number - 1) text.now }
+/// The line of a text in which a byte stands, without its end.
+pub(crate) fn line_around(text: &[u8], byte: usize) -> &[u8]
+    ensures { result.now ≡ spec.line_around text.now byte }
 {
-    let mut rest = text;
-    for _at in 1..number {
-        rest = behind_line(rest);
-    }
-    first_line(rest)
+    let before = if byte < text.len() {
+        &text[..byte]
+    } else {
+        text
+    };
+    first_line(&text[before.len() - last_length(before)..])
+}
+
+/// How many bytes the last line has.
+fn last_length(text: &[u8]) -> usize
+    ensures value { result ≡ spec.last_length text.now }
+    ensures within { result ≤ length text.now }
+{
+    text.iter()
+        .rev()
+        .take_while(|byte| is_of_line(**byte))
+        .count()
 }
 
 /// The first line, without its end.
@@ -21,18 +32,6 @@ pub(crate) fn first_line(text: &[u8]) -> &[u8]
 {
     let end = line_length(text);
     if end < text.len() { &text[..end] } else { text }
-}
-
-/// What stands behind the first line and its end.
-fn behind_line(text: &[u8]) -> &[u8]
-    ensures { result.now ≡ spec.behind_line text.now }
-{
-    let end = line_length(text);
-    if end < text.len() {
-        &text[end + 1..]
-    } else {
-        b""
-    }
 }
 
 /// How many bytes the first line has, without its end.

@@ -1,76 +1,119 @@
 //! Where the name stands that a fault of meaning is about, and the declared name nearest to it.
 
+ghost use Rattle.std.specs.Prelude.{◌≡◌};
+ghost use Rattle.sq_advice.specs.Named as spec;
+
 use crate::advice::Advice;
+use crate::blame::{add_lacking, add_written, length_of_written};
+use crate::element::{begins_at, element_of, start_of, token_at};
+use crate::grouped::ungrouped;
+use crate::kind::TextKind;
 use crate::names::{
-    NameKind, add_declared, before, behind, declared, is_name, is_parameter, is_symbol, is_type,
-    is_word, read,
+    NameKind, before, behind, declared, is_name, is_parameter, is_symbol, is_type, is_word, name_at,
 };
 use crate::near::nearest;
-use crate::offset::offset_of;
-use crate::part::part_at;
+use crate::privilege::lacking;
+use crate::schemas::Schemas;
+use crate::source::Source;
 use crate::spelled::spelled;
-use sq_lex::{Name, Position, Symbol, Token, Word};
+use crate::table::{Table, table_name_at, user_before};
+use indexmap::IndexMap;
+use sq_lex::{Name, Symbol, Token, Word};
+use sq_meaning::BindingFault;
 use std::alloc::{AllocError, Global};
 
 /// A name that a fault is about.
 #[derive(Clone, Copy)]
-pub struct Subject {
-    pub kind: NameKind,
-    pub name: Name,
+pub(crate) struct Subject {
+    kind: NameKind,
+    name: Name,
     /// Whether no such name is declared.
-    pub is_unknown: bool,
+    is_unknown: bool,
     /// Whether it stands twice where it may stand once.
-    pub is_twice: bool,
+    is_twice: bool,
 }
 
-/// A module's text and the names of the schemas.
+/// A module's text over those of schemas.
 #[derive(Drop)]
-pub struct Module<'t> {
-    pub(crate) text: &'t [u8],
-    pub(crate) tokens: Vec<Token>,
-    tables: Vec<Name>,
-    columns: Vec<Name>,
-    cursors: Vec<Name>,
+pub struct Module<'t, 's> {
+    pub source: Source<'t>,
+    pub(crate) schemas: &'s Schemas<'t>,
+    pub(crate) user: Option<Name>,
+    /// Its cursors, each with the number of the token at which it is declared.
+    cursors: IndexMap<Name, usize>,
 }
 
-impl<'t> Module<'t> {
+impl<'t, 's> Module<'t, 's> {
     /// A module's text over those of schemas.
     pub fn new(
         alloc: Global,
-        schemas: &[Vec<u8>],
-        text: &'t [u8],
-    ) -> Result<Module<'t>, AllocError> {
-        let tokens = read(alloc, text)?;
-        let cursors = declared(alloc, NameKind::Cursor, tokens.as_slice())?;
-        let tables = declared_in(alloc, NameKind::Table, schemas)?;
-        let columns = declared_in(alloc, NameKind::Column, schemas)?;
+        schemas: &'s Schemas<'t>,
+        source: Source<'t>,
+    ) -> Result<Module<'t, 's>, AllocError> {
+        let cursors = cursors_of(alloc, source.tokens.as_slice())?;
+        let user = user_before(source.tokens.as_slice(), 8);
         Ok(Module {
-            text,
-            tokens,
-            tables,
-            columns,
+            source,
+            schemas,
+            user,
             cursors,
         })
     }
 
-    pub fn text(&self) -> &'t [u8] {
-        self.text
+    /// The tokens of the declaration of a cursor; none where it is not declared.
+    pub(crate) fn declaration_of(&self, cursor: Name) -> &[Token] {
+        match self.cursors.get(&cursor) {
+            Some(first) => element_of(TextKind::Module, self.source.tokens.as_slice(), *first),
+            None => &[],
+        }
     }
 
-    /// What is said of a part with a fault that begins at a line and column.
+    /// What is said of a part with a fault that begins at a line and column, and the name that the fault is about.
     pub fn advice(
         &self,
         alloc: Global,
         line: usize,
         column: usize,
-        subject: Option<Subject>,
+        rule: BindingFault,
+        about: Option<Name>,
     ) -> Result<Advice, AllocError> {
-        let start = offset_of(self.text, line, column);
-        let part = part_at(self.tokens.as_slice(), start);
-        match &subject {
-            Some(subject) => self.advice_about(alloc, part, subject),
-            None => Ok(at_token(alloc, self.text, part.first())),
+        let tokens = self.source.tokens.as_slice();
+        let part = match token_at(tokens, self.source.text.byte_at(line, column)) {
+            Some(first) => element_of(TextKind::Module, tokens, first),
+            None => &[],
+        };
+        match (rule, about) {
+            (BindingFault::PrivilegeMissing, _) => self.advice_on_privilege(alloc, part),
+            (BindingFault::UngroupedColumn, _) => self.advice_on_group(alloc, part),
+            (_, Some(name)) => self.advice_about(alloc, part, &subject_of(rule, name)),
+            (_, None) => Ok(self.at_token(alloc, part, 0, Vec::new(alloc), Vec::new(alloc))),
         }
+    }
+
+    /// What is said of the privilege that the module's user lacks for a part.
+    fn advice_on_privilege(&self, alloc: Global, part: &[Token]) -> Result<Advice, AllocError> {
+        let mut words = Vec::new(alloc);
+        let mut at = 0;
+        if let Some(user) = self.user {
+            if let Some(need) = lacking(self.schemas, part, user) {
+                add_lacking(&mut words, user, &need)?;
+                at = need.at;
+            }
+        }
+        let mut advice = self.at_token(alloc, part, at, words, Vec::new(alloc));
+        advice.length = length_of_written(self.source.text.bytes, part, at);
+        Ok(advice)
+    }
+
+    /// What is said of the column of a part that is not grouped.
+    fn advice_on_group(&self, alloc: Global, part: &[Token]) -> Result<Advice, AllocError> {
+        let mut words = Vec::new(alloc);
+        let Some(at) = ungrouped(part) else {
+            return Ok(self.at_token(alloc, part, 0, words, Vec::new(alloc)));
+        };
+        add_written(&mut words, &self.source, part, start_of_name(part, at))?;
+        words.extend_from_slice(b" is no grouping column, and in no set function")?;
+        Ok(self.at_token(alloc, part, at, words, Vec::new(alloc)))
     }
 
     /// What is said of a name in a part.
@@ -80,32 +123,88 @@ impl<'t> Module<'t> {
         part: &[Token],
         subject: &Subject,
     ) -> Result<Advice, AllocError> {
-        let token = token_of(part, subject);
-        let found = self.declared_cursor(alloc, subject)?;
-        if !subject.is_unknown || !found.is_empty() {
-            return Ok(with_words(alloc, self.text, token, found));
+        let at = place_in(part, subject);
+        let mut found = Vec::new(alloc);
+        self.add_declared(&mut found, alloc, part, at, subject)?;
+        let hint = if subject.is_unknown && found.is_empty() {
+            self.nearest_name(alloc, part, subject)?
+        } else {
+            Vec::new(alloc)
+        };
+        if found.is_empty() && subject.kind == NameKind::Table {
+            self.add_user(&mut found, part, at)?;
         }
-        drop(found);
-        let hint = self.nearest_name(alloc, part, subject)?;
-        Ok(with_hint(alloc, self.text, token, hint))
+        Ok(self.at_token(alloc, part, at, found, hint))
     }
 
-    /// That a cursor is declared and has a fault, where it is.
-    fn declared_cursor(&self, alloc: Global, subject: &Subject) -> Result<Vec<u8>, AllocError> {
-        let mut words = Vec::new(alloc);
-        if subject.kind != NameKind::Cursor || !subject.is_unknown {
-            return Ok(words);
+    /// Adds that an unknown cursor or table is declared with a fault or an error, if it is.
+    fn add_declared(
+        &self,
+        words: &mut Vec<u8>,
+        alloc: Global,
+        part: &[Token],
+        at: usize,
+        subject: &Subject,
+    ) -> Result<(), AllocError> {
+        match subject.kind {
+            _ if !subject.is_unknown => Ok(()),
+            NameKind::Cursor => self.add_cursor(words, alloc, subject.name),
+            NameKind::Table => self.add_table(words, alloc, part, at),
+            NameKind::Column | NameKind::Parameter => Ok(()),
         }
-        if let Some(token) = declaration_of(self.tokens.as_slice(), subject.name) {
-            let place = Position::of(self.text, token.start);
-            words.extend_from_slice(subject.name.codes())?;
-            let says = format!(in alloc;
-                " is declared at {}:{}, with a fault",
-                place.line, place.column
-            )?;
-            words.extend_from_slice(says.as_bytes())?;
+    }
+
+    /// Adds where a cursor is declared, if it is, and what is wrong with it.
+    fn add_cursor(&self, words: &mut Vec<u8>, alloc: Global, name: Name) -> Result<(), AllocError> {
+        let Some(index) = self.cursors.get(&name) else {
+            return Ok(());
+        };
+        let Some(token) = self.source.tokens.get(*index) else {
+            return Ok(());
+        };
+        words.extend_from_slice(name.codes())?;
+        words.extend_from_slice(b" is declared at ")?;
+        self.source
+            .add_place(words, alloc, token.start, self.source.file)?;
+        if self.source.is_passed(token.start) {
+            words.extend_from_slice(b", with an error")
+        } else {
+            words.extend_from_slice(b", with a fault")
         }
-        Ok(words)
+    }
+
+    /// Adds where the table at a token is declared, if that is so with an error.
+    fn add_table(
+        &self,
+        words: &mut Vec<u8>,
+        alloc: Global,
+        part: &[Token],
+        at: usize,
+    ) -> Result<(), AllocError> {
+        match self.table_at(part, start_of_name(part, at)) {
+            Some(table) if self.schemas.is_passed(table) => {
+                self.schemas
+                    .add_declared(words, alloc, table, self.source.file)
+            }
+            _ => Ok(()),
+        }
+    }
+
+    /// Adds the name of a table with its user, if that is written.
+    fn add_user(&self, words: &mut Vec<u8>, part: &[Token], at: usize) -> Result<(), AllocError> {
+        let start = start_of_name(part, at);
+        if start < at {
+            words.extend_from_slice(b"the table is ")?;
+            add_written(words, &self.source, part, start)?;
+        }
+        Ok(())
+    }
+
+    /// The table whose name begins at the token of a number of a part.
+    fn table_at(&self, part: &[Token], at: usize) -> Option<&Table> {
+        let written = table_name_at(part, at)?;
+        self.schemas
+            .table(written.owner.or(self.user)?, written.name)
     }
 
     /// The declared name nearest to one that is not.
@@ -122,16 +221,103 @@ impl<'t> Module<'t> {
             return Ok(words);
         }
         let near = match subject.kind {
-            NameKind::Table => nearest(self.tables.as_slice(), subject.name),
-            NameKind::Column => nearest(self.columns.as_slice(), subject.name),
-            NameKind::Cursor => nearest(self.cursors.as_slice(), subject.name),
-            NameKind::Parameter => nearest_parameter(alloc, part, subject.name)?,
+            NameKind::Table => self.schemas.nearest_table(subject.name),
+            NameKind::Column => self.schemas.nearest_column(subject.name),
+            NameKind::Cursor => nearest_of(
+                alloc,
+                NameKind::Cursor,
+                self.source.tokens.as_slice(),
+                subject.name,
+            )?,
+            NameKind::Parameter => nearest_of(alloc, NameKind::Parameter, part, subject.name)?,
         };
         if let Some(near) = near {
             words.extend_from_slice(b"the nearest name is ")?;
             words.extend_from_slice(near.codes())?;
         }
         Ok(words)
+    }
+
+    /// An advice at the token of a number that says what stands there, and what to do.
+    fn at_token(
+        &self,
+        alloc: Global,
+        part: &[Token],
+        at: usize,
+        found: Vec<u8>,
+        hint: Vec<u8>,
+    ) -> Advice
+        ensures { result.start ≡ spec.start_of part.now at }
+    {
+        Advice {
+            start: start_of(part, at),
+            length: place_of(self.source.text.bytes, part.get(at)).1,
+            found,
+            expected: Vec::new(alloc),
+            hint,
+        }
+    }
+}
+
+/// The cursors that a module declares, each with the number of the token at which it is first declared.
+fn cursors_of(alloc: Global, tokens: &[Token]) -> Result<IndexMap<Name, usize>, AllocError> {
+    let mut cursors = IndexMap::new(alloc);
+    for index in 0..tokens.len() {
+        add_cursor(&mut cursors, tokens, index)?;
+    }
+    Ok(cursors)
+}
+
+/// Adds the cursor whose declaration begins at the token of a number.
+fn add_cursor(
+    cursors: &mut IndexMap<Name, usize>,
+    tokens: &[Token],
+    index: usize,
+) -> Result<(), AllocError> {
+    if !begins_at(TextKind::Module, tokens, index) || !is_word(tokens, index, Word::Declare) {
+        return Ok(());
+    }
+    let Some(name) = name_at(tokens, behind(index)) else {
+        return Ok(());
+    };
+    if cursors.get(&name).is_none() {
+        cursors.insert(name, index)?;
+    }
+    Ok(())
+}
+
+/// What a fault is about.
+fn subject_of(rule: BindingFault, name: Name) -> Subject {
+    Subject {
+        kind: kind_of(rule),
+        name,
+        is_unknown: matches!(
+            rule,
+            BindingFault::UnknownTable
+                | BindingFault::UnknownColumn
+                | BindingFault::UnknownParameter
+                | BindingFault::UnknownCursor
+        ),
+        is_twice: matches!(rule, BindingFault::TargetTwice | BindingFault::ColumnTwice),
+    }
+}
+
+fn kind_of(rule: BindingFault) -> NameKind {
+    match rule {
+        BindingFault::UnknownTable | BindingFault::NotUpdatable => NameKind::Table,
+        BindingFault::UnknownParameter | BindingFault::BadIndicator | BindingFault::TargetTwice =>
+            NameKind::Parameter,
+        BindingFault::UnknownCursor => NameKind::Cursor,
+        _ => NameKind::Column,
+    }
+}
+
+/// The number of the token with which a name begins, the name before its dot included.
+fn start_of_name(part: &[Token], at: usize) -> usize {
+    if is_symbol(part, before(at), Symbol::Dot) {
+        at.saturating_sub(2)
+    } else {
+        at
     }
 }
 
@@ -142,42 +328,22 @@ fn declares(part: &[Token], name: Name) -> bool {
     })
 }
 
-fn nearest_parameter(
+/// The name of a kind that tokens declare which is nearest to one that they do not.
+fn nearest_of(
     alloc: Global,
-    part: &[Token],
+    kind: NameKind,
+    tokens: &[Token],
     name: Name,
 ) -> Result<Option<Name>, AllocError> {
-    let names = declared(alloc, NameKind::Parameter, part)?;
+    let names = declared(alloc, kind, tokens)?;
     let near = nearest(names.as_slice(), name);
     drop(names);
     Ok(near)
 }
 
-/// The names of a kind that schemas declare.
-fn declared_in(
-    alloc: Global,
-    kind: NameKind,
-    schemas: &[Vec<u8>],
-) -> Result<Vec<Name>, AllocError> {
-    let mut names = Vec::new(alloc);
-    for text in schemas {
-        let tokens = read(alloc, text.as_slice())?;
-        add_declared(&mut names, kind, tokens.as_slice())?;
-    }
-    Ok(names)
-}
-
-/// The first token of the declaration of a cursor.
-fn declaration_of(tokens: &[Token], name: Name) -> Option<&Token> {
-    let found = (0..tokens.len()).find(|index| {
-        is_word(tokens, *index, Word::Declare) && is_name(tokens, behind(*index), name)
-    });
-    tokens.get(found?)
-}
-
-/// The token of a part that a fault is about: the first use of the name there, or the last where it stands twice; else the
-/// part's first token.
-fn token_of<'t>(part: &'t [Token], subject: &Subject) -> Option<&'t Token> {
+/// The number of the token of a part that a fault is about: the first use of the name there, or the last where it stands twice; else
+/// the part's first token.
+fn place_in(part: &[Token], subject: &Subject) -> usize {
     let found = if subject.is_twice {
         (0..part.len())
             .rev()
@@ -185,7 +351,7 @@ fn token_of<'t>(part: &'t [Token], subject: &Subject) -> Option<&'t Token> {
     } else {
         (0..part.len()).find(|index| is_use(part, *index, subject))
     };
-    part.get(found.unwrap_or(0))
+    found.or(behind_user(part, subject)).unwrap_or(0)
 }
 
 /// Whether a name is used, and not declared, at the token of this number of a part.
@@ -202,32 +368,12 @@ fn is_use(part: &[Token], index: usize, subject: &Subject) -> bool {
     }
 }
 
-/// An advice at a token, without words.
-fn at_token(alloc: Global, text: &[u8], token: Option<&Token>) -> Advice {
-    with_words(alloc, text, token, Vec::new(alloc))
-}
-
-/// An advice at a token that says what stands there.
-fn with_words(alloc: Global, text: &[u8], token: Option<&Token>, found: Vec<u8>) -> Advice {
-    let (start, length) = place_of(text, token);
-    Advice {
-        start,
-        length,
-        found,
-        expected: Vec::new(alloc),
-        hint: Vec::new(alloc),
-    }
-}
-
-/// An advice at a token with a hint.
-fn with_hint(alloc: Global, text: &[u8], token: Option<&Token>, hint: Vec<u8>) -> Advice {
-    let (start, length) = place_of(text, token);
-    Advice {
-        start,
-        length,
-        found: Vec::new(alloc),
-        expected: Vec::new(alloc),
-        hint,
+/// The number of the first token of a part that is the name of a table behind that of its user.
+fn behind_user(part: &[Token], subject: &Subject) -> Option<usize> {
+    if subject.kind == NameKind::Table {
+        (0..part.len()).find(|index| is_name(part, *index, subject.name))
+    } else {
+        None
     }
 }
 

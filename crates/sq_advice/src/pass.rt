@@ -3,15 +3,20 @@
 ghost use Rattle.std.specs.Prelude.{◌≤◌, length};
 
 use crate::advice::{Advice, Trouble, What};
+use crate::element::{last_comma, last_start, next_comma, next_start, open_in_table};
 use crate::expected::{called, expected, is_name, stands_for_names, tried};
 use crate::hint::{Spot, hint_of};
 use crate::kind::{TextKind, refusal_of};
 use crate::lexical::{MOST, tokens_of};
 use crate::meaning::place_of;
+use crate::names::read;
 use crate::stands::found_at;
-use sq_lex::{LexError, Lexeme, Symbol, Token, Word, lex};
+use sq_lex::Token;
 use sq_parse::ParseError;
 use std::alloc::{AllocError, Global};
+
+/// What stands before a comma of a table.
+const TABLE: &[u8] = b"CREATE SCHEMA AUTHORIZATION U CREATE TABLE T (A INTEGER";
 
 /// Why a text is refused for its tokens and its grammar, and what more would be if each error were mended: first the pieces that
 /// are no tokens, then at most one error in each element without such a piece. At most a hundred of each are told.
@@ -44,9 +49,9 @@ fn pass(
     let mut before = tokens;
     let index = index_of(refusal, before.len());
     let mut rest = before.split_off(index)?;
-    let next = next_start(kind, rest.as_slice());
+    let way = way_on(kind, before.as_slice(), rest.as_slice());
     let from = start_of_element(kind, before.as_slice());
-    let to = match rest.get(next) {
+    let to = match rest.get(way.next) {
         Some(token) => token.start,
         None => text.len(),
     };
@@ -55,9 +60,33 @@ fn pass(
         troubles.push(trouble)?;
     }
     drop(before);
-    let after = rest.split_off(next)?;
+    let after = rest.split_off(way.next.min(rest.len()))?;
     drop(rest);
-    behind_head(alloc, kind, after)
+    behind_head(alloc, way.head, after)
+}
+
+/// Where reading goes on behind an error.
+#[derive(Clone, Copy)]
+struct Way {
+    /// How many tokens are passed over.
+    next: usize,
+    /// What stands for all before.
+    head: &'static [u8],
+}
+
+/// The way on from the token that is refused, behind those before it: to the next element of the same table, or of the text.
+fn way_on(kind: TextKind, before: &[Token], rest: &[Token]) -> Way {
+    let comma = match kind {
+        TextKind::Schema => next_comma(open_in_table(before), rest),
+        _ => None,
+    };
+    match comma {
+        Some(next) => Way { next, head: TABLE },
+        None => Way {
+            next: next_start(kind, rest),
+            head: head_of(kind),
+        },
+    }
 }
 
 /// The number of the token that is refused; that of a text which ends too early is behind the last one.
@@ -84,95 +113,33 @@ fn has_piece(troubles: &[Trouble], pieces: usize, from: usize, to: usize) -> boo
         && trouble.advice.start < to)
 }
 
-/// How many tokens stand before the next element.
-fn next_start(kind: TextKind, tokens: &[Token]) -> usize
-    ensures { result ≤ length tokens.now }
-{
-    let found = match kind {
-        TextKind::Script => tokens.iter().position(|token| ends_item(token)),
-        _ => (0..tokens.len()).find(|index| begins_at(kind, tokens, *index)),
-    };
-    match (found, kind) {
-        (Some(index), TextKind::Script) => (index.saturating_add(1)).min(tokens.len()),
-        (Some(index), _) => index.min(tokens.len()),
-        (None, _) => tokens.len(),
-    }
-}
-
-/// The first byte of the last element that begins among these tokens.
+/// The first byte of the element in which these tokens end: of a table's too.
 fn start_of_element(kind: TextKind, tokens: &[Token]) -> usize {
-    let found = match kind {
-        TextKind::Script => start_of_item(tokens),
-        _ => tokens
-            .iter()
-            .rev()
-            .find(|token| begins_element(kind, token)),
+    let comma = match kind {
+        TextKind::Schema => last_comma(tokens),
+        _ => None,
     };
-    match found {
+    match tokens.get(comma.unwrap_or(last_start(kind, tokens))) {
         Some(token) => token.start,
         None => 0,
     }
 }
 
-/// The first token of the last item of a script that begins among these tokens.
-fn start_of_item(tokens: &[Token]) -> Option<&Token> {
-    let count = tokens
-        .iter()
-        .rev()
-        .take_while(|token| !ends_item(token))
-        .count();
-    tokens.get(tokens.len().saturating_sub(count))
-}
-
-/// Whether an element begins at the token of this number; none does at the second word of WITH GRANT OPTION.
-fn begins_at(kind: TextKind, tokens: &[Token], index: usize) -> bool {
-    let is_option = match tokens.get(index.saturating_add(1)) {
-        Some(next) => matches!(next.lexeme, Lexeme::Word(Word::Option)),
-        None => false,
-    };
-    match tokens.get(index) {
-        Some(token) => begins_element(kind, token) && !is_option,
-        None => false,
-    }
-}
-
-fn ends_item(token: &Token) -> bool {
-    matches!(token.lexeme, Lexeme::Symbol(Symbol::Semicolon))
-}
-
-/// Whether a token begins an element of a text.
-fn begins_element(kind: TextKind, token: &Token) -> bool {
-    match (kind, &token.lexeme) {
-        (TextKind::Schema, Lexeme::Word(Word::Create | Word::Grant)) => true,
-        (TextKind::Module, Lexeme::Word(Word::Declare | Word::Procedure)) => true,
-        _ => false,
-    }
-}
-
-/// The tokens behind the head of a text that has them alone.
-fn behind_head(
-    alloc: Global,
-    kind: TextKind,
-    tokens: Vec<Token>,
-) -> Result<Vec<Token>, AllocError> {
-    let mut all = head_of(alloc, kind)?;
+/// Tokens behind the head of a text.
+fn behind_head(alloc: Global, head: &[u8], tokens: Vec<Token>) -> Result<Vec<Token>, AllocError> {
+    let mut all = read(alloc, head)?;
     for token in tokens {
         all.push(token)?;
     }
     Ok(all)
 }
 
-/// The tokens of a head with which a text of a kind may begin.
-fn head_of(alloc: Global, kind: TextKind) -> Result<Vec<Token>, AllocError> {
-    let head: &[u8] = match kind {
+/// A head with which a text of a kind may begin.
+fn head_of(kind: TextKind) -> &'static [u8] {
+    match kind {
         TextKind::Schema => b"CREATE SCHEMA AUTHORIZATION U",
         TextKind::Module => b"MODULE M LANGUAGE C AUTHORIZATION U",
         TextKind::Script => b"",
-    };
-    match lex(alloc, head) {
-        Ok(tokens) => Ok(tokens),
-        Err(LexError::NoMemory) => Err(AllocError),
-        Err(LexError::Fault(_)) => Ok(Vec::new(alloc)),
     }
 }
 

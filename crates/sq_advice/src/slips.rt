@@ -1,11 +1,16 @@
-//! What a module may not mean as it is written: a parameter that no statement uses, and a cursor that is never fetched.
+//! What a module may not mean as it is written: a parameter that no statement uses, a cursor that is never fetched, and a target
+//! without an indicator for a column that may be null.
 
 use crate::advice::Advice;
+use crate::element::{begins_at, element_of};
 use crate::item::Part;
+use crate::kind::TextKind;
 use crate::meaning::{Module, place_of};
 use crate::names::{before, behind, is_name, is_parameter, is_symbol, is_type, is_word, name_at};
-use crate::part::{begins_part, first_part};
-use sq_lex::{Name, Position, Symbol, Token, Word};
+use crate::nullable::{lacks_indicator, targets_of};
+use crate::text::Text;
+use indexmap::IndexSet;
+use sq_lex::{Name, Symbol, Token, Word};
 use std::alloc::{AllocError, Global};
 
 /// What may be wrong with a part of a module.
@@ -15,6 +20,8 @@ pub enum Doubt {
     UnusedParameter,
     /// No procedure fetches from the cursor.
     NeverFetched,
+    /// What comes into the target may be null, and no indicator is given.
+    NoIndicator,
 }
 
 /// What may be wrong with a part of a module, and what is said beside it.
@@ -30,80 +37,88 @@ pub struct Slip {
 }
 
 /// What may be wrong in a module, in the order of its text.
-pub fn slips_of(alloc: Global, module: &Module<'_>) -> Result<Vec<Slip>, AllocError> {
+pub fn slips_of(alloc: Global, module: &Module<'_, '_>) -> Result<Vec<Slip>, AllocError> {
     let mut slips = Vec::new(alloc);
-    let tokens = module.tokens.as_slice();
+    let tokens = module.source.tokens.as_slice();
     let Some(owner) = name_at(tokens, 1) else {
         return Ok(slips);
     };
+    let fetched = fetched_in(alloc, tokens)?;
     for index in 0..tokens.len() {
-        if is_start(tokens, index) {
-            add_slips(alloc, module, owner, &tokens[index..], &mut slips)?;
+        if is_part(module, index) {
+            add_slips(alloc, module, owner, index, &fetched, &mut slips)?;
         }
     }
+    drop(fetched);
     Ok(slips)
 }
 
-fn is_start(tokens: &[Token], index: usize) -> bool {
-    match tokens.get(index) {
-        Some(token) => begins_part(token),
+/// Whether a cursor or a procedure without an error begins at the token of this number.
+fn is_part(module: &Module<'_, '_>, index: usize) -> bool {
+    match module.source.tokens.get(index) {
+        Some(token) => {
+            begins_at(TextKind::Module, module.source.tokens.as_slice(), index)
+                && !module.source.is_passed(token.start)
+        }
         None => false,
     }
 }
 
-/// Adds what may be wrong with the part that the tokens begin with.
+/// The cursors that some procedure fetches from.
+fn fetched_in(alloc: Global, tokens: &[Token]) -> Result<IndexSet<Name>, AllocError> {
+    let mut fetched = IndexSet::new(alloc);
+    for index in 0..tokens.len() {
+        if let Some(name) = fetched_at(tokens, index) {
+            fetched.insert(name)?;
+        }
+    }
+    Ok(fetched)
+}
+
+/// The cursor whose name in a FETCH is the token of this number.
+fn fetched_at(tokens: &[Token], index: usize) -> Option<Name> {
+    let is_behind = is_word(tokens, before(index), Word::From)
+        || is_word(tokens, before(index), Word::Fetch);
+    if is_behind && is_word(tokens, behind(index), Word::Into) {
+        name_at(tokens, index)
+    } else {
+        None
+    }
+}
+
+/// Adds what may be wrong with the part that begins at the token of this number.
 fn add_slips(
     alloc: Global,
-    module: &Module<'_>,
+    module: &Module<'_, '_>,
     owner: Name,
-    tokens: &[Token],
+    first: usize,
+    fetched: &IndexSet<Name>,
     slips: &mut Vec<Slip>,
 ) -> Result<(), AllocError> {
-    let part = first_part(tokens);
+    let part = element_of(TextKind::Module, module.source.tokens.as_slice(), first);
     let Some(name) = name_at(part, 1) else {
         return Ok(());
     };
     let named = Part { owner, name };
-    if is_word(part, 0, Word::Declare) {
-        add_unfetched(alloc, module, &named, part, slips)
-    } else {
-        add_unused(alloc, module, &named, part, slips)
+    if !is_word(part, 0, Word::Declare) {
+        add_unused(alloc, module, &named, part, slips)?;
+        return add_unindicated(alloc, module, &named, part, slips);
     }
-}
-
-/// Adds that a cursor is never fetched, if it isn't.
-fn add_unfetched(
-    alloc: Global,
-    module: &Module<'_>,
-    named: &Part,
-    part: &[Token],
-    slips: &mut Vec<Slip>,
-) -> Result<(), AllocError> {
-    let tokens = module.tokens.as_slice();
-    if (0..tokens.len()).any(|index| is_fetch_of(tokens, index, named.name)) {
-        return Ok(());
+    if !fetched.contains(&name) {
+        slips.push(slip_at(alloc, module, &named, part, 1, Doubt::NeverFetched)?)?;
     }
-    let slip = slip_at(alloc, module, named, part, 1, Doubt::NeverFetched)?;
-    slips.push(slip)?;
     Ok(())
-}
-
-/// Whether the token of this number is the name of a cursor from which a statement fetches.
-fn is_fetch_of(tokens: &[Token], index: usize, cursor: Name) -> bool {
-    let is_behind = is_word(tokens, before(index), Word::From)
-        || is_word(tokens, before(index), Word::Fetch);
-    is_name(tokens, index, cursor) && is_behind && is_word(tokens, behind(index), Word::Into)
 }
 
 /// Adds each parameter of a procedure that no statement uses.
 fn add_unused(
     alloc: Global,
-    module: &Module<'_>,
+    module: &Module<'_, '_>,
     named: &Part,
     part: &[Token],
     slips: &mut Vec<Slip>,
 ) -> Result<(), AllocError> {
-    let opened = opened_by(module.tokens.as_slice(), part);
+    let opened = opened_by(module, part);
     for index in 0..part.len() {
         add_if_unused(alloc, module, named, part, opened, index, slips)?;
     }
@@ -113,7 +128,7 @@ fn add_unused(
 /// Adds the parameter that is declared at the token of this number, if it is one that is not used.
 fn add_if_unused(
     alloc: Global,
-    module: &Module<'_>,
+    module: &Module<'_, '_>,
     named: &Part,
     part: &[Token],
     opened: &[Token],
@@ -125,6 +140,23 @@ fn add_if_unused(
     }
     let slip = slip_at(alloc, module, named, part, index, Doubt::UnusedParameter)?;
     slips.push(slip)?;
+    Ok(())
+}
+
+/// Adds each target of a procedure into which a null may come, and that has no indicator.
+fn add_unindicated(
+    alloc: Global,
+    module: &Module<'_, '_>,
+    named: &Part,
+    part: &[Token],
+    slips: &mut Vec<Slip>,
+) -> Result<(), AllocError> {
+    let (into, end) = targets_of(part);
+    for index in into..end {
+        if lacks_indicator(module, part, into, index) {
+            slips.push(slip_at(alloc, module, named, part, index, Doubt::NoIndicator)?)?;
+        }
+    }
     Ok(())
 }
 
@@ -151,21 +183,10 @@ fn uses(tokens: &[Token], name: Name) -> bool {
 }
 
 /// The declaration of the cursor that a procedure opens; no tokens where it opens none.
-fn opened_by<'t>(tokens: &'t [Token], part: &[Token]) -> &'t [Token] {
+fn opened_by<'m>(module: &'m Module<'_, '_>, part: &[Token]) -> &'m [Token] {
     let open = (0..part.len()).find(|index| is_word(part, *index, Word::Open));
     match name_at(part, behind(open.unwrap_or(part.len()))) {
-        Some(cursor) => cursor_part(tokens, cursor),
-        None => &[],
-    }
-}
-
-/// The declaration of a cursor.
-fn cursor_part(tokens: &[Token], cursor: Name) -> &[Token] {
-    let found = (0..tokens.len()).find(|index| {
-        is_word(tokens, *index, Word::Declare) && is_name(tokens, behind(*index), cursor)
-    });
-    match found {
-        Some(start) => first_part(&tokens[start.min(tokens.len())..]),
+        Some(cursor) => module.declaration_of(cursor),
         None => &[],
     }
 }
@@ -173,15 +194,15 @@ fn cursor_part(tokens: &[Token], cursor: Name) -> &[Token] {
 /// What may be wrong at a name of a part.
 fn slip_at(
     alloc: Global,
-    module: &Module<'_>,
+    module: &Module<'_, '_>,
     named: &Part,
     part: &[Token],
     index: usize,
     doubt: Doubt,
 ) -> Result<Slip, AllocError> {
     let name = name_at(part, index).unwrap_or(named.name);
-    let (start, length) = place_of(module.text, part.get(index));
-    let first = place_of(module.text, part.first()).0;
+    let (start, length) = place_of(module.source.text.bytes, part.get(index));
+    let first = place_of(module.source.text.bytes, part.first()).0;
     Ok(Slip {
         doubt,
         part: *named,
@@ -200,19 +221,28 @@ fn slip_at(
 /// What to look at: the name without a colon in the procedure, or in the cursor that it opens; or how to fetch.
 fn hint_on(
     alloc: Global,
-    module: &Module<'_>,
+    module: &Module<'_, '_>,
     part: &[Token],
     name: Name,
     doubt: Doubt,
 ) -> Result<Vec<u8>, AllocError> {
     let mut words = Vec::new(alloc);
-    if doubt == Doubt::NeverFetched {
-        words.extend_from_slice(b"FETCH is the statement of a procedure of its own")?;
-        return Ok(words);
+    match doubt {
+        Doubt::UnusedParameter => {}
+        Doubt::NeverFetched => {
+            words.extend_from_slice(b"FETCH is the statement of a procedure of its own")?;
+            return Ok(words);
+        }
+        Doubt::NoIndicator => {
+            words.extend_from_slice(b"a null answers 22002 here: write an indicator, as INTO :")?;
+            words.extend_from_slice(name.codes())?;
+            words.extend_from_slice(b" INDICATOR :N")?;
+            return Ok(words);
+        }
     }
-    let opened = opened_by(module.tokens.as_slice(), part);
+    let opened = opened_by(module, part);
     if let Some(token) = bare_in(part, name).or(bare_in(opened, name)) {
-        add_bare(&mut words, alloc, module.text, token, name)?;
+        add_bare(&mut words, alloc, &module.source.text, token, name)?;
     }
     Ok(words)
 }
@@ -221,11 +251,11 @@ fn hint_on(
 fn add_bare(
     words: &mut Vec<u8>,
     alloc: Global,
-    text: &[u8],
+    text: &Text<'_>,
     token: &Token,
     name: Name,
 ) -> Result<(), AllocError> {
-    let place = Position::of(text, token.start);
+    let place = text.place(token.start);
     let says = format!(in alloc;
         " at {}:{} is a column: the parameter is :",
         place.line, place.column

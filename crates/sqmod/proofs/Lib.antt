@@ -1,5 +1,6 @@
 pub mod Examples
 pub mod Given
+pub mod Left
 pub mod Level
 pub mod Named
 pub mod Read

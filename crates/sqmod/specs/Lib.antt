@@ -1,4 +1,5 @@
 pub mod Bind
 pub mod CommandLine
 pub mod Fault
+pub mod Judged
 pub mod Request

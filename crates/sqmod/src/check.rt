@@ -1,10 +1,12 @@
 //! What is to be said of schema and module texts, and of a script, on standard output.
-ghost use Rattle.std.specs.Prelude.{◌≡◌, IfErr, length};
+ghost use Rattle.std.specs.Prelude.{◌≡◌, IfErr, IfOk, length};
+ghost use Rattle.sq_perform.specs.Checked.{AreCheckedTexts};
+ghost use Rattle.sq_perform.specs.Texts.{texts};
 ghost use Rattle.sqmod.specs.Request.{NamesOneOf};
 
 use crate::command_line::{CheckRequest, TextsRequest, USUAL_ROW_NUMBERS};
 use crate::fault::{FAULTY, Fault, REFUSED, Source};
-use crate::refusals::write_refusals;
+use crate::refusals::{Told, write_refused};
 use crate::remarks::write_checked;
 use crate::request::fault_of;
 use crate::texts::{Sources, read_sources};
@@ -137,7 +139,7 @@ fn status_of_checked<R: Print + Eprint>(
     checked: &Checked,
 ) -> u8 {
     let mut out = Vec::new(alloc);
-    if write_checked(&mut out, alloc, checking, checked).is_err() {
+    if write_checked(&mut out, alloc, checking, checking.sources, checked).is_err() {
         return refuse_for_memory(rt);
     }
     if rt.write_all(out.as_slice()).is_err() {
@@ -199,7 +201,7 @@ fn status_of_fault<R: Print + Eprint>(
     }
 }
 
-/// Prints the refusal of a text, and every other error in the tokens and the grammar of the texts.
+/// Prints the refusal of a text, every other error of the texts, and what is to be said of what has none.
 fn status_of_refusal<R: Print + Eprint>(
     rt: &R,
     alloc: Global,
@@ -207,30 +209,29 @@ fn status_of_refusal<R: Print + Eprint>(
     source: Source,
     refusal: Refusal,
 ) -> u8 {
-    let mut out = Vec::new(alloc);
-    if write_refusals(&mut out, alloc, checking, source, refusal).is_err() {
+    let mut told = Told::new(alloc);
+    if write_refused(&mut told, alloc, checking, source, refusal).is_err() {
         return refuse_for_memory(rt);
     }
-    let text = str::from_utf8(out.as_slice()).unwrap_or("");
-    match checking.form {
-        Form::Json => status_of_print(rt, text),
+    let refusals = str::from_utf8(told.refusals.as_slice()).unwrap_or("");
+    let printed = match checking.form {
+        Form::Json => rt.print(refusals),
         _ => {
-            let _ = rt.eprint(text);
-            REFUSED
+            let _ = rt.eprint(refusals);
+            Ok(())
         }
+    };
+    if printed.is_err() || rt.write_all(told.judged.as_slice()).is_err() {
+        return report_of_file(rt, "", Fault::Output);
     }
-}
-
-fn status_of_print<R: Print + Eprint>(rt: &R, text: &str) -> u8 {
-    match rt.print(text) {
-        Ok(()) => REFUSED,
-        Err(_) => report_of_file(rt, "", Fault::Output),
-    }
+    REFUSED
 }
 
 #[tactic(auto, using(crate::proofs::Named::checked_one))]
 pub(crate) fn check_sources(alloc: Global, sources: &Sources) -> Result<Checked, Fault>
-    ensures { IfErr result
+    ensures checked { IfOk result
+        (AreCheckedTexts (texts sources.now.schemas.items) (texts sources.now.modules.items)) }
+    ensures names { IfErr result
         (NamesOneOf (length sources.now.schemas.items) (length sources.now.modules.items)) }
 {
     match check(

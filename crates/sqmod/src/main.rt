@@ -12,6 +12,7 @@ mod check;
 mod command_line;
 mod explain;
 mod fault;
+mod judged;
 mod kept;
 mod meanings;
 mod new;

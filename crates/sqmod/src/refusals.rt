@@ -1,28 +1,93 @@
 //! The refusals of texts that are checked, each with what stands there, what may, and what to write.
 use crate::check::Checking;
 use crate::fault::Source;
+use crate::judged::judge;
 use crate::meanings::meaning_of;
+use crate::remarks::{module_of, schemas_of, write_checked};
+use crate::texts::Sources;
 use sq_advice::{
-    Advice, Form, Item, TextKind, Trouble, Weight, offset_of, troubles_of, write_item,
+    Advice, Form, Item, Schemas, Text, TextKind, Trouble, Weight, advice_on_schema, troubles_of,
+    write_item,
 };
-use sq_lex::Position;
-use sq_perform::{Refusal, RefusalName};
+use sq_perform::{ModuleFault, Refusal, RefusalName};
 use std::alloc::{AllocError, Global};
 
-/// Adds the refusal of a text, and every other error in the tokens and the grammar of the texts.
-pub(crate) fn write_refusals(
-    out: &mut Vec<u8>,
+/// What is told of texts of which one is refused.
+#[derive(Drop)]
+pub(crate) struct Told {
+    /// The refusals.
+    pub(crate) refusals: Vec<u8>,
+    /// What is to be said of the elements without an error.
+    pub(crate) judged: Vec<u8>,
+}
+
+impl Told {
+    /// Nothing.
+    pub(crate) fn new(alloc: Global) -> Told {
+        Told {
+            refusals: Vec::new(alloc),
+            judged: Vec::new(alloc),
+        }
+    }
+}
+
+/// Adds the refusal of a text first, then every other error of the texts, and what is to be said of the elements without one.
+pub(crate) fn write_refused(
+    told: &mut Told,
     alloc: Global,
     checking: &Checking<'_>,
     source: Source,
     refusal: Refusal,
 ) -> Result<(), AllocError> {
+    let is_script = matches!(source, Source::Script);
+    if checking.form == Form::Lines || is_script && !is_of_tokens(refusal.what) {
+        write_refusal(
+            &mut told.refusals,
+            alloc,
+            checking,
+            checking.sources,
+            source,
+            refusal,
+        )?;
+    }
     if checking.form == Form::Lines {
-        return write_refusal(out, alloc, checking, source, refusal);
+        return Ok(());
+    }
+    let mut meant = Vec::new(alloc);
+    if !is_script {
+        write_judged(&mut meant, &mut told.judged, alloc, checking)?;
     }
     if !is_of_tokens(refusal.what) {
-        write_refusal(out, alloc, checking, source, refusal)?;
+        told.refusals.extend_from_slice(meant.as_slice())?;
     }
+    write_all_troubles(&mut told.refusals, alloc, checking)?;
+    if is_of_tokens(refusal.what) {
+        told.refusals.extend_from_slice(meant.as_slice())?;
+    }
+    Ok(())
+}
+
+/// Adds the refusals of texts for what they mean, and what is to be said of what is left where they and other errors are passed over.
+fn write_judged(
+    refusals: &mut Vec<u8>,
+    out: &mut Vec<u8>,
+    alloc: Global,
+    checking: &Checking<'_>,
+) -> Result<(), AllocError> {
+    let Some(judged) = judge(refusals, alloc, checking)? else {
+        return Ok(());
+    };
+    let written = write_checked(out, alloc, checking, &judged.left, &judged.checked);
+    drop(judged);
+    written
+}
+
+/// Adds every error in the tokens and the grammar of the texts.
+fn write_all_troubles(
+    out: &mut Vec<u8>,
+    alloc: Global,
+    checking: &Checking<'_>,
+) -> Result<(), AllocError> {
     let request = checking.request;
     let sources = checking.sources;
     for (file, text) in request.schemas.iter().zip(sources.schemas.as_slice()) {
@@ -59,7 +124,7 @@ pub(crate) fn write_refusals(
 }
 
 /// Whether a text is refused for its tokens or its grammar.
-fn is_of_tokens(what: RefusalName) -> bool {
+pub(crate) fn is_of_tokens(what: RefusalName) -> bool {
     matches!(
         what,
         RefusalName::Lexical(_)
@@ -105,26 +170,31 @@ fn text_at<'a>(
     Some((*file, text.as_slice()))
 }
 
-/// Adds a refusal of a text for what it means.
-fn write_refusal(
+/// Adds a refusal of a text for what it means, where so much is left of the texts.
+pub(crate) fn write_refusal(
     out: &mut Vec<u8>,
     alloc: Global,
     checking: &Checking<'_>,
+    left: &Sources,
     source: Source,
     refusal: Refusal,
 ) -> Result<(), AllocError> {
-    let Some((file, text)) = text_of(checking, source) else {
+    let Some((file, bytes)) = text_of(checking, source) else {
         return Ok(());
     };
+    let text = Text::new(alloc, bytes)?;
     let says = format!(in alloc; "{}", refusal.what)?;
-    let start = offset_of(text, refusal.line, refusal.column);
     let meaning = meaning_of(says.as_str(), part_of(source));
-    let advice = Advice::at(alloc, text, start).explained(meaning.as_bytes())?;
+    let advice = match named(alloc, checking, left, source, refusal)? {
+        Some(advice) => advice,
+        None => Advice::at(alloc, bytes, text.byte_at(refusal.line, refusal.column)),
+    };
+    let advice = advice.explained(meaning.as_bytes())?;
     let beside = Some(&advice);
     let item = Item {
         weight: Weight::Refusal,
         file,
-        text,
+        text: &text,
         line: refusal.line,
         column: refusal.column,
         part: None,
@@ -132,6 +202,51 @@ fn write_refusal(
         advice: beside,
     };
     write_item(out, alloc, &item, checking.form)
+}
+
+/// What is said of the name that a refusal is about, where one is found.
+fn named(
+    alloc: Global,
+    checking: &Checking<'_>,
+    left: &Sources,
+    source: Source,
+    refusal: Refusal,
+) -> Result<Option<Advice>, AllocError> {
+    let schemas = schemas_of(alloc, checking, left)?;
+    match (source, refusal.what) {
+        (Source::Schema(index), RefusalName::Schema(name)) => advice_on_schema(
+            alloc,
+            &schemas,
+            index,
+            refusal.line,
+            refusal.column,
+            name.fault,
+        ),
+        (Source::Module(index), RefusalName::Module(fault)) => named_in_module(
+            alloc, checking, left, &schemas, index, refusal, fault,
+        ),
+        _ => Ok(None),
+    }
+}
+
+/// What is said of the name that a refusal of a module is about.
+fn named_in_module(
+    alloc: Global,
+    checking: &Checking<'_>,
+    left: &Sources,
+    schemas: &Schemas<'_>,
+    index: usize,
+    refusal: Refusal,
+    fault: ModuleFault,
+) -> Result<Option<Advice>, AllocError> {
+    match module_of(alloc, checking, left, schemas, index)? {
+        Some(module) => {
+            let advice = module.refused(alloc, refusal.line, refusal.column, fault);
+            drop(module);
+            advice
+        }
+        None => Ok(None),
+    }
 }
 
 /// What the entries of `explain` call the texts of a kind.
@@ -167,13 +282,14 @@ fn write_trouble(
     text: &[u8],
     trouble: &Trouble,
 ) -> Result<(), AllocError> {
-    let place = Position::of(text, trouble.advice.start);
+    let lines = Text::new(alloc, text)?;
+    let place = lines.place(trouble.advice.start);
     let says = format!(in alloc; "{}", trouble.what)?;
     let beside = Some(&trouble.advice);
     let item = Item {
         weight: Weight::Refusal,
         file,
-        text,
+        text: &lines,
         line: place.line,
         column: place.column,
         part: None,

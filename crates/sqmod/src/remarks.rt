@@ -1,35 +1,74 @@
 //! What is said of texts that are not refused: faults, whether cursors and views are updatable, and warnings.
 use crate::check::Checking;
-use crate::fault::Source;
 use crate::meanings::meaning_of;
-use crate::refusals::text_of;
+use crate::texts::Sources;
 use sq_advice::{
-    Advice, Doubt, Form, Item, Module, NameKind, Part, Slip, Subject, Weight, slips_of, write_item,
+    Advice, Doubt, Form, Item, Module, Part, Schemas, Slip, Source, Weight, slips_of, write_item,
 };
-use sq_items::Items;
-use sq_lex::{Name, Position};
-use sq_meaning::BindingFault;
+use sq_lex::Name;
 use sq_perform::{Checked, Note, Remark};
 use std::alloc::{AllocError, Global};
 use std::str;
 
-/// Adds what is to be said of each text.
+/// Adds what is to be said of each text, where so much is left of the texts.
 pub(crate) fn write_checked(
     out: &mut Vec<u8>,
     alloc: Global,
     checking: &Checking<'_>,
+    left: &Sources,
     checked: &Checked,
 ) -> Result<(), AllocError> {
-    let request = checking.request;
-    for (index, notes) in checked.schemas.iter().enumerate() {
-        if let Some(file) = request.schemas.get(index) {
-            write_remarks(out, alloc, checking.form, file, notes.as_slice())?;
-        }
+    let schemas = schemas_of(alloc, checking, left)?;
+    for (source, notes) in schemas.texts.iter().zip(checked.schemas.as_slice()) {
+        write_remarks(out, alloc, checking.form, source, notes.as_slice())?;
     }
     for (index, notes) in checked.modules.iter().enumerate() {
-        write_module(out, alloc, checking, index, notes)?;
+        if let Some(module) = module_of(alloc, checking, left, &schemas, index)? {
+            let written = write_notes(out, alloc, checking.form, &module, notes.as_slice());
+            drop(module);
+            written?;
+        }
     }
     Ok(())
+}
+
+/// The schemas of a check, where so much is left of them.
+pub(crate) fn schemas_of<'a>(
+    alloc: Global,
+    checking: &Checking<'a>,
+    left: &'a Sources,
+) -> Result<Schemas<'a>, AllocError> {
+    let mut texts = Vec::new(alloc);
+    for (index, file) in checking.request.schemas.iter().enumerate() {
+        let bytes = bytes_at(checking.sources.schemas.as_slice(), index);
+        let rest = bytes_at(left.schemas.as_slice(), index);
+        texts.push(Source::new(alloc, file, bytes, rest)?)?;
+    }
+    Schemas::new(alloc, texts)
+}
+
+/// A module of a check, where so much is left of it.
+pub(crate) fn module_of<'a, 's>(
+    alloc: Global,
+    checking: &Checking<'a>,
+    left: &'a Sources,
+    schemas: &'s Schemas<'a>,
+    index: usize,
+) -> Result<Option<Module<'a, 's>>, AllocError> {
+    let Some(file) = checking.request.modules.get(index) else {
+        return Ok(None);
+    };
+    let bytes = bytes_at(checking.sources.modules.as_slice(), index);
+    let rest = bytes_at(left.modules.as_slice(), index);
+    let source = Source::new(alloc, file, bytes, rest)?;
+    Ok(Some(Module::new(alloc, schemas, source)?))
+}
+
+fn bytes_at(texts: &[Vec<u8>], index: usize) -> &[u8] {
+    match texts.get(index) {
+        Some(text) => text.as_slice(),
+        None => &[],
+    }
 }
 
 /// Adds what is to be said of the views of a schema.
@@ -37,33 +76,15 @@ fn write_remarks(
     out: &mut Vec<u8>,
     alloc: Global,
     form: Form,
-    file: &str,
+    source: &Source<'_>,
     notes: &[Note],
 ) -> Result<(), AllocError> {
     for note in notes {
         if let Some(remark) = note.remark {
-            write_remark(out, alloc, form, file, note, remark)?;
+            write_remark(out, alloc, form, source, note, remark)?;
         }
     }
     Ok(())
-}
-
-/// Adds what is to be said of a module.
-fn write_module(
-    out: &mut Vec<u8>,
-    alloc: Global,
-    checking: &Checking<'_>,
-    index: usize,
-    notes: &Items<Note>,
-) -> Result<(), AllocError> {
-    let source = Source::Module(index);
-    let Some((file, text)) = text_of(checking, source) else {
-        return Ok(());
-    };
-    let module = Module::new(alloc, checking.sources.schemas.as_slice(), text)?;
-    let written = write_notes(out, alloc, checking.form, file, &module, notes.as_slice());
-    drop(module);
-    written
 }
 
 /// Adds what is to be said of a module's parts, and then what may be wrong with them.
@@ -71,19 +92,18 @@ fn write_notes(
     out: &mut Vec<u8>,
     alloc: Global,
     form: Form,
-    file: &str,
-    module: &Module<'_>,
+    module: &Module<'_, '_>,
     notes: &[Note],
 ) -> Result<(), AllocError> {
     for note in notes {
         match note.remark {
-            Some(Remark::Fault(_)) => write_fault(out, alloc, form, file, module, note)?,
-            Some(remark) => write_remark(out, alloc, form, file, note, remark)?,
+            Some(Remark::Fault(_)) => write_fault(out, alloc, form, module, note)?,
+            Some(remark) => write_remark(out, alloc, form, &module.source, note, remark)?,
             None => {}
         }
     }
     match form {
-        Form::Words | Form::Json => write_slips(out, alloc, form, file, module),
+        Form::Words | Form::Json => write_slips(out, alloc, form, module),
         Form::Quiet | Form::Lines => Ok(()),
     }
 }
@@ -93,7 +113,7 @@ fn write_remark(
     out: &mut Vec<u8>,
     alloc: Global,
     form: Form,
-    file: &str,
+    source: &Source<'_>,
     note: &Note,
     remark: Remark,
 ) -> Result<(), AllocError> {
@@ -105,8 +125,8 @@ fn write_remark(
     let beside: Option<&Advice> = None;
     let item = Item {
         weight: Weight::Remark,
-        file,
-        text: &[],
+        file: source.file,
+        text: &source.text,
         line: note.line,
         column: note.column,
         part,
@@ -128,8 +148,7 @@ fn write_fault(
     out: &mut Vec<u8>,
     alloc: Global,
     form: Form,
-    file: &str,
-    module: &Module<'_>,
+    module: &Module<'_, '_>,
     note: &Note,
 ) -> Result<(), AllocError> {
     let Some(Remark::Fault(fault)) = note.remark else {
@@ -140,22 +159,17 @@ fn write_fault(
         Some(about) => format!(in alloc; "{rule:?} {}", name_text(&about))?,
         None => format!(in alloc; "{rule:?}")?,
     };
-    let subject = match fault.about {
-        Some(about) => Some(subject_of(rule, about)),
-        None => None,
-    };
     let name = format!(in alloc; "{rule:?}")?;
     let meaning = meaning_of(name.as_str(), "statement");
     let advice = module
-        .advice(alloc, note.line, note.column, subject)?
+        .advice(alloc, note.line, note.column, rule, fault.about)?
         .explained(meaning.as_bytes())?;
-    let text = module.text();
     let part = Some(part_of(note));
     let beside = Some(&advice);
     let item = Item {
         weight: Weight::Fault,
-        file,
-        text,
+        file: module.source.file,
+        text: &module.source.text,
         line: note.line,
         column: note.column,
         part,
@@ -165,43 +179,16 @@ fn write_fault(
     write_item(out, alloc, &item, form)
 }
 
-/// What a fault is about.
-fn subject_of(rule: BindingFault, name: Name) -> Subject {
-    Subject {
-        kind: kind_of(rule),
-        name,
-        is_unknown: matches!(
-            rule,
-            BindingFault::UnknownTable
-                | BindingFault::UnknownColumn
-                | BindingFault::UnknownParameter
-                | BindingFault::UnknownCursor
-        ),
-        is_twice: matches!(rule, BindingFault::TargetTwice | BindingFault::ColumnTwice),
-    }
-}
-
-fn kind_of(rule: BindingFault) -> NameKind {
-    match rule {
-        BindingFault::UnknownTable | BindingFault::NotUpdatable => NameKind::Table,
-        BindingFault::UnknownParameter | BindingFault::BadIndicator | BindingFault::TargetTwice =>
-            NameKind::Parameter,
-        BindingFault::UnknownCursor => NameKind::Cursor,
-        _ => NameKind::Column,
-    }
-}
-
 /// Adds what may be wrong with a module's parts.
 fn write_slips(
     out: &mut Vec<u8>,
     alloc: Global,
     form: Form,
-    file: &str,
-    module: &Module<'_>,
+    module: &Module<'_, '_>,
 ) -> Result<(), AllocError> {
     let slips = slips_of(alloc, module)?;
     for slip in slips.as_slice() {
-        write_slip(out, alloc, form, file, module, slip)?;
+        write_slip(out, alloc, form, module, slip)?;
     }
     Ok(())
 }
@@ -210,24 +197,28 @@ fn write_slip(
     out: &mut Vec<u8>,
     alloc: Global,
     form: Form,
-    file: &str,
-    module: &Module<'_>,
+    module: &Module<'_, '_>,
     slip: &Slip,
 ) -> Result<(), AllocError> {
-    let place = Position::of(module.text(), slip.start);
+    let place = module.source.text.place(slip.start);
     let says = match slip.doubt {
         Doubt::UnusedParameter => {
             format!(in alloc; "parameter {} is never used", name_text(&slip.name))?
         }
         Doubt::NeverFetched => format!(in alloc; "the cursor is never fetched")?,
+        Doubt::NoIndicator => {
+            format!(in alloc;
+                "parameter {} has no indicator for a null",
+                name_text(&slip.name)
+            )?
+        }
     };
-    let text = module.text();
     let part = Some(slip.part);
     let beside = Some(&slip.advice);
     let item = Item {
         weight: Weight::Warning,
-        file,
-        text,
+        file: module.source.file,
+        text: &module.source.text,
         line: place.line,
         column: place.column,
         part,

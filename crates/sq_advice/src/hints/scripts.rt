@@ -1,0 +1,133 @@
+//! What is said in scripts.
+
+use crate::hint::Hint;
+
+/// In scripts.
+pub(crate) static SCRIPTS: [Hint; 18] = [
+    Hint {
+        before: "",
+        at: "SELECT",
+        expected: "TABLE",
+        missing: "",
+        says: "a script calls procedures: CALL M.P (..); TABLE U.T shows the rows of a table",
+    },
+    Hint {
+        before: "",
+        at: "INSERT",
+        expected: "TABLE",
+        missing: "",
+        says: "a script calls procedures: CALL M.P (..); TABLE U.T shows the rows of a table",
+    },
+    Hint {
+        before: "",
+        at: "UPDATE",
+        expected: "TABLE",
+        missing: "",
+        says: "a script calls procedures: CALL M.P (..); TABLE U.T shows the rows of a table",
+    },
+    Hint {
+        before: "",
+        at: "DELETE",
+        expected: "TABLE",
+        missing: "",
+        says: "a script calls procedures: CALL M.P (..); TABLE U.T shows the rows of a table",
+    },
+    Hint {
+        before: "",
+        at: "CREATE",
+        expected: "TABLE",
+        missing: "",
+        says: "tables stand in a text of schemas",
+    },
+    Hint {
+        before: "",
+        at: "COMMIT",
+        expected: "TABLE",
+        missing: "",
+        says: "a script calls procedures: CALL M.P; where P is a procedure with COMMIT",
+    },
+    Hint {
+        before: "",
+        at: "ROLLBACK",
+        expected: "TABLE",
+        missing: "",
+        says: "a script calls procedures: CALL M.P; where P is a procedure with ROLLBACK",
+    },
+    Hint {
+        before: "",
+        at: "a name",
+        expected: "TABLE",
+        missing: "",
+        says: "a script is of CALL M.P (..); and TABLE U.T;",
+    },
+    Hint {
+        before: "a name",
+        at: "(",
+        expected: ".",
+        missing: "",
+        says: "a procedure is called with its module: CALL M.P (..)",
+    },
+    Hint {
+        before: "a name",
+        at: ";",
+        expected: ".",
+        missing: "",
+        says: "a procedure is called with its module, and a table has its user: CALL M.P; TABLE U.T;",
+    },
+    Hint {
+        before: "",
+        at: "NULL",
+        expected: "",
+        missing: "",
+        says: "a null is a * with an indicator of -1 behind it",
+    },
+    Hint {
+        before: "",
+        at: ":",
+        expected: "a number",
+        missing: "",
+        says: "an argument is a number, a text or *",
+    },
+    Hint {
+        before: "",
+        at: "a name",
+        expected: "a number",
+        missing: "",
+        says: "an argument is a number, a text in quotes or *",
+    },
+    Hint {
+        before: "",
+        at: "+",
+        expected: ")",
+        missing: "",
+        says: "an argument is a value: work it out",
+    },
+    Hint {
+        before: "",
+        at: "-",
+        expected: ")",
+        missing: "",
+        says: "an argument is a value: work it out",
+    },
+    Hint {
+        before: "",
+        at: "*",
+        expected: ")",
+        missing: "",
+        says: "an argument is a value: work it out",
+    },
+    Hint {
+        before: "",
+        at: "CALL",
+        expected: ";",
+        missing: "",
+        says: "each item ends with a `;`",
+    },
+    Hint {
+        before: "",
+        at: "TABLE",
+        expected: ";",
+        missing: "",
+        says: "each item ends with a `;`",
+    },
+];

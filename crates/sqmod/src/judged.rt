@@ -1,0 +1,131 @@
+//! What is judged of texts in which elements with an error are passed over.
+
+ghost use Rattle.std.specs.Prelude.{◌≡◌, IfOk, IfSome};
+ghost use Rattle.sq_perform.specs.Texts.{texts};
+ghost use Rattle.sqmod.specs.Judged as spec;
+
+use crate::check::{Checking, check_sources};
+use crate::fault::{Fault, Source};
+use crate::refusals::{is_of_tokens, write_refusal};
+use crate::texts::Sources;
+use sq_advice::{TextKind, Why, offset_of, passed_over};
+use sq_perform::{Checked, Refusal, RefusalName};
+use std::alloc::{AllocError, Global};
+
+/// How many errors are passed over, at most.
+const MOST: usize = 1000;
+
+/// What is left of texts where elements with an error are passed over, and what is to be said of it.
+#[derive(Drop)]
+pub(crate) struct Judged {
+    pub(crate) left: Sources,
+    pub(crate) checked: Checked,
+}
+
+/// Passes over what is refused of texts, one thing after the other, and adds each refusal for what a text means; then what is left is
+/// checked. Nothing where the head of a text cannot be mended so.
+#[tactic(auto, using(crate::proofs::Left::is_judged))]
+pub(crate) fn judge(
+    out: &mut Vec<u8>,
+    alloc: Global,
+    checking: &Checking<'_>,
+) -> Result<Option<Judged>, AllocError>
+    ensures { IfOk result (λ answer. IfSome answer (spec.IsJudged checking.now.sources.now)) }
+{
+    let mut left = copied(alloc, checking.sources)?;
+    for _ in 0..MOST {
+        match check_sources(alloc, &left) {
+            Ok(checked) => return Ok(Some(Judged { left, checked })),
+            Err(fault) => {
+                if !is_passed(out, alloc, checking, &mut left, fault)? {
+                    return Ok(None);
+                }
+            }
+        }
+    }
+    Ok(None)
+}
+
+/// Passes over what is refused, and says whether that can be done.
+fn is_passed(
+    out: &mut Vec<u8>,
+    alloc: Global,
+    checking: &Checking<'_>,
+    left: &mut Sources,
+    fault: Fault,
+) -> Result<bool, AllocError>
+    ensures { (all : _) → spec.AreSourcesLeft all left.old → spec.AreSourcesLeft all left.new }
+{
+    let Fault::Refused(source, refusal) = fault else {
+        return Err(AllocError);
+    };
+    if !is_of_tokens(refusal.what) {
+        write_refusal(out, alloc, checking, left, source, refusal)?;
+    }
+    match source {
+        Source::Schema(index) => {
+            pass_in(alloc, TextKind::Schema, &mut left.schemas, index, refusal)
+        }
+        Source::Module(index) => {
+            pass_in(alloc, TextKind::Module, &mut left.modules, index, refusal)
+        }
+        Source::Script => Ok(false),
+    }
+}
+
+/// Passes over what is refused of one of several texts, and says whether that can be done.
+fn pass_in(
+    alloc: Global,
+    kind: TextKind,
+    all: &mut Vec<Vec<u8>>,
+    index: usize,
+    refusal: Refusal,
+) -> Result<bool, AllocError>
+    ensures { (before : _) → spec.AreLeft before (texts all.old.items) → spec.AreLeft before (texts all.new.items) }
+{
+    if index >= all.len() {
+        return Ok(false);
+    }
+    let text = all[index].as_slice();
+    let at = offset_of(text, refusal.line, refusal.column);
+    match passed_over(alloc, kind, text, at, why(refusal.what))? {
+        Some(left) => {
+            all[index] = left;
+            Ok(true)
+        }
+        None => Ok(false),
+    }
+}
+
+/// What is refused: a piece that is no token, a token, or an element.
+fn why(what: RefusalName) -> Why {
+    match what {
+        RefusalName::Lexical(_) => Why::NoToken,
+        RefusalName::Unexpected | RefusalName::TooDeep => Why::Token,
+        _ => Why::Element,
+    }
+}
+
+/// A copy of texts.
+fn copied(alloc: Global, sources: &Sources) -> Result<Sources, AllocError>
+    ensures { IfOk result (spec.AreSourcesLeft sources.now) }
+{
+    let schemas = copied_all(alloc, sources.schemas.as_slice())?;
+    match copied_all(alloc, sources.modules.as_slice()) {
+        Ok(modules) => Ok(Sources { schemas, modules }),
+        Err(error) => {
+            drop(schemas);
+            Err(error)
+        }
+    }
+}
+
+fn copied_all(alloc: Global, all: &[Vec<u8>]) -> Result<Vec<Vec<u8>>, AllocError>
+    ensures { IfOk result (λ copy. texts copy.items ≡ texts all.now) }
+{
+    let mut copy = Vec::new(alloc);
+    for text in all {
+        copy.push(Vec::from_slice(alloc, text.as_slice())?)?;
+    }
+    Ok(copy)
+}
