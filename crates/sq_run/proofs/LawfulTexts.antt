@@ -17,6 +17,7 @@ use Rattle.sq_run.specs.Trees.{TellsOfTrees}
 use Rattle.sq_run.specs.Unexpected.{UnexpectedIsFinal}
 use Rattle.sq_run.proofs.AcceptedTexts.{accepted_are, accepted_spell_trees, texts_have_one_tree}
 use Rattle.sq_run.proofs.CallLaws.{failed_changes_nothing}
+use Rattle.sq_run.proofs.CalledAs.{faults_change_nothing}
 use Rattle.sq_run.proofs.CommitLaws.{commit_alone_commits}
 use Rattle.sq_run.proofs.ConfinedLaws.{select_tells_what_may_be_read}
 use Rattle.sq_run.proofs.DefaultLaws.{defaults_are_not_reached}
@@ -42,6 +43,7 @@ module _ (schemas : List SchemaText) (modules : List ModuleText) (row_numbers : 
   lawful admitted = record {
     constraints = constraints;
     failures = failures p;
+    faults = faults_change_nothing p;
     committed = commit_alone_commits p;
     changes = only_allowed_changes p;
     fetched = fetch_shows_rows_now p;
