@@ -7,6 +7,7 @@ pub mod Changed
 pub mod Schemas
 pub mod OpenCursors
 pub mod Steps
-pub mod RowsRead
+pub mod Metering
 pub mod Worked
 pub mod Tokens
+pub mod Rows

@@ -7,7 +7,7 @@
 //! - `Places`, `Changed`: a text means by its places what it means by its names.
 //! - `Schemas`, `OpenCursors`, `Steps`: what schemas and modules declare is what a session knows, a cursor that walks is one
 //!   that lists its rows, and a whole call of a session is the machine's step.
-//! - `RowsRead`: how many rows a call of accepted texts reads, where it is keyed or quiet by its text.
+//! - `Metering`: how many rows a call of accepted texts reads, where it is keyed or quiet by its text.
 //! - `Texts`, `Tokens`: what texts come to, what a run writes of it, and at which token a text is refused.
 //!
 //! This crate is above the code, so a new law proves no code again but its own.

@@ -53,16 +53,16 @@ use Rattle.sq_run.proofs.OpenCursors.AheadWalks.{AreAhead, all_closed_ahead, cal
 use Rattle.sq_run.proofs.Steps.CallIsStep.{ends_faulty, numbered_is_step}
 use Rattle.sq_run.proofs.Laws.CallLaws.{failed_changes_nothing}
 use Rattle.sq_run.proofs.Steps.Exact.{IsBoundExactly, IsOpenedFrom, IsProcedureExactly}
-use Rattle.sq_run.proofs.RowsRead.FetchReads.{fetch_reads}
+use Rattle.sq_run.proofs.Metering.FetchReads.{fetch_reads}
 use Rattle.sq_run.proofs.Steps.Found.{each_of_all, module_found, procedure_found}
 use Rattle.sq_run.proofs.Texts.Headline as headline
-use Rattle.sq_run.proofs.RowsRead.KeyedCalls.{keyed_call_reads_one}
-use Rattle.sq_run.proofs.RowsRead.KeyedSelects.{keyed_select_reads_one}
+use Rattle.sq_run.proofs.Metering.KeyedCalls.{keyed_call_reads_one}
+use Rattle.sq_run.proofs.Metering.KeyedSelects.{keyed_select_reads_one}
 use Rattle.sq_run.proofs.Texts.OneTree.{one_modules, one_schemas}
 use Rattle.sq_run.proofs.Steps.PerformedStatements.{some_same}
 use Rattle.sq_run.proofs.Steps.ProcedureNumbers.{IsOf, StandAt, number_same, of_session, of_texts, stands_at}
-use Rattle.sq_run.proofs.RowsRead.Quiet.{quiet_open_reads_none}
-use Rattle.sq_run.proofs.RowsRead.ReadCalls.{IsCall}
+use Rattle.sq_run.proofs.Metering.Quiet.{quiet_open_reads_none}
+use Rattle.sq_run.proofs.Metering.ReadCalls.{IsCall}
 use Rattle.sq_run.proofs.Texts.Reports.{IsSession, base_found}
 use Rattle.sq_run.proofs.Laws.RisingNumbers.{CursorsRise, fetch_goes_on, first_rise, rises_after}
 use Rattle.sq_run.proofs.Steps.SameStates.{SameReply}

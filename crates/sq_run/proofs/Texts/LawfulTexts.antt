@@ -24,6 +24,7 @@ use Rattle.sq_run.proofs.Laws.DefaultLaws.{defaults_are_not_reached}
 use Rattle.sq_run.proofs.Laws.IntegrityLaws.{only_allowed_changes}
 use Rattle.sq_run.proofs.Laws.NameLaws.{constraints_hold_in_runs}
 use Rattle.sq_run.proofs.Texts.RefusedLaws.{refusals_tell}
+use Rattle.sq_run.proofs.Rows.RowsRead.{readings_are_rows}
 use Rattle.sq_run.proofs.Laws.ShownRowLaws.{fetch_shows_rows_now}
 use Rattle.sq_run.proofs.Tokens.UnexpectedTokens.{unexpected_tokens}
 
@@ -79,4 +80,5 @@ module _ (row_numbers : ℕ) (schemas modules : List Bytes) (script : Bytes) whe
     one_tree = texts_have_one_tree;
     refused = refusals_tell row_numbers schemas modules script;
     unexpected = unexpected_is_final;
+    rows = readings_are_rows;
   }

@@ -60,17 +60,17 @@ use Rattle.sq_session.specs.declared.cursor.CursorState.TheVariants as cursor
 use Rattle.sq_session.specs.declared.reply.Reply.{Reply}
 use Rattle.sq_session.specs.declared.walk.WalkingCursor.{WalkingCursor}
 use Rattle.sq_run.proofs.Places.Parameters.{SameInputs}
-use Rattle.sq_run.proofs.RowsRead.KeyedTables.{IsBaseNamed, base_is_named, meant, meant_is}
-use Rattle.sq_run.proofs.RowsRead.KeyedTargets.{target_keyed}
+use Rattle.sq_run.proofs.Metering.KeyedTables.{IsBaseNamed, base_is_named, meant, meant_is}
+use Rattle.sq_run.proofs.Metering.KeyedTargets.{target_keyed}
 use Rattle.sq_run.proofs.Steps.Agrees.{has_one}
 use Rattle.sq_run.proofs.Steps.Exact.{IsBoundExactly, IsOpenedFrom}
 use Rattle.sq_run.proofs.OpenCursors.Openers.{bound_for}
 use Rattle.sq_run.proofs.Texts.Reports.{IsSession}
 use Rattle.sq_run.proofs.Steps.PerformedStatements.{given_values, some_same}
 use Rattle.sq_run.specs.Keyed.{is_keyed_cursor, is_keyed_query}
-use Rattle.sq_run.proofs.RowsRead.ReadCalls.{IsBoundCall, IsCall, bound_call, called_same, called_values, called_with}
+use Rattle.sq_run.proofs.Metering.ReadCalls.{IsBoundCall, IsCall, bound_call, called_same, called_values, called_with}
 use Rattle.sq_run.proofs.OpenCursors.Cursors.{IsCursorAt}
-use Rattle.sq_run.proofs.RowsRead.Quiet as quiet
+use Rattle.sq_run.proofs.Metering.Quiet as quiet
 
 -- an updatable cursor's query is a query specification alone
 of_plain : (plain : Bool) (f : Select Named → Bool) (q : Select Named) → is_some_and f (if plain then Some q else None) ≡ true → f q ≡ true

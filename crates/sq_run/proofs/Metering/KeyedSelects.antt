@@ -67,19 +67,19 @@ use Rattle.sq_session.specs.Session.{Session}
 use Rattle.sq_session.specs.State.{State}
 use Rattle.sq_session.specs.declared.reply.Reply.{Reply}
 use Rattle.sq_run.proofs.Places.Items.{names_over, over_in_order}
-use Rattle.sq_run.proofs.RowsRead.KeyedTests.{item_names}
+use Rattle.sq_run.proofs.Metering.KeyedTests.{item_names}
 use Rattle.sq_run.proofs.Places.Outcomes.{known_of, ok_same}
 use Rattle.sq_run.proofs.Places.Parameters.{SameInputs}
 use Rattle.sq_run.proofs.Places.Setting.{known_item}
 use Rattle.sq_run.proofs.Places.SubqueriesSame.{IsClauseAs, clause_subquery_same}
-use Rattle.sq_run.proofs.RowsRead.KeyedClauses.{IsKeyedClause, clause_keyed}
-use Rattle.sq_run.proofs.RowsRead.KeyedTables.{IsBaseNamed, IsKeyAt, base_is_named, base_key, columns_named, meant, meant_is}
+use Rattle.sq_run.proofs.Metering.KeyedClauses.{IsKeyedClause, clause_keyed}
+use Rattle.sq_run.proofs.Metering.KeyedTables.{IsBaseNamed, IsKeyAt, base_is_named, base_key, columns_named, meant, meant_is}
 use Rattle.sq_run.proofs.Steps.Exact.{IsBoundExactly, IsOpenedFrom}
 use Rattle.sq_run.proofs.Texts.Reports.{IsSession}
 use Rattle.sq_run.proofs.Steps.PerformedStatements.{given_values}
 use Rattle.sq_run.specs.Keyed.{having_is_plain, is_keyed_query, is_keyed_select}
-use Rattle.sq_run.proofs.RowsRead.ReadCalls.{IsBoundCall, IsCall, called_same, called_with}
-use Rattle.sq_run.proofs.RowsRead.Quiet as quiet
+use Rattle.sq_run.proofs.Metering.ReadCalls.{IsBoundCall, IsCall, called_same, called_with}
+use Rattle.sq_run.proofs.Metering.Quiet as quiet
 
 -- ---- a condition without a subquery reads no table
 

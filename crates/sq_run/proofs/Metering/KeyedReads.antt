@@ -42,7 +42,7 @@ use Rattle.sq_session.specs.Parameter.{started_values}
 use Rattle.sq_session.specs.Schemas.{Schemas, columns_of}
 use Rattle.sq_session.specs.State.{State}
 use Rattle.sq_run.proofs.Places.Parameters.{SameInputs}
-use Rattle.sq_run.proofs.RowsRead.KeyedTargets.{keyed_where}
+use Rattle.sq_run.proofs.Metering.KeyedTargets.{keyed_where}
 
 -- A procedure with these parameters, over schemas that the definitions do not refuse, is called with these
 -- values, so that its statement reads these inputs.

@@ -28,11 +28,11 @@ use Rattle.sq_session.specs.Session.{Session}
 use Rattle.sq_session.specs.State.{State}
 use Rattle.sq_session.specs.declared.reply.Reply.{Reply}
 use Rattle.sq_run.proofs.Places.Parameters.{SameInputs}
-use Rattle.sq_run.proofs.RowsRead.KeyedReads as of_statement
+use Rattle.sq_run.proofs.Metering.KeyedReads as of_statement
 use Rattle.sq_run.proofs.Steps.Exact.{IsBoundExactly, IsOpenedFrom}
 use Rattle.sq_run.proofs.Texts.Reports.{IsSession}
 use Rattle.sq_run.proofs.Steps.PerformedStatements.{given_values}
-use Rattle.sq_run.proofs.RowsRead.ReadCalls.{IsBoundCall, IsCall, bound_call, called_same, called_with}
+use Rattle.sq_run.proofs.Metering.ReadCalls.{IsBoundCall, IsCall, bound_call, called_same, called_with}
 
 module _ (texts : List SchemaText) (modules : List ModuleText) (row_numbers : ℕ) (known : KnownTables) (schemas : Schemas) (program : Program)
     (o : IsOpenedFrom texts modules known schemas program) (exact : IsBoundExactly texts modules program) where

@@ -42,10 +42,10 @@ use Rattle.sq_expression.specs.Frame.{inputs_of}
 use Rattle.sq_query.specs.Keyed.{IsKeyedTarget}
 use Rattle.sq_query.proofs.KeyValues.{own_stands}
 use Rattle.sq_run.proofs.Places.Items.{IsInOrder}
-use Rattle.sq_run.proofs.RowsRead.KeyedTests.{item_names}
+use Rattle.sq_run.proofs.Metering.KeyedTests.{item_names}
 use Rattle.sq_run.proofs.Places.Parameters.{SameInputs}
-use Rattle.sq_run.proofs.RowsRead.KeyedClauses.{IsKeyedClause, clause_keyed}
-use Rattle.sq_run.proofs.RowsRead.KeyedTables.{IsBaseNamed, IsKeyAt, base_is_named, key_bound, meant, meant_is, names_are, own_positions, quiet_views}
+use Rattle.sq_run.proofs.Metering.KeyedClauses.{IsKeyedClause, clause_keyed}
+use Rattle.sq_run.proofs.Metering.KeyedTables.{IsBaseNamed, IsKeyAt, base_is_named, key_bound, meant, meant_is, names_are, own_positions, quiet_views}
 
 -- A target over a base table that a name means, in a call that hands in these values: its statement or
 -- cursor reads these inputs.

@@ -24,7 +24,7 @@ use Rattle.sq_catalog.specs.Keys.{StandAt}
 use Rattle.sq_expression.specs.Frame.{inputs_of}
 use Rattle.sq_query.proofs.KnownKeys.{same_some}
 use Rattle.sq_run.proofs.Places.Items.{IsInOrder}
-use Rattle.sq_run.proofs.RowsRead.KeyedTests.{IsKnownTest, IsPlacedTest, item_names, test_known, test_names}
+use Rattle.sq_run.proofs.Metering.KeyedTests.{IsKnownTest, IsPlacedTest, item_names, test_known, test_names}
 use Rattle.sq_run.proofs.Places.Outcomes.{same_length}
 use Rattle.sq_run.proofs.Places.Parameters.{SameInputs}
 use Rattle.sq_run.proofs.Schemas.KeyNamed.{Has, IsOneOf, all_named, found_short, has_found}

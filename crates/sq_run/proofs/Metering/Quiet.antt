@@ -50,7 +50,7 @@ use Rattle.sq_session.specs.declared.reply.Done.{Done}
 use Rattle.sq_session.specs.declared.reply.Reply.{Reply}
 use Rattle.sq_session.specs.declared.walk.WalkingCursor.{WalkingCursor}
 use Rattle.sq_run.proofs.OpenCursors.CursorOpens.{IsUpdatableAs}
-use Rattle.sq_run.proofs.RowsRead.QuietReads as of_cursor
+use Rattle.sq_run.proofs.Metering.QuietReads as of_cursor
 use Rattle.sq_run.proofs.Steps.Agrees.{IsNumbered, cursor_here, module_of, name_of}
 use Rattle.sq_run.proofs.Steps.Exact.{IsBoundExactly, IsCursorExactly, IsOpenedFrom}
 use Rattle.sq_run.proofs.Steps.Found.{at_mapped, cursor_found, itself, module_found}
@@ -58,7 +58,7 @@ use Rattle.sq_run.proofs.Steps.Projected.{entry_of}
 use Rattle.sq_run.proofs.Texts.Reports.{IsSession}
 use Rattle.sq_run.proofs.Steps.PerformedStatements.{of, some_same}
 use Rattle.sq_run.proofs.OpenCursors.Cursors.{IsCursorAt}
-use Rattle.sq_run.proofs.RowsRead.ReadCalls.{IsBoundCall, IsCall, bound_call, called_values, called_with, done}
+use Rattle.sq_run.proofs.Metering.ReadCalls.{IsBoundCall, IsCall, bound_call, called_values, called_with, done}
 
 module _ (texts : List SchemaText) (modules : List ModuleText) (row_numbers : ℕ) (known : KnownTables) (schemas : Schemas) (program : Program)
     (o : IsOpenedFrom texts modules known schemas program) (exact : IsBoundExactly texts modules program) where

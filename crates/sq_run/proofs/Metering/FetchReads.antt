@@ -42,8 +42,8 @@ use Rattle.sq_session.specs.declared.walk.WalkingCursor.{WalkingCursor}
 use Rattle.sq_run.proofs.OpenCursors.AheadWalks.{AreAhead, IsAhead, ahead_at}
 use Rattle.sq_run.proofs.OpenCursors.Cursors.{IsCursorAt, number_is_on}
 use Rattle.sq_run.proofs.Steps.Exact.{IsBoundExactly, IsOpenedFrom}
-use Rattle.sq_run.proofs.RowsRead.Quiet as quiet
-use Rattle.sq_run.proofs.RowsRead.ReadCalls.{IsBoundCall, IsCall, done}
+use Rattle.sq_run.proofs.Metering.Quiet as quiet
+use Rattle.sq_run.proofs.Metering.ReadCalls.{IsBoundCall, IsCall, done}
 use Rattle.sq_run.proofs.Texts.Reports.{IsSession}
 
 -- ---- a session's FETCH

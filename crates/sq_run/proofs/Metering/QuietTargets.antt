@@ -40,7 +40,7 @@ use Rattle.sq_session.specs.Kind.{Over, over_of}
 use Rattle.sq_run.proofs.Places.Databases.{table_is}
 use Rattle.sq_run.proofs.Changed.Levels.{item_found}
 use Rattle.sq_run.proofs.Places.Outcomes.{known_of}
-use Rattle.sq_run.proofs.RowsRead.QuietSame.{IsClauseAs, clause_as}
+use Rattle.sq_run.proofs.Metering.QuietSame.{IsClauseAs, clause_as}
 use Rattle.sq_run.proofs.Schemas.ViewTargets.{AreUnder, IsMadeOver, IsUnderBody, made_over}
 use Rattle.sq_run.proofs.Places.BoundTarget.{target_of_query}
 use Rattle.sq_run.proofs.OpenCursors.CursorOpens.{IsUpdatableAs}

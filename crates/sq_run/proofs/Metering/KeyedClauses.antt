@@ -42,12 +42,12 @@ use Rattle.sq_query.specs.Keyed.{AreKnownEqual, IsKeyedBy, IsKnownValue}
 use Rattle.sq_query.specs.Row as row
 use Rattle.sq_query.proofs.KeyValues.{all_contained, first_tests_valued}
 use Rattle.sq_run.proofs.Places.Items.{IsInOrder}
-use Rattle.sq_run.proofs.RowsRead.KeyedTests.{IsPlacedTest, item_names, placed_tests, tests_joined, tests_placed, value_known}
+use Rattle.sq_run.proofs.Metering.KeyedTests.{IsPlacedTest, item_names, placed_tests, tests_joined, tests_placed, value_known}
 use Rattle.sq_run.proofs.Places.Outcomes.{known_of, ok_same}
 use Rattle.sq_run.proofs.Places.Parameters.{SameInputs}
 use Rattle.sq_run.proofs.Places.SubqueriesSame.{subquery_same}
-use Rattle.sq_run.proofs.RowsRead.KeyedPlaced.{IsOfKey, by_key_placed}
-use Rattle.sq_run.proofs.RowsRead.KeyedTables.{IsKeyAt}
+use Rattle.sq_run.proofs.Metering.KeyedPlaced.{IsOfKey, by_key_placed}
+use Rattle.sq_run.proofs.Metering.KeyedTables.{IsKeyAt}
 
 -- A condition, which has no subquery, names a row by one of these keys, and compares its columns with
 -- values that are known and not null.

@@ -34,7 +34,7 @@ use Rattle.sq_session.specs.declared.walk.WalkingCursor.{WalkingCursor}
 use Rattle.sq_run.proofs.Schemas.ViewTargets.{AreUnder}
 use Rattle.sq_run.proofs.OpenCursors.CursorOpens.{IsUpdatableAs}
 use Rattle.sq_run.proofs.Schemas.Declared.{declares_are_under}
-use Rattle.sq_run.proofs.RowsRead.QuietTargets.{is_walk, walks_where_quiet}
+use Rattle.sq_run.proofs.Metering.QuietTargets.{is_walk, walks_where_quiet}
 
 -- what an OPEN that walks reads, and what it opens
 none_read : (o : Over) (count : ℕ) → is_walk o ≡ true → OpenReads o count → count ≡ 0
