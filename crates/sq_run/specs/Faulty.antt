@@ -2,8 +2,9 @@
 use Rattle.std.specs.Prelude.{◌≡◌, ℕ, Bool, true, false, not, take, slice_get, Some}
 use Rattle.sq_meaning.specs.declared.status.Status.{Status}
 use Rattle.sq_meaning.specs.declared.status.Status.TheVariants.{SyntaxErrorOrAccessRuleViolation}
-use Rattle.sq_meaning.specs.Machine.{Call, Program, State, replied}
+use Rattle.sq_meaning.specs.Machine.{Call, Program, State, outcome, replied}
 use Rattle.sq_meaning.specs.Module.{module_named, procedure_named}
+use Rattle.sq_meaning.specs.Parameter.{replied_with}
 use Rattle.sq_meaning.specs.Run.{Item}
 use Rattle.sq_meaning.specs.WellFormedStatement.{is_well_formed_procedure}
 use Rattle.sq_meaning.specs.Words.{is_some_and}
@@ -17,8 +18,15 @@ is_syntax_error _ = false
 -- the rules find a fault in the statement of the procedure that is called
 abbrev pub is_faulty : Program → Call → Bool
 is_faulty p c =
-    is_some_and (λ m. is_some_and (λ q. not (is_well_formed_procedure p.elements m q)) (procedure_named m c.procedure))
+    is_some_and (λ m. is_some_and
+    (λ q. not (is_well_formed_procedure p.elements m q)) (procedure_named m c.procedure))
     (module_named p.modules c.in_module)
+
+-- In every state a call of a procedure with a fault answers 42000 and changes nothing.
+unfoldable pub FaultsChangeNothing : Program → Type 0
+FaultsChangeNothing p =
+    (s : State) (c : Call) → is_faulty p c ≡ true
+    → outcome p s c ≡ (s, replied_with SyntaxErrorOrAccessRuleViolation)
 
 -- the state of the machine behind the first items
 abbrev pub behind_first : Task → ℕ → State

@@ -3,6 +3,7 @@ use Rattle.sq_meaning.specs.Machine.{Program}
 use Rattle.sq_run.specs.Committed.{CommitAloneCommits}
 use Rattle.sq_run.specs.Confined.{SelectTellsWhatMayBeRead}
 use Rattle.sq_run.specs.Defaults.{DefaultsAreNotReached}
+use Rattle.sq_run.specs.Faulty.{FaultsChangeNothing}
 use Rattle.sq_run.specs.Integrity.{OnlyAllowedChanges}
 use Rattle.sq_run.specs.Kept.{ConstraintsAreKept, FailuresChangeNothing}
 use Rattle.sq_run.specs.ShownRows.{FetchShowsRowsNow}
@@ -12,6 +13,8 @@ pub record Lawful (p : Program) : Type 0 where
   pub constraints : ConstraintsAreKept p
   -- a call that is not successful changes no table
   pub failures : FailuresChangeNothing p
+  -- a call of a procedure with a fault answers 42000 and changes nothing
+  pub faults : FaultsChangeNothing p
   -- what is committed changes by COMMIT alone
   pub committed : CommitAloneCommits p
   -- a call changes one table at most, and only as its module's user may

@@ -1,12 +1,14 @@
 //! A run: schema, module and script texts in, the report of the table machine out.
 //!
-//! `proofs/` has the laws that its contract rests on, and others that no code needs:
-//! - Of the definitions: a well-formed call never answers 42000, a failed call changes nothing, constraints hold in every run,
-//!   names and places mean the same; and small examples that compute.
-//! - Of texts: a text means by its places what it means by its names.
-//! - Of sessions: what schemas and modules declare is what a session knows, a cursor that walks is one that lists its rows, a
-//!   whole call of a session is the machine's step, and what a session reports is the machine's report.
-//! - Of rows read: how many rows a call of accepted texts reads, where it is keyed or quiet by its text.
+//! `proofs/` has the laws that its contract rests on, and others that no code needs, in folders:
+//! - `Laws`: of the machine and of the definitions alone. A failed call changes nothing, constraints hold in every run, a call
+//!   changes what its user may change. `Small` and `Worked` are examples and whole runs that compute.
+//! - `Sites`: what the rules take is well formed, and so not answered with 42000.
+//! - `Places`, `Changed`: a text means by its places what it means by its names.
+//! - `Schemas`, `OpenCursors`, `Steps`: what schemas and modules declare is what a session knows, a cursor that walks is one
+//!   that lists its rows, and a whole call of a session is the machine's step.
+//! - `Metering`: how many rows a call of accepted texts reads, where it is keyed or quiet by its text.
+//! - `Texts`, `Tokens`: what texts come to, what a run writes of it, and at which token a text is refused.
 //!
 //! This crate is above the code, so a new law proves no code again but its own.
 #![tactic(auto)]

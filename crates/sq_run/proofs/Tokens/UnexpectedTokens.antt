@@ -25,7 +25,7 @@ use Rattle.sq_perform.specs.declared.refusal.RunFault.{RunFault}
 use Rattle.sq_perform.specs.declared.refusal.RunFault.TheVariants.{SchemaRefused, ModuleRefused, ScriptRefused, Write, NoMemory}
 use Rattle.sq_run.specs.Refused.{RefusedText}
 use Rattle.sq_run.specs.Unexpected.{NoTextGoesOn, UnexpectedToken}
-use Rattle.sq_run.proofs.ReadTexts.{IsExact, modules_exact, schemas_exact, scripts_exact}
+use Rattle.sq_run.proofs.Texts.ReadTexts.{IsExact, modules_exact, schemas_exact, scripts_exact}
 use Rattle.sq_run.proofs.Tokens.GoesNoFurther.{StopsForGood, goes_no_further, stops_for_good}
 use Rattle.sq_run.proofs.Tokens.ModuleFinal.{modules as module_texts}
 use Rattle.sq_run.proofs.Tokens.SchemaTextFinal.{schema_stops}

@@ -1,7 +1,7 @@
 use Rattle.sq_perform.specs.Texts.{texts}
-use Rattle.sq_run.proofs.Accepts.{answers}
-use Rattle.sq_run.proofs.FaultLaws.{faults_answer}
-use Rattle.sq_run.proofs.LawfulTexts.{accepted_lawful, tells_of_trees}
+use Rattle.sq_run.proofs.Texts.Accepts.{answers}
+use Rattle.sq_run.proofs.Texts.FaultLaws.{faults_answer}
+use Rattle.sq_run.proofs.Texts.LawfulTexts.{accepted_lawful, tells_of_trees}
 use Rattle.sq_run.proofs.processor.run.Goals as goal
 
 pub returns-clause-answers : goal.returns-clause-answers

@@ -22,7 +22,7 @@ use Rattle.std.specs.contracts.vec.Vec as vec
 use Rattle.sq_perform.specs.Texts as bytes
 use Rattle.sq_meaning.specs.Machine.{first_state}
 use Rattle.sq_meaning.specs.Run.{program_of}
-use Rattle.sq_run.proofs.Fieldless.{empty, empty_owned, slot_at}
+use Rattle.sq_run.proofs.Steps.Fieldless.{empty, empty_owned, slot_at}
 use Rattle.sq_run.specs.Processor.{AreAccepted}
 use Rattle.sq_run.specs.contracts.counterpart.Counterpart as counterpart
 use Rattle.sq_run.specs.contracts.counterpart.Counterpart.start as f

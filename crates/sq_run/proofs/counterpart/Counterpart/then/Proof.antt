@@ -17,7 +17,7 @@ use denote.Triple.Entry.{alive}
 use denote.Triple.Walked.{says, Stays, stay_dropped, walk_of, ends_at, Goes-dropped}
 use Rattle.std.proofs.raw_atomic.Walks.{proved}
 use Rattle.sq_value.specs.contracts.value.Value as value
-use Rattle.sq_run.proofs.Fieldless.{empty, empty_owned, slot_at}
+use Rattle.sq_run.proofs.Steps.Fieldless.{empty, empty_owned, slot_at}
 use Rattle.sq_run.specs.Processor.{after_call}
 use Rattle.sq_run.specs.contracts.counterpart.Counterpart as counterpart
 use Rattle.sq_run.specs.contracts.counterpart.Counterpart.then as f

@@ -1,4 +1,4 @@
-use Rattle.sq_run.proofs.BesideLaws.{all_hold, call_keeps, fits_old, memory_old}
+use Rattle.sq_run.proofs.Steps.BesideLaws.{all_hold, call_keeps, fits_old, memory_old}
 use Rattle.sq_run.proofs.machine.Processor.call.Goals as goal
 
 pub call-requires : goal.call-requires

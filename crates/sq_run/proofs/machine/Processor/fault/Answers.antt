@@ -1,7 +1,7 @@
 use Rattle.std.proofs.Common.{ap, ◌∙◌}
 use Rattle.std.specs.Prelude.{is_some}
 use Rattle.sq_run.specs.Processor.{Machine, has_fault}
-use Rattle.sq_run.proofs.BesideLaws.{fault_is}
+use Rattle.sq_run.proofs.Steps.BesideLaws.{fault_is}
 use Rattle.sq_run.proofs.machine.Processor.fault.Goals as goal
 
 pub returns : goal.returns

@@ -1,6 +1,6 @@
 use Rattle.std.proofs.Common.{ap, ◌∙◌}
 use Rattle.sq_run.specs.Processor.{Machine, takes}
-use Rattle.sq_run.proofs.BesideLaws.{fits_is}
+use Rattle.sq_run.proofs.Steps.BesideLaws.{fits_is}
 use Rattle.sq_run.proofs.machine.Processor.fits.Goals as goal
 
 pub returns : goal.returns

@@ -1,6 +1,6 @@
 use Rattle.sq_perform.specs.Texts.{texts}
-use Rattle.sq_run.proofs.BesideLaws.{accepted_by, all_hold, beside_first}
-use Rattle.sq_run.proofs.Opened.{opens, opens_lawful, refuses}
+use Rattle.sq_run.proofs.Steps.BesideLaws.{accepted_by, all_hold, beside_first}
+use Rattle.sq_run.proofs.Texts.Opened.{opens, opens_lawful, refuses}
 use Rattle.sq_run.proofs.machine.Processor.open.Goals as goal
 
 pub start-counterpart-requires : goal.start-counterpart-requires

@@ -1,6 +1,6 @@
 use Rattle.std.proofs.Common.{ap, ◌∙◌}
 use Rattle.sq_run.specs.Processor.{Machine, number_of}
-use Rattle.sq_run.proofs.BesideLaws.{number_is}
+use Rattle.sq_run.proofs.Steps.BesideLaws.{number_is}
 use Rattle.sq_run.proofs.machine.Processor.procedure.Goals as goal
 
 pub returns : goal.returns

@@ -1,6 +1,6 @@
 use Rattle.std.proofs.Common.{ap, ◌∙◌}
 use Rattle.sq_run.specs.Processor.{Machine, rows_of}
-use Rattle.sq_run.proofs.BesideLaws.{rows_is}
+use Rattle.sq_run.proofs.Steps.BesideLaws.{rows_is}
 use Rattle.sq_run.proofs.machine.Processor.rows.Goals as goal
 
 pub returns : goal.returns

@@ -1,0 +1,25 @@
+-- What statements change, by their places and by their names.
+pub mod Changes
+pub mod CheckOptions
+pub mod Checks
+pub mod Constraints
+pub mod Given
+pub mod InDatabase
+pub mod Inserts
+pub mod Levels
+pub mod NewValues
+pub mod NotNull
+pub mod Performed
+pub mod Retrieved
+pub mod RowsAgain
+pub mod Searched
+pub mod SetClauses
+pub mod Statements
+pub mod Targets
+pub mod TargetsSet
+pub mod Completed
+pub mod MovesAlike
+pub mod PairedColumns
+pub mod ReferencesMet
+pub mod RepliesAlike
+pub mod UnreadRows

@@ -1,0 +1,20 @@
+-- Laws of the machine and of the definitions alone.
+pub mod StarLaws
+pub mod QueryLaws
+pub mod TruthLaws
+pub mod PrivilegeLaws
+pub mod LookupLaws
+pub mod AnswerLaws
+pub mod CallLaws
+pub mod CursorLaws
+pub mod FetchLaws
+pub mod NameLaws
+pub mod OpenerLaws
+pub mod Accepted
+pub mod CommitLaws
+pub mod CalledAs
+pub mod IntegrityLaws
+pub mod ShownRowLaws
+pub mod DefaultLaws
+pub mod ConfinedLaws
+pub mod RisingNumbers

@@ -1,0 +1,20 @@
+-- A text means by its places what it means by its names.
+pub mod Agreement
+pub mod Bound
+pub mod ColumnKinds
+pub mod Conditions
+pub mod Databases
+pub mod Expressions
+pub mod FromClauses
+pub mod Items
+pub mod Lists
+pub mod Outcomes
+pub mod Parameters
+pub mod Phases
+pub mod Queries
+pub mod Seen
+pub mod Setting
+pub mod ShownColumns
+pub mod Specifications
+pub mod SubqueriesSame
+pub mod BoundTarget

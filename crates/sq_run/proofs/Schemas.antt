@@ -1,0 +1,19 @@
+-- What schema texts declare, as the catalog has it.
+pub mod ViewTargets
+pub mod Created
+pub mod Declared
+pub mod DeclaredBase
+pub mod DeclaredChanges
+pub mod DeclaredChecks
+pub mod DeclaredColumns
+pub mod DeclaredContent
+pub mod DeclaredKinds
+pub mod DeclaredPlaces
+pub mod DeclaredReferences
+pub mod DeclaredStatements
+pub mod DeclaredTables
+pub mod DeclaredView
+pub mod KeyNamed
+pub mod Numbers
+pub mod SchemasRefused
+pub mod InDomains

@@ -1,0 +1,27 @@
+-- A call of a session is a step of the machine.
+pub mod Calls
+pub mod DeleteAtSame
+pub mod DeleteSame
+pub mod FetchKeeps
+pub mod InSession
+pub mod InsertSame
+pub mod SameStates
+pub mod SelectSame
+pub mod SessionKeeps
+pub mod Unnamed
+pub mod UpdateAtSame
+pub mod UpdateSame
+pub mod Agrees
+pub mod CallIsStep
+pub mod Exact
+pub mod ExactlyBound
+pub mod FirstState
+pub mod Found
+pub mod Moves
+pub mod Projected
+pub mod Started
+pub mod PerformedStatements
+pub mod Turns
+pub mod BesideLaws
+pub mod Fieldless
+pub mod ProcedureNumbers
