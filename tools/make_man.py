@@ -50,6 +50,8 @@ def body(lines):
         else:
             if not is_open:
                 yield ".PP"
+            elif ":LINE:COLUMN:" in line:
+                yield ".br"
             yield escaped(line.strip())
             is_open = True
 
