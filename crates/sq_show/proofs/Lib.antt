@@ -5,4 +5,3 @@ pub mod Continued
 pub mod Lexed
 pub mod OfChange
 pub mod SoFar
-pub mod Standing
