@@ -5,18 +5,18 @@ use sq_lex::LexFaultKind;
 use std::alloc::{AllocError, Global};
 use thiserror::Error;
 
-/// What is said beside a line of `check`.
+/// The words beside a line of `check`.
 #[derive(Drop)]
 pub struct Advice {
     /// The first byte of what it is about.
     pub start: usize,
     /// How many bytes it has.
     pub length: usize,
-    /// What stands there; empty where the line says it.
+    /// The token or name there; empty if the line says it.
     pub found: Vec<u8>,
-    /// What may stand there, where that is known.
+    /// The tokens that are possible there, if they are known.
     pub expected: Vec<&'static [u8]>,
-    /// What to do, or nothing.
+    /// The hint; empty if there is none.
     pub hint: Vec<u8>,
 }
 

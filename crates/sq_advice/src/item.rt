@@ -40,7 +40,7 @@ pub struct Part {
     pub name: Name,
 }
 
-/// What is said of a place in a text.
+/// The words about a place in a text.
 #[derive(Clone, Copy)]
 pub struct Item<'f, 't, 'l, 's, 'd> {
     pub weight: Weight,

@@ -13,7 +13,7 @@ use sq_lex::Token;
 use sq_parse::{ParseError, parse_module, parse_schema, parse_script};
 use std::alloc::{AllocError, Global};
 
-/// What a text is.
+/// The kind of a text.
 #[derive(Clone, Copy, Debug, PartialEq, Eq)]
 pub enum TextKind {
     Schema,

@@ -29,11 +29,11 @@ pub(crate) struct Subject {
     name: Name,
     /// Whether no such name is declared.
     is_unknown: bool,
-    /// Whether it stands twice where it may stand once.
+    /// Whether it occurs twice though only one is allowed.
     is_twice: bool,
 }
 
-/// A module's text over those of schemas.
+/// A module's text over the schemas' texts.
 #[derive(Drop)]
 pub struct Module<'t, 's> {
     pub source: Source<'t>,

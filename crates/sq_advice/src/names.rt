@@ -3,7 +3,7 @@
 use sq_lex::{LexError, Lexeme, Name, Symbol, Token, Word, lex};
 use std::alloc::{AllocError, Global};
 
-/// What a name is of.
+/// The kind of thing that a name names.
 #[derive(Clone, Copy, Debug, PartialEq, Eq)]
 pub enum NameKind {
     Table,

@@ -13,7 +13,7 @@ use indexmap::IndexSet;
 use sq_lex::{Name, Symbol, Token, Word};
 use std::alloc::{AllocError, Global};
 
-/// What may be wrong with a part of a module.
+/// A doubt about a part of a module.
 #[derive(Clone, Copy, Debug, PartialEq, Eq)]
 pub enum Doubt {
     /// No statement uses the parameter.
@@ -24,7 +24,7 @@ pub enum Doubt {
     NoIndicator,
 }
 
-/// What may be wrong with a part of a module, and what is said beside it.
+/// A doubt about a part of a module, and the words about it.
 #[derive(Drop)]
 pub struct Slip {
     pub doubt: Doubt,
@@ -36,7 +36,7 @@ pub struct Slip {
     pub advice: Advice,
 }
 
-/// What may be wrong in a module, in the order of its text.
+/// The doubts about a module, in the order of its text.
 pub fn slips_of(alloc: Global, module: &Module<'_, '_>) -> Result<Vec<Slip>, AllocError> {
     let mut slips = Vec::new(alloc);
     let tokens = module.source.tokens.as_slice();
