@@ -84,6 +84,73 @@ came_blank g first second (came.Expr e) = second e
 is_ends : (ts : Tokens) → EndsExpr (lexeme.Word word.Is ∷ ts)
 is_ends ts = ends_expr _ refl
 
+-- ---- a condition that comes from nothing: 1 IS NULL
+
+module _ (l : ℕ) (i : Parser (CondOrExpr Cond)) where
+  -- a condition in a test is read as the body is
+  tested_as : (n : Bool) (ts : Tokens) → must_be_cond (body l i >>= tested l i n) ts ≡ (must_be_cond (body l i) >>= λ b. pure (record { negated = n; body = b })) ts
+  tested_as n ts = by n (body l i ts)
+    where
+      by : (n : Bool) (r : Outcome (CondOrExpr Body)) → and_then (and_then r (tested l i n)) only_cond ≡ and_then (and_then r only_cond) (λ b. pure (record { negated = n; body = b }))
+      by n (Ok (came.Cond b, us)) = refl
+      by true (Ok (came.Expr e, us)) = refl
+      by false (Ok (came.Expr e, us)) = refl
+      by n (Err m) = refl
+
+  conj_as : (ts : Tokens) → must_be_cond (conj l i) ts ≡ (must_be_cond (test_at l i) >>= λ t. all (behind (lexeme.Word word.And) (must_be_test l i)) >>= λ xs. pure (roll-Conj (record { first = t; rest = xs }))) ts
+  unfolding conj
+  conj_as ts = by (test_at l i ts)
+    where
+      to : (t : Test) (r : Outcome (List _)) → and_then (and_then r (λ xs. pure (came.Cond (roll-Conj (record { first = t; rest = xs }))))) only_cond ≡ and_then r (λ xs. pure (roll-Conj (record { first = t; rest = xs })))
+      to t (Ok p) = refl
+      to t (Err n) = refl
+
+      by : (r : Outcome (CondOrExpr Test)) → and_then (and_then r (conjoined l i)) only_cond ≡ and_then (and_then r only_cond) (λ t. all (behind (lexeme.Word word.And) (must_be_test l i)) >>= λ xs. pure (roll-Conj (record { first = t; rest = xs })))
+      by (Ok (came.Cond t, us)) = to t (all (behind (lexeme.Word word.And) (must_be_test l i)) us)
+      by (Ok (came.Expr e, us)) = refl
+      by (Err n) = refl
+
+  level_as : (ts : Tokens) → must_be_cond (level l i) ts ≡ (must_be_cond (conj l i) >>= λ c. all (behind (lexeme.Word word.Or) (must_be_conj l i)) >>= λ xs. pure (roll-Cond (record { first = c; rest = xs }))) ts
+  unfolding level
+  level_as ts = by (conj l i ts)
+    where
+      to : (c : Conj) (r : Outcome (List _)) → and_then (and_then r (λ xs. pure (came.Cond (roll-Cond (record { first = c; rest = xs }))))) only_cond ≡ and_then r (λ xs. pure (roll-Cond (record { first = c; rest = xs })))
+      to c (Ok p) = refl
+      to c (Err n) = refl
+
+      by : (r : Outcome (CondOrExpr Conj)) → and_then (and_then r (disjoined l i)) only_cond ≡ and_then (and_then r only_cond) (λ c. all (behind (lexeme.Word word.Or) (must_be_conj l i)) >>= λ xs. pure (roll-Cond (record { first = c; rest = xs })))
+      by (Ok (came.Cond c, us)) = to c (all (behind (lexeme.Word word.Or) (must_be_conj l i)) us)
+      by (Ok (came.Expr e, us)) = refl
+      by (Err n) = refl
+
+  null_reads : (e : Expr) (other : Tokens) → must_be_cond (predicate_from l i e) (lexeme.Word word.Is ∷ lexeme.Word word.Null ∷ other) ≡ Ok (bodies.Predicate e (tails.Null false), other)
+  unfolding predicate_from tail null_tail eat expect one_if_any
+  null_reads e other = refl
+
+  module _ {F : Tokens → Type 0} (closes : AfterCond F) where
+    plain_begins : Begun (must_be_cond (expr l >>= predicate_from l i)) F one_digit
+    plain_begins = begun one_digit _ (alike_starts (λ ts. and_then_twice (expr l ts) (predicate_from l i) only_cond)
+        (starts_with {G = EndsExpr} _ (from (expr_begun l (λ other j. j)))
+        (record { more = lexeme.Word word.Is ∷ lexeme.Word word.Null ∷ []; value = bodies.Predicate (expr_begun l {F = EndsExpr} (λ other j. j)).value (tails.Null false); reads = λ other j. null_reads _ other }) (λ other j. is_ends _))) refl
+
+    body_begins : Begun (must_be_cond (body l i)) F one_digit
+    unfolding body
+    body_begins = begun one_digit _ (alike_starts (λ ts. and_then_twice (eat (lexeme.Word word.Exists) ts) (by_exists l i) only_cond)
+        (not_starts (lexeme.Word word.Exists) (λ b. must_be_cond (by_exists l i b)) (record { more = one_digit ∷ plain_begins.tail; value = plain_begins.value; reads = plain_begins.reads }) (λ other j. refl))) refl
+
+    test_begins : Begun (must_be_cond (test_at l i)) F one_digit
+    unfolding test_at
+    test_begins = begun one_digit _ (alike_starts (λ ts. and_then_twice (eat (lexeme.Word word.Not) ts) (λ n. body l i >>= tested l i n) only_cond)
+        (not_starts (lexeme.Word word.Not) (λ n. must_be_cond (body l i >>= tested l i n)) (alike_starts (tested_as false) (mapped_starts _ (from body_begins))) (λ other j. refl))) refl
+
+    conj_begins : Begun (must_be_cond (conj l i)) F one_digit
+    conj_begins = begun one_digit _ (alike_starts conj_as (starts_with {G = F} _ (from test_begins)
+        (mapped_starts _ (record { more = []; value = []; reads = λ other j. all-none (behind (lexeme.Word word.And) (must_be_test l i)) other other (none_behind (lexeme.Word word.And) (must_be_test l i) other (closes other j).table.cond.conj.and) })) (λ other j. j))) refl
+
+    pub level_begins : Begun (must_be_cond (level l i)) F one_digit
+    level_begins = begun one_digit _ (alike_starts level_as (starts_with {G = F} _ (from conj_begins)
+        (mapped_starts _ (record { more = []; value = []; reads = λ other j. all-none (behind (lexeme.Word word.Or) (must_be_conj l i)) other other (none_behind (lexeme.Word word.Or) (must_be_conj l i) other (closes other j).table.cond.or) })) (λ other j. j))) refl
+
 module _ (left : ℕ) {inner deeper : Parser (CondOrExpr Cond)} (fi : Final inner) (fd : Final deeper)
     (hm : Viable (must_be_cond inner) (must_be_cond deeper) (Begins closing)) (km : Begun (must_be_cond deeper) (Begins closing) one_digit) (h : Viable inner deeper (Begins closing)) where
   k : Begun deeper (Begins closing) one_digit
@@ -216,10 +283,6 @@ module _ (left : ℕ) {inner deeper : Parser (CondOrExpr Cond)} (fi : Final inne
     must_plain = alike (λ ts. and_then_twice (expr left ts) (predicate_from left inner) only_cond) (λ ts. and_then_twice (expr (suc left) ts) (predicate_from (suc left) deeper) only_cond)
         (then_part {G = EndsExpr} _ _ (exprs left (λ other i. i)) must_predicates is_null (λ x other i. is_ends _) after)
 
-    must_plain_begun : Begun (must_be_cond (expr (suc left) >>= predicate_from (suc left) deeper)) F one_digit
-    must_plain_begun = begun one_digit _ (alike_starts (λ ts. and_then_twice (expr (suc left) ts) (predicate_from (suc left) deeper) only_cond)
-        (starts_with {G = EndsExpr} _ (from (expr_begun (suc left) (λ other i. i))) (is_null _) (λ other i. is_ends _))) refl
-
     must_opens : Viable (must_be_cond (by_open left inner)) (must_be_cond (by_open (suc left) deeper)) F
     must_opens = alike (split left inner) (split (suc left) deeper) (seeing (sees (lexeme.Symbol symbol.Open)) (λ t ts us. refl) (must_eats brackets_eat) (must_eats plain_predicates_eat) must_brackets must_plain)
       where
@@ -238,37 +301,14 @@ module _ (left : ℕ) {inner deeper : Parser (CondOrExpr Cond)} (fi : Final inne
         (alike_starts (λ ts. and_then_twice (subquery (suc left) deeper ts) (λ q. pure (came.Cond (bodies.Exists q))) only_cond) (mapped_starts bodies.Exists (from (subquery_begun left fi fd hm km))))
         must_opens)
 
-    must_body_begun : Begun (must_be_cond (body (suc left) deeper)) F one_digit
-    unfolding body
-    must_body_begun = begun one_digit _ (alike_starts (λ ts. and_then_twice (eat (lexeme.Word word.Exists) ts) (by_exists (suc left) deeper) only_cond)
-        (not_starts (lexeme.Word word.Exists) (λ b. must_be_cond (by_exists (suc left) deeper b)) (record { more = one_digit ∷ must_plain_begun.tail; value = must_plain_begun.value; reads = must_plain_begun.reads }) (λ other i. refl))) refl
-
     -- ---- tests
-
-    as_test : Bool → Body → Test
-    as_test n b = record { negated = n; body = b }
-
-    -- a condition in a test, which is read as the body is
-    tested_same : (l : ℕ) (i : Parser (CondOrExpr Cond)) (n : Bool) (ts : Tokens) → must_be_cond (body l i >>= tested l i n) ts ≡ (must_be_cond (body l i) >>= λ b. pure (record { negated = n; body = b })) ts
-    tested_same l i n ts = by n (body l i ts)
-      where
-        by : (n : Bool) (r : Outcome (CondOrExpr Body)) → and_then (and_then r (tested l i n)) only_cond ≡ and_then (and_then r only_cond) (λ b. pure (record { negated = n; body = b }))
-        by n (Ok (came.Cond b, us)) = refl
-        by true (Ok (came.Expr e, us)) = refl
-        by false (Ok (came.Expr e, us)) = refl
-        by n (Err m) = refl
 
     must_tests : Viable (must_be_cond (test_at left inner)) (must_be_cond (test_at (suc left) deeper)) F
     unfolding test_at
     must_tests = alike (λ ts. and_then_twice (eat (lexeme.Word word.Not) ts) (λ n. body left inner >>= tested left inner n) only_cond) (λ ts. and_then_twice (eat (lexeme.Word word.Not) ts) (λ n. body (suc left) deeper >>= tested (suc left) deeper n) only_cond)
         (if_comes (lexeme.Word word.Not) (λ n. must_be_cond (body left inner >>= tested left inner n)) (λ n. must_be_cond (body (suc left) deeper >>= tested (suc left) deeper n)) (inl (λ other i. (closes other i).bare.not))
-        (alike (tested_same left inner true) (tested_same (suc left) deeper true) (mapped _ must_bodies)) (alike_starts (tested_same (suc left) deeper true) (mapped_starts _ (from must_body_begun)))
-        (alike (tested_same left inner false) (tested_same (suc left) deeper false) (mapped _ must_bodies)))
-
-    must_test_begun : Begun (must_be_cond (test_at (suc left) deeper)) F one_digit
-    unfolding test_at
-    must_test_begun = begun one_digit _ (alike_starts (λ ts. and_then_twice (eat (lexeme.Word word.Not) ts) (λ n. body (suc left) deeper >>= tested (suc left) deeper n) only_cond)
-        (not_starts (lexeme.Word word.Not) (λ n. must_be_cond (body (suc left) deeper >>= tested (suc left) deeper n)) (alike_starts (tested_same (suc left) deeper false) (mapped_starts _ (from must_body_begun))) (λ other i. refl))) refl
+        (alike (tested_as left inner true) (tested_as (suc left) deeper true) (mapped _ must_bodies)) (alike_starts (tested_as (suc left) deeper true) (mapped_starts _ (from (body_begins (suc left) deeper closes))))
+        (alike (tested_as left inner false) (tested_as (suc left) deeper false) (mapped _ must_bodies)))
 
     tested_false : (m : CondOrExpr Body) → Viable (tested left inner false m) (tested (suc left) deeper false m) F
     tested_false (came.Cond b) = done
@@ -289,7 +329,7 @@ module _ (left : ℕ) {inner deeper : Parser (CondOrExpr Cond)} (fi : Final inne
     tests : Viable (test_at left inner) (test_at (suc left) deeper) F
     unfolding test_at
     tests = if_comes (lexeme.Word word.Not) (λ n. body left inner >>= tested left inner n) (λ n. body (suc left) deeper >>= tested (suc left) deeper n) (inl (λ other i. (closes other i).bare.not))
-        (alike (tested_true left inner) (tested_true (suc left) deeper) (mapped _ must_bodies)) (alike_starts (tested_true (suc left) deeper) (mapped_starts _ (from must_body_begun)))
+        (alike (tested_true left inner) (tested_true (suc left) deeper) (mapped _ must_bodies)) (alike_starts (tested_true (suc left) deeper) (mapped_starts _ (from (body_begins (suc left) deeper closes))))
         (then_part {G = F} _ _ all_bodies tested_false (λ m. blank (tested_blank m)) (λ m other i. i) (λ other i. i))
 
     -- ---- conjunctions
@@ -299,7 +339,7 @@ module _ (left : ℕ) {inner deeper : Parser (CondOrExpr Cond)} (fi : Final inne
 
     and_parts : Viable (behind (lexeme.Word word.And) (must_be_test left inner)) (behind (lexeme.Word word.And) (must_be_test (suc left) deeper)) F
     unfolding must_be_test
-    and_parts = behind_it (lexeme.Word word.And) must_tests (from must_test_begun) no_and
+    and_parts = behind_it (lexeme.Word word.And) must_tests (from (test_begins (suc left) deeper closes)) no_and
 
     no_and_there : (other : Tokens) → F other → behind (lexeme.Word word.And) (must_be_test (suc left) deeper) other ≡ Ok (None, other)
     no_and_there other i = none_behind (lexeme.Word word.And) (must_be_test (suc left) deeper) other (no_and other i)
@@ -316,24 +356,8 @@ module _ (left : ℕ) {inner deeper : Parser (CondOrExpr Cond)} (fi : Final inne
     unfolding conj
     conjunctions = then_part {G = F} _ _ tests conjoined_parts (λ m. blank (conjoined_blank m)) (λ m other i. i) (λ other i. i)
 
-    conj_same : (l : ℕ) (i : Parser (CondOrExpr Cond)) (ts : Tokens) → must_be_cond (conj l i) ts ≡ (must_be_cond (test_at l i) >>= λ t. all (behind (lexeme.Word word.And) (must_be_test l i)) >>= λ xs. pure (roll-Conj (record { first = t; rest = xs }))) ts
-    unfolding conj
-    conj_same l i ts = by (test_at l i ts)
-      where
-        to : (t : Test) (r : Outcome (List _)) → and_then (and_then r (λ xs. pure (came.Cond (roll-Conj (record { first = t; rest = xs }))))) only_cond ≡ and_then r (λ xs. pure (roll-Conj (record { first = t; rest = xs })))
-        to t (Ok p) = refl
-        to t (Err n) = refl
-
-        by : (r : Outcome (CondOrExpr Test)) → and_then (and_then r (conjoined l i)) only_cond ≡ and_then (and_then r only_cond) (λ t. all (behind (lexeme.Word word.And) (must_be_test l i)) >>= λ xs. pure (roll-Conj (record { first = t; rest = xs })))
-        by (Ok (came.Cond t, us)) = to t (all (behind (lexeme.Word word.And) (must_be_test l i)) us)
-        by (Ok (came.Expr e, us)) = refl
-        by (Err n) = refl
-
     must_conjunctions : Viable (must_be_cond (conj left inner)) (must_be_cond (conj (suc left) deeper)) F
-    must_conjunctions = alike (conj_same left inner) (conj_same (suc left) deeper) (then_part {G = F} _ _ must_tests (λ t. mapped _ (rows and_parts no_and_there)) (λ t. mapped_starts _ (rows_start and_parts no_and_there)) (λ t other i. i) (λ other i. i))
-
-    must_conj_begun : Begun (must_be_cond (conj (suc left) deeper)) F one_digit
-    must_conj_begun = begun one_digit _ (alike_starts (conj_same (suc left) deeper) (starts_with {G = F} _ (from must_test_begun) (mapped_starts _ (rows_start and_parts no_and_there)) (λ other i. i))) refl
+    must_conjunctions = alike (conj_as left inner) (conj_as (suc left) deeper) (then_part {G = F} _ _ must_tests (λ t. mapped _ (rows and_parts no_and_there)) (λ t. mapped_starts _ (rows_start and_parts no_and_there)) (λ t other i. i) (λ other i. i))
 
     -- ---- conditions
 
@@ -342,7 +366,7 @@ module _ (left : ℕ) {inner deeper : Parser (CondOrExpr Cond)} (fi : Final inne
 
     or_parts : Viable (behind (lexeme.Word word.Or) (must_be_conj left inner)) (behind (lexeme.Word word.Or) (must_be_conj (suc left) deeper)) F
     unfolding must_be_conj
-    or_parts = behind_it (lexeme.Word word.Or) must_conjunctions (from must_conj_begun) no_or
+    or_parts = behind_it (lexeme.Word word.Or) must_conjunctions (from (conj_begins (suc left) deeper closes)) no_or
 
     no_or_there : (other : Tokens) → F other → behind (lexeme.Word word.Or) (must_be_conj (suc left) deeper) other ≡ Ok (None, other)
     no_or_there other i = none_behind (lexeme.Word word.Or) (must_be_conj (suc left) deeper) other (no_or other i)
@@ -359,89 +383,8 @@ module _ (left : ℕ) {inner deeper : Parser (CondOrExpr Cond)} (fi : Final inne
     unfolding level
     levels = then_part {G = F} _ _ conjunctions disjoined_parts (λ m. blank (disjoined_blank m)) (λ m other i. i) (λ other i. i)
 
-    level_same : (l : ℕ) (i : Parser (CondOrExpr Cond)) (ts : Tokens) → must_be_cond (level l i) ts ≡ (must_be_cond (conj l i) >>= λ c. all (behind (lexeme.Word word.Or) (must_be_conj l i)) >>= λ xs. pure (roll-Cond (record { first = c; rest = xs }))) ts
-    unfolding level
-    level_same l i ts = by (conj l i ts)
-      where
-        to : (c : Conj) (r : Outcome (List _)) → and_then (and_then r (λ xs. pure (came.Cond (roll-Cond (record { first = c; rest = xs }))))) only_cond ≡ and_then r (λ xs. pure (roll-Cond (record { first = c; rest = xs })))
-        to c (Ok p) = refl
-        to c (Err n) = refl
-
-        by : (r : Outcome (CondOrExpr Conj)) → and_then (and_then r (disjoined l i)) only_cond ≡ and_then (and_then r only_cond) (λ c. all (behind (lexeme.Word word.Or) (must_be_conj l i)) >>= λ xs. pure (roll-Cond (record { first = c; rest = xs })))
-        by (Ok (came.Cond c, us)) = to c (all (behind (lexeme.Word word.Or) (must_be_conj l i)) us)
-        by (Ok (came.Expr e, us)) = refl
-        by (Err n) = refl
-
     pub must_levels : Viable (must_be_cond (level left inner)) (must_be_cond (level (suc left) deeper)) F
-    must_levels = alike (level_same left inner) (level_same (suc left) deeper) (then_part {G = F} _ _ must_conjunctions (λ c. mapped _ (rows or_parts no_or_there)) (λ c. mapped_starts _ (rows_start or_parts no_or_there)) (λ c other i. i) (λ other i. i))
-
-    pub must_level_begun : Begun (must_be_cond (level (suc left) deeper)) F one_digit
-    must_level_begun = begun one_digit _ (alike_starts (level_same (suc left) deeper) (starts_with {G = F} _ (from must_conj_begun) (mapped_starts _ (rows_start or_parts no_or_there)) (λ other i. i))) refl
-
--- ---- a condition that comes from nothing: 1 IS NULL
-
-module _ (l : ℕ) (i : Parser (CondOrExpr Cond)) where
-  tested_as : (ts : Tokens) → must_be_cond (body l i >>= tested l i false) ts ≡ (must_be_cond (body l i) >>= λ b. pure (record { negated = false; body = b })) ts
-  tested_as ts = by (body l i ts)
-    where
-      by : (r : Outcome (CondOrExpr Body)) → and_then (and_then r (tested l i false)) only_cond ≡ and_then (and_then r only_cond) (λ b. pure (record { negated = false; body = b }))
-      by (Ok (came.Cond b, us)) = refl
-      by (Ok (came.Expr e, us)) = refl
-      by (Err m) = refl
-
-  conj_as : (ts : Tokens) → must_be_cond (conj l i) ts ≡ (must_be_cond (test_at l i) >>= λ t. all (behind (lexeme.Word word.And) (must_be_test l i)) >>= λ xs. pure (roll-Conj (record { first = t; rest = xs }))) ts
-  unfolding conj
-  conj_as ts = by (test_at l i ts)
-    where
-      to : (t : Test) (r : Outcome (List _)) → and_then (and_then r (λ xs. pure (came.Cond (roll-Conj (record { first = t; rest = xs }))))) only_cond ≡ and_then r (λ xs. pure (roll-Conj (record { first = t; rest = xs })))
-      to t (Ok p) = refl
-      to t (Err n) = refl
-
-      by : (r : Outcome (CondOrExpr Test)) → and_then (and_then r (conjoined l i)) only_cond ≡ and_then (and_then r only_cond) (λ t. all (behind (lexeme.Word word.And) (must_be_test l i)) >>= λ xs. pure (roll-Conj (record { first = t; rest = xs })))
-      by (Ok (came.Cond t, us)) = to t (all (behind (lexeme.Word word.And) (must_be_test l i)) us)
-      by (Ok (came.Expr e, us)) = refl
-      by (Err n) = refl
-
-  level_as : (ts : Tokens) → must_be_cond (level l i) ts ≡ (must_be_cond (conj l i) >>= λ c. all (behind (lexeme.Word word.Or) (must_be_conj l i)) >>= λ xs. pure (roll-Cond (record { first = c; rest = xs }))) ts
-  unfolding level
-  level_as ts = by (conj l i ts)
-    where
-      to : (c : Conj) (r : Outcome (List _)) → and_then (and_then r (λ xs. pure (came.Cond (roll-Cond (record { first = c; rest = xs }))))) only_cond ≡ and_then r (λ xs. pure (roll-Cond (record { first = c; rest = xs })))
-      to c (Ok p) = refl
-      to c (Err n) = refl
-
-      by : (r : Outcome (CondOrExpr Conj)) → and_then (and_then r (disjoined l i)) only_cond ≡ and_then (and_then r only_cond) (λ c. all (behind (lexeme.Word word.Or) (must_be_conj l i)) >>= λ xs. pure (roll-Cond (record { first = c; rest = xs })))
-      by (Ok (came.Cond c, us)) = to c (all (behind (lexeme.Word word.Or) (must_be_conj l i)) us)
-      by (Ok (came.Expr e, us)) = refl
-      by (Err n) = refl
-
-  null_reads : (e : Expr) (other : Tokens) → must_be_cond (predicate_from l i e) (lexeme.Word word.Is ∷ lexeme.Word word.Null ∷ other) ≡ Ok (bodies.Predicate e (tails.Null false), other)
-  unfolding predicate_from tail null_tail eat expect one_if_any
-  null_reads e other = refl
-
-  module _ {F : Tokens → Type 0} (closes : AfterCond F) where
-    plain_begins : Begun (must_be_cond (expr l >>= predicate_from l i)) F one_digit
-    plain_begins = begun one_digit _ (alike_starts (λ ts. and_then_twice (expr l ts) (predicate_from l i) only_cond)
-        (starts_with {G = EndsExpr} _ (from (expr_begun l (λ other j. j)))
-        (record { more = lexeme.Word word.Is ∷ lexeme.Word word.Null ∷ []; value = bodies.Predicate (expr_begun l {F = EndsExpr} (λ other j. j)).value (tails.Null false); reads = λ other j. null_reads _ other }) (λ other j. is_ends _))) refl
-
-    body_begins : Begun (must_be_cond (body l i)) F one_digit
-    unfolding body
-    body_begins = begun one_digit _ (alike_starts (λ ts. and_then_twice (eat (lexeme.Word word.Exists) ts) (by_exists l i) only_cond)
-        (not_starts (lexeme.Word word.Exists) (λ b. must_be_cond (by_exists l i b)) (record { more = one_digit ∷ plain_begins.tail; value = plain_begins.value; reads = plain_begins.reads }) (λ other j. refl))) refl
-
-    test_begins : Begun (must_be_cond (test_at l i)) F one_digit
-    unfolding test_at
-    test_begins = begun one_digit _ (alike_starts (λ ts. and_then_twice (eat (lexeme.Word word.Not) ts) (λ n. body l i >>= tested l i n) only_cond)
-        (not_starts (lexeme.Word word.Not) (λ n. must_be_cond (body l i >>= tested l i n)) (alike_starts tested_as (mapped_starts _ (from body_begins))) (λ other j. refl))) refl
-
-    conj_begins : Begun (must_be_cond (conj l i)) F one_digit
-    conj_begins = begun one_digit _ (alike_starts conj_as (starts_with {G = F} _ (from test_begins)
-        (mapped_starts _ (record { more = []; value = []; reads = λ other j. all-none (behind (lexeme.Word word.And) (must_be_test l i)) other other (none_behind (lexeme.Word word.And) (must_be_test l i) other (closes other j).table.cond.conj.and) })) (λ other j. j))) refl
-
-    pub level_begins : Begun (must_be_cond (level l i)) F one_digit
-    level_begins = begun one_digit _ (alike_starts level_as (starts_with {G = F} _ (from conj_begins)
-        (mapped_starts _ (record { more = []; value = []; reads = λ other j. all-none (behind (lexeme.Word word.Or) (must_be_conj l i)) other other (none_behind (lexeme.Word word.Or) (must_be_conj l i) other (closes other j).table.cond.or) })) (λ other j. j))) refl
+    must_levels = alike (level_as left inner) (level_as (suc left) deeper) (then_part {G = F} _ _ must_conjunctions (λ c. mapped _ (rows or_parts no_or_there)) (λ c. mapped_starts _ (rows_start or_parts no_or_there)) (λ c other i. i) (λ other i. i))
 
 -- ---- what reads behind a bracket
 
