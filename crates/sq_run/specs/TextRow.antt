@@ -87,4 +87,5 @@ IsRowOfTokens text tokens = IsRowFrom 0 text tokens
 unfoldable pub ReadingsAreRows : Type 0
 ReadingsAreRows =
     (text : List ℕ) (tokens : List Token)
-    → (reading text ≡ Ok tokens → IsRowOfTokens text tokens) × (IsRowOfTokens text tokens → reading text ≡ Ok tokens)
+    → (reading text ≡ Ok tokens → IsRowOfTokens text tokens)
+    × (IsRowOfTokens text tokens → reading text ≡ Ok tokens)

@@ -27,14 +27,22 @@ pub record NoTextGoesOn {T : Type 0} (tokens_of : T → List Lexeme) (all : List
   pub no_tree : (tree : T) (others : List Lexeme)
       → tokens_of tree ≡ take (number + 1) (lexemes token_there.tokens) ++ others → ⊥
 
--- what the token of Unexpected is to the texts of its kind
+-- The first token with which no text goes on: the tokens before it are the beginning of those of a tree.
+pub record IsFirstWrong {T : Type 0} (tokens_of : T → List Lexeme) (all : List Bytes)
+    (refusal : Refusal) : Type 0 where
+  pub wrong : NoTextGoesOn tokens_of all refusal
+  pub tree : T
+  pub others : List Lexeme
+  pub begins : tokens_of tree ≡ take wrong.number (lexemes wrong.token_there.tokens) ++ others
+
+-- What the token of Unexpected is to the texts of its kind. Of schemas it is not said that it is the first.
 unfoldable pub UnexpectedToken : List Bytes → List Bytes → Bytes → RunFault → Type 0
 UnexpectedToken schemas modules script (SchemaRefused refusal) =
     refusal.what ≡ Unexpected → NoTextGoesOn schema_tokens schemas refusal
 UnexpectedToken schemas modules script (ModuleRefused refusal) =
-    refusal.what ≡ Unexpected → NoTextGoesOn module_tokens modules refusal
+    refusal.what ≡ Unexpected → IsFirstWrong module_tokens modules refusal
 UnexpectedToken schemas modules script (ScriptRefused refusal) =
-    refusal.what ≡ Unexpected → NoTextGoesOn script_tokens (script ∷ []) refusal
+    refusal.what ≡ Unexpected → IsFirstWrong script_tokens (script ∷ []) refusal
 UnexpectedToken schemas modules script (Write bytes) = ⊥
 UnexpectedToken schemas modules script (NoMemory items) = ⊥
 

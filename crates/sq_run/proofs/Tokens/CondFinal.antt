@@ -48,19 +48,19 @@ opens left ts = ap (λ c. cond c stuck (expect (lexeme.Symbol symbol.Open)) (lex
 
 module _ (left : ℕ) where
   -- the steps of the reading of an expression, behind its first bracket
-  first_primary : Parser Primary
+  unfoldable pub first_primary : Parser Primary
   first_primary = expressions.inside left >>= λ e. close >> pure (primary.Bracketed e)
 
-  first_factor : Primary → Parser Factor
+  unfoldable pub first_factor : Primary → Parser Factor
   first_factor p = pure (record { sign = None; primary = p })
 
-  first_term : Factor → Parser Term
+  unfoldable pub first_term : Factor → Parser Term
   first_term f = all (expressions.scaled left (expressions.inside left)) >>= λ others. pure (roll-Term (record { first = f; rest = others }))
 
-  first_sum : Term → Parser Expr
+  unfoldable pub first_sum : Term → Parser Expr
   first_sum t = all (expressions.added left (expressions.inside left)) >>= λ others. pure (roll-Expr (record { first = t; rest = others }))
 
-  behind_bracket : Parser Expr
+  unfoldable pub behind_bracket : Parser Expr
   behind_bracket = ((first_primary >>= first_factor) >>= first_term) >>= first_sum
 
   behind_brackets : Final behind_bracket
@@ -73,7 +73,7 @@ bracket_first : (left : ℕ) (ts : Tokens) → expr (suc left) (lexeme.Symbol sy
 unfolding expressions.level expressions.term expressions.factor expressions.primary_at expressions.bracketed eat one_if_any behind_bracket first_primary first_factor first_term first_sum
 bracket_first left ts = ap (λ r. and_then (and_then (and_then (and_then r (λ u. first_primary (suc left))) (first_factor (suc left))) (first_term (suc left))) (first_sum (suc left))) (opens left ts)
 
-no_bracket : (ts : Tokens) → expr 0 (lexeme.Symbol symbol.Open ∷ ts) ≡ Err (length (lexeme.Symbol symbol.Open ∷ ts))
+pub no_bracket : (ts : Tokens) → expr 0 (lexeme.Symbol symbol.Open ∷ ts) ≡ Err (length (lexeme.Symbol symbol.Open ∷ ts))
 unfolding expressions.level expressions.term expressions.factor expressions.primary_at expressions.bracketed eat one_if_any opened
 no_bracket ts = refl
 
@@ -97,16 +97,16 @@ no_choice true p q ts e = e
 no_choice false p q ts e = refl
 
 module _ (op : Comparison) {inner : Parser (CondOrExpr Cond)} (h : Final inner) where
-  query_or_expr : ℕ → Parser Tail
+  unfoldable pub query_or_expr : ℕ → Parser Tail
   query_or_expr left ts = (cond (sees_query ts) (compared_query left inner op None) (compared_expr left inner op)) ts
 
-  bracket_opens : ℕ → Parser Tail
+  unfoldable pub bracket_opens : ℕ → Parser Tail
   bracket_opens left ts = (cond (sees (lexeme.Word word.Select) ts)
       ((inner_query left inner >>= λ q. close >> pure q) >>= λ q. pure (tails.CompareQuery op None q))
       (behind_bracket left >>= λ e. pure (tails.Compare op e))) ts
 
   -- the same, by one token after the other
-  by_bracket : ℕ → Parser Tail
+  unfoldable pub by_bracket : ℕ → Parser Tail
   by_bracket zero ts = compared_expr zero inner op ts
   by_bracket (suc left) ts = (cond (sees (lexeme.Symbol symbol.Open) ts)
       (expect (lexeme.Symbol symbol.Open) >> bracket_opens (suc left)) (compared_expr (suc left) inner op)) ts
@@ -131,7 +131,7 @@ module _ (op : Comparison) {inner : Parser (CondOrExpr Cond)} (h : Final inner) 
       ap (λ c. cond (c && sees (lexeme.Word word.Select) ts) (compared_query (suc left) inner op None) (compared_expr (suc left) inner op) (t ∷ ts)) e
       ∙ sym (ap (λ c. cond c (expect (lexeme.Symbol symbol.Open) >> bracket_opens (suc left)) (compared_expr (suc left) inner op) (t ∷ ts)) e)
 
-  alike_there : (left : ℕ) (ts : Tokens) → query_or_expr left ts ≡ by_bracket left ts
+  pub alike_there : (left : ℕ) (ts : Tokens) → query_or_expr left ts ≡ by_bracket left ts
   unfolding query_or_expr by_bracket
   alike_there zero [] = refl
   alike_there (suc left) [] = refl
