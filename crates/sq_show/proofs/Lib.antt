@@ -4,5 +4,6 @@ pub mod Causes
 pub mod Continued
 pub mod Lexed
 pub mod OfChange
+pub mod Paging
 pub mod SoFar
 pub mod Standing
