@@ -6,4 +6,3 @@ pub mod Lexed
 pub mod OfChange
 pub mod Paging
 pub mod SoFar
-pub mod Standing

@@ -1,4 +1,3 @@
-pub mod Before
 pub mod Breach
 pub mod Broken
 pub mod CallWords

@@ -9,7 +9,6 @@
 //! - A shell: where an item ends that is typed, what a session does with one after the other, and what the session has.
 #![tactic(auto)]
 
-mod before;
 mod breach;
 mod breach_words;
 mod call_words;
@@ -47,7 +46,6 @@ mod value_words;
 mod view;
 mod words;
 
-pub use before::{Before, look_before};
 pub use cause::{
     Breach, Cause, CursorCause, ItemFault, OptionBreach, Referring, RowPut, ValueCause, ValueFault,
 };

@@ -1,6 +1,5 @@
 //! What a session has before a call: a copy of the rows of its tables, and where its cursors stand.
 
-use crate::before::{Before, look_before};
 use crate::cursors::{Stand, stands_of};
 use sq_bound::{Names, TableDesc, TablePlace};
 use sq_session::Session;
@@ -13,25 +12,14 @@ use std::alloc::{AllocError, Global};
 pub(crate) struct Look {
     pub(crate) tables: Vec<Vec<Numbered>>,
     pub(crate) cursors: Vec<Stand>,
-    /// What the cause of a call needs of the state before it.
-    pub(crate) cause: Before,
 }
 
 impl Look {
-    /// What a session has now, before a call of this procedure.
-    pub(crate) fn at<S: Store>(
-        alloc: Global,
-        session: &Session<S>,
-        procedure: usize,
-    ) -> Result<Look, AllocError> {
+    /// What a session has now.
+    pub(crate) fn at<S: Store>(alloc: Global, session: &Session<S>) -> Result<Look, AllocError> {
         let cursors = stands_of(alloc, session.cursors())?;
-        let cause = look_before(session, procedure);
         match tables_of(alloc, session) {
-            Ok(tables) => Ok(Look {
-                tables,
-                cursors,
-                cause,
-            }),
+            Ok(tables) => Ok(Look { tables, cursors }),
             Err(error) => {
                 drop(cursors);
                 Err(error)

@@ -1,6 +1,5 @@
 //! What is to be said of a call.
 
-use crate::before::Before;
 use crate::call_words::push_call;
 use crate::changes::{are_equal_rows, push_changes};
 use crate::cursors::push_moves;
@@ -46,7 +45,7 @@ fn push_notes<S: Store>(
 ) -> Result<(), AllocError> {
     push_call(alloc, call, notes)?;
     notes.extend_from_slice(b"\n")?;
-    push_cause(alloc, session, call, before.cause, reply, notes)?;
+    push_cause(alloc, session, call, reply, notes)?;
     for (place, rows) in before.tables.iter().enumerate() {
         push_table_notes(alloc, session, place, rows.as_slice(), options, notes)?;
     }
@@ -59,12 +58,11 @@ fn push_cause<S: Store>(
     alloc: Global,
     session: &Session<S>,
     call: &CallAction,
-    before: Before,
     reply: &Reply,
     notes: &mut Vec<u8>,
 ) -> Result<(), AllocError> {
     let values = call.values.as_slice();
-    match why(alloc, session, before, call.procedure, values, reply)? {
+    match why(alloc, session, call.procedure, values, reply)? {
         Some(cause) => {
             write_cause(alloc, session, &cause, notes)?;
             notes.extend_from_slice(b"\n")

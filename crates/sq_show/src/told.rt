@@ -13,7 +13,6 @@ ghost use Rattle.sq_session.specs.State.{state_of};
 ghost use Rattle.sq_session.specs.Step.{is_success};
 ghost use Rattle.sq_show.specs.Cause.{IsCause, IsStatementCause, status_of};
 
-use crate::before::Before;
 use crate::breach::breach_of;
 use crate::cause::Cause;
 use crate::cursor::cursor_cause;
@@ -29,7 +28,7 @@ use sq_value::Value;
 use std::alloc::{AllocError, Global};
 
 /// Why a call that was answered with `reply` did not end with 00000; `None` where it did. Asked right after the call, of the same
-/// procedure and values; `before` was looked at right before it.
+/// procedure and values.
 ///
 /// What the cause says is true of the session as it is, and its status is that of the reply. Where no cause can be told, it is the
 /// general one, which says no more than the status.
@@ -37,7 +36,6 @@ use std::alloc::{AllocError, Global};
 pub fn why<S: Store>(
     alloc: Global,
     session: &Session<S>,
-    before: Before,
     procedure: usize,
     values: &[Value],
     reply: &Reply,
@@ -49,7 +47,7 @@ pub fn why<S: Store>(
     match reply.status {
         Status::SuccessfulCompletion => Ok(None),
         status => {
-            let found = told(alloc, session, before, procedure, values, status)?;
+            let found = told(alloc, session, procedure, values, status)?;
             Ok(Some(with_status(found, status)))
         }
     }
@@ -76,7 +74,6 @@ fn with_status(found: Option<Cause>, status: Status) -> Cause
 fn told<S: Store>(
     alloc: Global,
     session: &Session<S>,
-    before: Before,
     procedure: usize,
     values: &[Value],
     status: Status,
@@ -92,7 +89,7 @@ fn told<S: Store>(
     };
     match &called.statement {
         Err(fault) => Ok(Some(Cause::Fault(*fault))),
-        Ok(statement) => { of_statement(alloc, &inside, before, called, statement, values, status) }
+        Ok(statement) => { of_statement(alloc, &inside, called, statement, values, status) }
     }
 }
 
@@ -100,7 +97,6 @@ fn told<S: Store>(
 fn of_statement<S: Store>(
     alloc: Global,
     inside: &Inside<'_, S>,
-    before: Before,
     procedure: &BoundProcedure,
     statement: &BoundStatement,
     values: &[Value],
@@ -127,7 +123,7 @@ fn of_statement<S: Store>(
         procedure,
         values: values.as_slice(),
     };
-    let found = with_values(&called, inside, before, statement, status);
+    let found = with_values(&called, inside, statement, status);
     drop(values);
     found
 }
@@ -136,7 +132,6 @@ fn of_statement<S: Store>(
 fn with_values<S: Store>(
     called: &Called<'_>,
     inside: &Inside<'_, S>,
-    before: Before,
     statement: &BoundStatement,
     status: Status,
 ) -> Result<Option<Cause>, AllocError>
@@ -149,7 +144,6 @@ fn with_values<S: Store>(
         (state_of (S.content_now inside.now.store.now) (S.committed inside.now.store.now)
         (S.key_columns inside.now.store.now) (S.row_numbers inside.now.store.now) inside.now.cursors.now))) }
 {
-    let _ = before;
     match status {
         Status::InvalidCursorState => {
             match cursor_cause(called, statement, inside.cursors, inside.store) {
