@@ -4,3 +4,4 @@ pub mod Changes
 pub mod Host
 pub mod Kept
 pub mod Outputs
+pub mod Told

@@ -1,11 +1,11 @@
-//! What can be known of a call before it is made.
+//! What can be known of a call before it is made and after.
 
 ghost use Rattle.std.specs.Prelude.{◌≡◌, ◌≤◌, [], Ok, false, IfErr, IfOk, length, replicate};
 ghost use Rattle.sq_value.specs.declared.value.Value.TheVariants.{Null};
 ghost use Rattle.sq_exchange.specs.Answer.{IsWhy};
 ghost use Rattle.sq_host.specs.Asked.{and_then};
 ghost use Rattle.sq_host.specs.Calls.{is_faulty, opened, place_for, taken};
-ghost use Rattle.sq_run.specs.Processor.{has_fault};
+ghost use Rattle.sq_host.specs.Told.{IsCauseIn, IsFaultIn, caused};
 
 use crate::host::Host;
 use crate::texts::words_of;
@@ -18,8 +18,7 @@ use std::alloc::{AllocError, Global};
 impl Host {
     /// The fault for which a procedure answers 42000, in words; no words where it has none.
     pub(crate) fn why(&self, alloc: Global, procedure: usize) -> Result<Vec<u8>, Answer>
-        ensures none { is_faulty procedure self.now.processor ≡ Ok false
-            → IfOk result (λ words. words.items ≡ []) }
+        ensures told { IfOk result (λ words. IsFaultIn procedure self.now.processor words.items) }
         ensures refused { IfErr result (IsWhy (is_faulty procedure self.now.processor)) }
     {
         let Some(processor) = &self.processor else {
@@ -28,6 +27,27 @@ impl Host {
         match processor.fault(procedure) {
             Some(fault) => words_of(alloc, fault).map_err(|_| Answer::NoMemory),
             None => Ok(Vec::new(alloc)),
+        }
+    }
+
+    /// Why the last call did not end with 00000, in words; no words where it did.
+    pub(crate) fn cause(&self, alloc: Global) -> Result<Vec<u8>, Answer>
+        ensures told { IfOk result (λ words. IsCauseIn self.now.processor self.now.last words.items) }
+        ensures refused { IfErr result (IsWhy (caused self.now.processor self.now.last)) }
+    {
+        let Some(processor) = &self.processor else {
+            return Err(Answer::NotOpen);
+        };
+        let Some(last) = &self.last else {
+            return Err(Answer::Unknown);
+        };
+        let mut words = Vec::new(alloc);
+        match last.write_why(alloc, processor.session(), &mut words) {
+            Ok(()) => Ok(words),
+            Err(_) => {
+                drop(words);
+                Err(Answer::NoMemory)
+            }
         }
     }
 

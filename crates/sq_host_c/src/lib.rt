@@ -84,6 +84,16 @@ pub extern "C" fn sq_host_why(
 }
 
 #[unsafe(no_mangle)]
+pub extern "C" fn sq_host_cause(
+    alloc: Global,
+    handle: &mut Handle,
+    room: &mut [u8],
+    count: &mut usize,
+) -> i32 {
+    handle.cause(alloc, room, count).code()
+}
+
+#[unsafe(no_mangle)]
 pub extern "C" fn sq_host_add_number(
     alloc: Global,
     handle: &mut Handle,

@@ -167,3 +167,4 @@ pub mod ProcedureNumbers
 pub mod DefaultLaws
 pub mod ConfinedLaws
 pub mod Worked
+pub mod SteppedRuns

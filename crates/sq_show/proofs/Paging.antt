@@ -9,7 +9,7 @@ use Rattle.sq_perform.specs.Steps.{Step, Steps}
 use Rattle.sq_perform.specs.declared.action.Action.{Action}
 use Rattle.sq_perform.proofs.Steps.{steps_more}
 use Rattle.sq_show.specs.Json.{comma}
-use Rattle.sq_show.specs.Page.{HasItem, HasItems, IsPage, PageItem, codes_of, item_codes, joined, other_codes, reported}
+use Rattle.sq_show.specs.Page.{HasItem, HasItems, IsPage, PageItem, StepsThrough, codes_of, item_codes, joined, other_codes, reported}
 use Rattle.sq_show.specs.Traced.{Told, shown}
 use Rattle.sq_show.proofs.SoFar.{IsPart, part_of}
 
@@ -74,3 +74,24 @@ page_whole stop actions i s t old new all so_far = record {
   steps = so_far.steps;
   added = so_far.added;
 }
+
+-- ---- a page that does not stop has the report of all actions
+
+take_all : (xs : List Action) → take (length xs) xs ≡ xs
+take_all xs = grind (arith, common_steps)
+
+pub page_report : (actions : List Action) (s t : Session) (page : Bytes) → IsPage false actions s page t
+    → (report : Bytes) × StepsThrough page report × Steps actions s report t
+page_report actions s t page h =
+    let all = h.items in
+    let report = flat_map reported all.items in (
+      report,
+      record {
+        head = h.head;
+        items = all.items;
+        end = h.end;
+        is = h.is ∙ ap (λ w. w ++ h.end) all.added;
+        report_is = refl;
+      },
+      subst (λ xs. Steps xs s report t) (take_all actions) (subst (λ n. Steps (take n actions) s report t) (all.whole refl) all.steps),
+    )

@@ -12,6 +12,7 @@ pub mod Option
 pub mod Page
 pub mod Place
 pub mod Select
+pub mod Sessions
 pub mod Taken
 pub mod Target
 pub mod Traced

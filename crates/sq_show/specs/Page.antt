@@ -50,3 +50,11 @@ pub record IsPage (stop : Bool) (actions : List Action) (start : Session) (page 
   pub items : HasItems stop actions start head mid now
   pub end : Bytes
   pub is : page ≡ mid ++ end
+
+-- The page steps through a run with this report: what its items say without their notes is the report.
+pub record StepsThrough (page report : Bytes) : Type 0 where
+  pub head : Bytes
+  pub items : List PageItem
+  pub end : Bytes
+  pub is : page ≡ (head ++ joined items) ++ end
+  pub report_is : flat_map reported items ≡ report

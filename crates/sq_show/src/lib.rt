@@ -55,6 +55,7 @@ pub use listing::{write_cursors, write_procedures, write_procedures_of, write_ta
 pub use page::trace_page;
 pub use place::{Place, place_in};
 pub use shell::Shell;
+pub use sq_perform::{open_session, read_script};
 pub use sq_session::Session;
 pub use told::why;
 pub use trace::{TraceFault, TraceOptions, trace_action, trace_all};
