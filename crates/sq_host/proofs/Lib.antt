@@ -1,3 +1,4 @@
 mod Opened
+pub mod Places
 mod Rows
 pub mod Values

@@ -5,3 +5,4 @@ pub mod Host
 pub mod Kept
 pub mod Outputs
 pub mod Told
+pub mod Unfit
