@@ -111,6 +111,7 @@ impl<S: Store> Shell<S> {
     }
 
     /// Performs an item, and writes its lines in the place of those before.
+    #[tactic(auto, using(crate::proofs::Noting::notes_none))]
     fn perform(
         &mut self,
         alloc: Global,
@@ -134,6 +135,7 @@ impl<S: Store> Shell<S> {
     }
 
     /// Makes a call, and adds its line, and what is noted of it.
+    #[tactic(auto, using(crate::proofs::Noting::notes_none))]
     fn make_noted(
         &mut self,
         alloc: Global,
@@ -191,6 +193,7 @@ impl<S: Store> Shell<S> {
     }
 
     /// Adds what is noted of the call that was made last.
+    #[tactic(auto, using(crate::proofs::Noting::notes_none, crate::proofs::Noting::notes_one))]
     fn note(
         &self,
         alloc: Global,
