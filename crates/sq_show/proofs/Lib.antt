@@ -8,3 +8,4 @@ pub mod OfChange
 pub mod Paging
 pub mod SoFar
 pub mod ViewRows
+pub mod ViewShown
