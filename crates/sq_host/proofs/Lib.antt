@@ -2,3 +2,4 @@ mod Opened
 pub mod Places
 mod Rows
 pub mod Values
+pub mod Telling

@@ -1,5 +1,6 @@
 -- What is told in words: why a procedure answers 42000, and why the last call did not end with 00000.
-use Rattle.std.specs.Prelude.{◌≡◌, ℕ, Bool, List, [], ◌++◌, codes, is_some, Option, None, Some, Result, Ok, Err, ⊤}
+use Rattle.std.specs.Prelude.{◌≡◌, ℕ, ℤ, List, [], ◌++◌, codes, is_some, Option, None, Some, Result, Ok, Err, Vec, ⊤}
+use Rattle.std.specs.declared.alloc.Global.{Global}
 use Rattle.sq_lex.specs.declared.name.Name.{Name}
 use Rattle.sq_meaning.specs.Report.{Bytes}
 use Rattle.sq_meaning.specs.declared.fault.BindingFault.{BindingFault}
@@ -10,7 +11,7 @@ use Rattle.sq_run.specs.declared.Fault.{Fault}
 use Rattle.sq_show.specs.Last.{TellsWhy}
 use Rattle.sq_show.specs.Sessions.{Session}
 use Rattle.sq_show.specs.declared.last.LastCall.{LastCall}
-use Rattle.sq_exchange.specs.Answer.{IsWhy}
+use Rattle.sq_exchange.specs.Answer.{IsWhy, code}
 use Rattle.sq_exchange.specs.declared.answer.Answer.{Answer}
 use Rattle.sq_exchange.specs.declared.answer.Answer.TheVariants.{NotOpen, Unknown}
 use Rattle.sq_host.specs.Asked.{put_answer, put_length, put_room}
@@ -88,6 +89,11 @@ abbrev pub CauseTold : Option Machine → Option LastCall → Result Bytes Answe
 CauseTold m last (Ok words) = IsCauseIn m last words
 CauseTold m last (Err why) = IsWhy (caused m last) why
 
+-- words that were made, as bytes
+abbrev pub bytes_of : Result (Vec ℕ Global) Answer → Result Bytes Answer
+bytes_of (Ok words) = Ok words.items
+bytes_of (Err why) = Err why
+
 -- What is told is put into a room.
 pub record Puts (Told : Result Bytes Answer → Type 0) (before after : Bytes) (old new : ℕ) (answer : Answer) : Type 0 where
   pub words : Result Bytes Answer
@@ -95,3 +101,9 @@ pub record Puts (Told : Result Bytes Answer → Type 0) (before after : Bytes) (
   pub answered : answer ≡ put_answer words before
   pub room : after ≡ put_room words before
   pub counted : new ≡ put_length words old
+
+-- the same for C, which is given the code of the answer
+pub record PutsCode (Told : Result Bytes Answer → Type 0) (before after : Bytes) (old new : ℕ) (number : ℤ) : Type 0 where
+  pub answer : Answer
+  pub puts : Puts Told before after old new answer
+  pub code_is : number ≡ code answer

@@ -30,6 +30,7 @@ impl Handle {
     }
 
     /// Puts the fault for which a procedure answers 42000 into a room; no words where it has none.
+    #[tactic(auto, using(crate::proofs::Telling::puts_fault, crate::proofs::Telling::puts_no_fault))]
     pub fn why(
         &mut self,
         alloc: Global,
@@ -50,6 +51,7 @@ impl Handle {
     }
 
     /// Puts why the last call did not end with 00000 into a room, as a trace says it; no words where it did.
+    #[tactic(auto, using(crate::proofs::Telling::puts_cause, crate::proofs::Telling::puts_no_cause))]
     pub fn cause(&mut self, alloc: Global, room: &mut [u8], count: &mut usize) -> Answer
         ensures told { Puts (CauseTold (machine_of (leads_to self.old)) (made_last (leads_to self.old)))
             room.old room.new count.old count.new result }

@@ -1,8 +1,8 @@
 //! Answers that set what a pointer of the caller's leads to.
 
 ghost use Rattle.std.specs.Prelude.{◌≡◌};
-ghost use Rattle.std.specs.Result.{result_map};
 ghost use Rattle.sq_host.specs.Asked.{put_answer, put_length, put_room, set_answer, set_value};
+ghost use Rattle.sq_host.specs.Told.{bytes_of};
 
 use sq_exchange::{Answer, put_text};
 
@@ -26,9 +26,9 @@ pub(crate) fn put_words(
     room: &mut [u8],
     count: &mut usize,
 ) -> Answer
-    ensures answer { result ≡ put_answer (result_map (λ w. w.items) words.entry) room.old }
-    ensures room { room.new ≡ put_room (result_map (λ w. w.items) words.entry) room.old }
-    ensures count { count.new ≡ put_length (result_map (λ w. w.items) words.entry) count.old }
+    ensures answer { result ≡ put_answer (bytes_of words.entry) room.old }
+    ensures room { room.new ≡ put_room (bytes_of words.entry) room.old }
+    ensures count { count.new ≡ put_length (bytes_of words.entry) count.old }
 {
     match words {
         Ok(words) => put_text(words.as_slice(), room, count),

@@ -8,7 +8,8 @@ use Rattle.sq_run.specs.Answer.{Task}
 use Rattle.sq_run.specs.Answers.{Answers}
 use Rattle.sq_run.specs.Opens.{IsOfTexts}
 use Rattle.sq_run.specs.declared.RunFault.{RunFault}
-use Rattle.sq_run.proofs.SteppedRuns.{of_stop}
+use Rattle.sq_run.specs.Reported.{reported}
+use Rattle.sq_run.proofs.SteppedRuns.{of_run, of_stop}
 use Rattle.sq_page_c.specs.Outcome.{IsOfStop, Says, SaysSteps}
 
 is_err : (task : Result Task RunFault) (fault : RunFault) → task ≡ Err fault → IsErr task
@@ -45,3 +46,14 @@ steps_stop task text fault NullPointer stops is = absurd is
 steps_stop task text fault NoRoom stops is = absurd is
 steps_stop task text fault IsNull stops is = absurd is
 steps_stop task text fault NoRow stops is = absurd is
+
+-- ---- by what a run answers
+
+pub says_report : (task : Result Task RunFault) (old new : Option Bytes) (text : Bytes) → old ≡ Some [] → new ≡ Some text → Answers task old new (Ok tt) → reported task ≡ Ok text
+says_report task old new text start end h =
+    of_run task text
+    (subst (λ (o : Option Bytes). Answers task o (Some text) (Ok tt)) start
+    (subst (λ (n : Option Bytes). Answers task old n (Ok tt)) end h))
+
+pub says_refused : (task : Result Task RunFault) (old new : Option Bytes) (text : Bytes) (fault : RunFault) (answer : Answer) → Answers task old new (Err fault) → IsOfStop fault answer → Says task text answer
+says_refused task old new text fault answer h is = says_stop task text fault answer (λ of_texts. of_stop task old new fault of_texts h) is

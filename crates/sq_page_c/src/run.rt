@@ -37,6 +37,7 @@ pub(crate) fn outcome_of_run(
 }
 
 /// The report of a run, or the refusal of a text.
+#[tactic(auto, using(crate::proofs::Says::says_report, crate::proofs::Says::says_refused))]
 fn report_of(
     alloc: Global,
     schemas: &[Vec<u8>],

@@ -20,5 +20,5 @@ returns-in-Err-Status g c =
     let catalog = c.args.inside.now.catalog.now in
     shows_read (schemas_of catalog) (g.S.Store.content_now c.args.inside.now.store.now) c.args.table.now.user c.args.view.now.place
     c.args.lines.now.items c.write_ended.new.lines.items (Err (status_of c.in-Err-Status.failure)) c.write_ended.result
-    (rw c.in-Err-Status.is at c.view_rows.ensures)
+    (rw c.in-Err-Status.field-0-is at (rw c.in-Err-Status.is at c.view_rows.ensures))
     c.write_ended.ensures
