@@ -231,9 +231,9 @@ fn call_for(
     values: Row,
     kept: &mut Option<LastCall>,
 ) -> Answer
-    ensures answer { ¬ (result ≡ NoMemory) → result ≡ set_answer (taken procedure values.entry processor.old) }
+    ensures answer { ¬ (result ≡ NoMemory) → result ≡ set_answer (taken procedure values processor.old) }
     ensures called { result ≡ Done
-        → Called (Some processor.old) procedure values.entry kept.new (Some processor.new) }
+        → Called (Some processor.old) procedure values kept.new (Some processor.new) }
     ensures none { ¬ (result ≡ Done) → processor.new ≡ processor.old }
 {
     if !processor.fits(procedure, values.as_slice()) {

@@ -26,9 +26,9 @@ pub(crate) fn put_words(
     room: &mut [u8],
     count: &mut usize,
 ) -> Answer
-    ensures answer { result ≡ put_answer (bytes_of words.entry) room.old }
-    ensures room { room.new ≡ put_room (bytes_of words.entry) room.old }
-    ensures count { count.new ≡ put_length (bytes_of words.entry) count.old }
+    ensures answer { result ≡ put_answer (bytes_of words) room.old }
+    ensures room { room.new ≡ put_room (bytes_of words) room.old }
+    ensures count { count.new ≡ put_length (bytes_of words) count.old }
 {
     match words {
         Ok(words) => put_text(words.as_slice(), room, count),
