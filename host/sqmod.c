@@ -57,6 +57,7 @@ CALLS(open, (sqmod_session *session, uint64_t rows), 1, (session, rows))
 CALLS(refusal, (sqmod_session *session, char *room, size_t size, size_t *length), room && length, (session, room, size, length))
 CALLS(why, (sqmod_session *session, size_t procedure, char *room, size_t size, size_t *length), room && length,
       (session, procedure, room, size, length))
+CALLS(cause, (sqmod_session *session, char *room, size_t size, size_t *length), room && length, (session, room, size, length))
 CALLS(add_number, (sqmod_session *session, int64_t unscaled, unsigned scale), 1, (session, unscaled, scale))
 CALLS(add_start, (sqmod_session *session), 1, (session))
 CALLS(drop_values, (sqmod_session *session), 1, (session))

@@ -98,6 +98,10 @@ int sqmod_procedure(sqmod_session *session, const char *module, const char *name
    `UnknownColumn PRIZE`. It is empty where the procedure has no fault. */
 int sqmod_why(sqmod_session *session, size_t procedure, char *room, size_t size, size_t *length);
 
+/* Why the last call did not end with 00000, in words, as `sqmod trace` says it: `PRIMARY KEY (K) of U.T: row 1 has K = 1 already`. It
+   is empty where it ended with 00000. The answer is SQMOD_UNKNOWN where there is no last call. */
+int sqmod_cause(sqmod_session *session, char *room, size_t size, size_t *length);
+
 /* Adds a value for the next call, in the order in which the parameters are declared, SQLCODE and SQLSTATE left out: a number,
    which is `unscaled` divided by ten to the power of `scale`, of at most 18 digits; a number as its digits, as "-12.50", around which
    there may be white space; a text of at most 240 printable characters; or none, which starts the parameter at 0 or blanks. A null

@@ -47,6 +47,7 @@ FUNCTIONS = {
     "refusal": (c_void_p, c_char_p, c_size_t, POINTER(c_size_t)),
     "procedure": (c_void_p, c_char_p, c_char_p, POINTER(c_size_t)),
     "why": (c_void_p, c_size_t, c_char_p, c_size_t, POINTER(c_size_t)),
+    "cause": (c_void_p, c_char_p, c_size_t, POINTER(c_size_t)),
     "add_digits": (c_void_p, c_char_p, c_size_t),
     "add_text": (c_void_p, c_char_p, c_size_t),
     "add_start": (c_void_p,),
@@ -167,6 +168,10 @@ class Session:
     def why(self, module, procedure):
         """Why each call of a procedure answers 42000, as `UnknownColumn PRIZE`, or None if it has no fault."""
         return text_of("why", self._handle, self._number(module, procedure)) or None
+
+    def cause(self):
+        """Why the last call did not end with 00000, in words, or None if it did."""
+        return text_of("cause", self._handle) or None
 
     def table(self, user, name):
         """The rows of a base table as they are now, a tuple each."""

@@ -107,6 +107,15 @@ def try_example(program, folder):
     return [] if answer == wanted else [f"{folder.relative_to(ROOT)}: {answer}"]
 
 
+def try_traced(program, folder):
+    """With `.trace on` before it, it writes what `trace` writes of it."""
+    words, script = example_words(folder), folder / "script.txt"
+    traced = subprocess.run([program, "trace", *words, "--script", script.name], capture_output=True, cwd=folder, timeout=60)
+    answer = shell(program, words, b".trace on\n" + script.read_bytes(), folder)
+    wanted = traced.stdout, b"", 0
+    return [] if answer == wanted else [f"{folder.relative_to(ROOT)}, traced: {answer}"]
+
+
 def try_ends(program):
     """What ends a shell before its first prompt, and an output that takes nothing."""
     none = shell(program, ["--schema", "none.sql"], b"", CASES)
@@ -131,7 +140,7 @@ def main():
     examples = sorted(it.parent for it in (ROOT / "examples").rglob("report.txt") if (it.parent / "script.txt").exists())
     wrong = [it for path in cases for it in try_case(program, path)]
     wrong += [it for path in screens for it in try_screen(program, path)]
-    wrong += [it for folder in examples for it in try_example(program, folder)]
+    wrong += [it for folder in examples for it in try_example(program, folder) + try_traced(program, folder)]
     wrong += try_ends(program)
     print("\n".join(wrong), end="\n" if wrong else "")
     print(f"{len(cases)} shells by pipes, {len(screens)} at a terminal, {len(examples)} examples, 3 ends: {len(wrong)} differ")

@@ -35,6 +35,7 @@ static void expect(sqmod_session *session, int answer) {
 
 int main(int count, char **words) {
     sqmod_session *session = NULL;
+    char cause[256];
     size_t length;
     int32_t sqlcode = 0, a = 0, b = 0;
     if (count != 3) {
@@ -64,6 +65,8 @@ int main(int count, char **words) {
     printf("CLX %" PRId32 "\n", sqlcode);
     expect(session, m_clx(session, &sqlcode));
     printf("CLX %" PRId32 "\n", sqlcode);
+    expect(session, sqmod_cause(session, cause, sizeof cause, &length));
+    printf("CLX: %s\n", cause);
     expect(session, sqmod_close(&session));
     return 0;
 }

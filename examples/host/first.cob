@@ -60,6 +60,9 @@ first-part.
 
     perform close-rows
     perform close-rows
+    perform sqmod-cause
+    perform expect-done
+    display "CLX: " function trim(sqmod-room)
 
     perform sqmod-close
     perform expect-done

@@ -236,6 +236,45 @@ static void trials(void) {
     sqmod_close(&session);
 }
 
+/* Shows why the last call did not end with 00000. */
+static void show_cause(sqmod_session *session) {
+    char room[96] = "";
+    size_t length = 77;
+    say("cause", sqmod_cause(session, room, sizeof room, &length));
+    printf("%zu '%s'\n", length, room);
+}
+
+/* Why calls fail, and what of a call that isn't made. */
+static void causes(void) {
+    sqmod_session *session = NULL;
+    size_t length = 77, add;
+    char room[4];
+    say("cause of null", sqmod_cause(session, room, sizeof room, &length));
+    sqmod_new(&session);
+    say("cause too early", sqmod_cause(session, room, sizeof room, &length));
+    sqmod_close(&session);
+    session = opened(SCHEMA, MODULE);
+    add = number_of(session, "ADD_NULLS");
+    show_cause(session);
+    for (int at = 0; at < 2; at++) {
+        sqmod_add_number(session, 1, 0);
+        sqmod_add_number(session, -1, 0);
+        say("call", sqmod_call(session, add));
+        show_cause(session);
+    }
+    say("cause without room", sqmod_cause(session, room, sizeof room, &length));
+    printf("%zu\n", length);
+    say("cause without pointers", sqmod_cause(session, NULL, 4, NULL));
+    say("table", sqmod_table(session, "U", "T"));
+    say("row", sqmod_next_row(session));
+    show_cause(session);
+    sqmod_call(session, number_of(session, "FAULTY"));
+    show_cause(session);
+    say("call without values", sqmod_call(session, add));
+    show_cause(session);
+    sqmod_close(&session);
+}
+
 /* The rows of a table, which calls made meanwhile don't change. */
 static void rows(void) {
     sqmod_session *session = NULL;
@@ -290,6 +329,7 @@ int main(int count, char **words) {
     values();
     nulls();
     trials();
+    causes();
     rows();
     texts();
     return 0;

@@ -79,6 +79,16 @@ class Calls(unittest.TestCase):
         self.assertEqual(self.session.why("M", "FAULTY"), "UnknownColumn PRIZE")
         self.assertIsNone(self.session.why("M", "OPX"))
 
+    def test_cause_says_why_the_last_call_failed(self):
+        with self.assertRaisesRegex(sqmod.Error, "nothing was called"):
+            self.session.cause()
+        self.session.M.ADDKEY(7)
+        self.assertIsNone(self.session.cause())
+        self.session.M.ADDKEY(7)
+        self.assertRegex(self.session.cause(), "^PRIMARY KEY .*: row 1 has .* = 7 already$")
+        self.session.M.FAULTY()
+        self.assertEqual(self.session.cause(), "the statement has the fault UnknownColumn of PRIZE")
+
     def test_names_are_taken_in_any_case(self):
         self.assertEqual(self.session.m.addkey(7), Reply("00000", 0, {}))
         self.assertEqual(self.session.call("M", "ADDKEY", 7).sqlstate, "23000")

@@ -161,6 +161,18 @@ const PARAGRAPHS_START: &str = "       >>ELSE
            IF SQMOD-FOUND = 0
                MOVE SPACE TO SQMOD-ROOM(SQMOD-LENGTH + 1:1)
            END-IF.
+       SQMOD-CAUSE.
+           MOVE SPACES TO SQMOD-ROOM
+           CALL STATIC \"sqmod_cause\"
+               USING BY VALUE SQMOD-SESSION
+                   BY REFERENCE SQMOD-ROOM
+                   BY VALUE SIZE 8 SQMOD-ROOM-SIZE
+                   BY REFERENCE SQMOD-LENGTH
+               RETURNING SQMOD-ANSWER
+           END-CALL
+           IF SQMOD-ANSWER = 0
+               MOVE SPACE TO SQMOD-ROOM(SQMOD-LENGTH + 1:1)
+           END-IF.
        SQMOD-CLOSE.
            CALL STATIC \"sqmod_close\"
                USING BY REFERENCE SQMOD-SESSION

@@ -1,3 +1,5 @@
 mod Opened
+pub mod Places
 mod Rows
 pub mod Values
+pub mod Telling

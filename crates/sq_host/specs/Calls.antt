@@ -7,6 +7,7 @@ use Rattle.sq_store.specs.declared.table.Numbered.{Numbered}
 use Rattle.sq_meaning.specs.Machine.{first_state}
 use Rattle.sq_meaning.specs.Report.{Bytes}
 use Rattle.sq_run.specs.declared.Reply.{Reply}
+use Rattle.sq_show.specs.declared.last.LastCall.{LastCall}
 use Rattle.sq_run.specs.Answer as run
 use Rattle.sq_run.specs.Texts.{texts}
 use Rattle.sq_run.specs.Processor.{AllHold, FailsWithoutChange, IsStep, Machine, has_fault, number_of, rows_of, takes}
@@ -30,9 +31,10 @@ abbrev pub modules_of : Option Host → List Bytes
 modules_of None = []
 modules_of (Some h) = texts h.modules.items
 
-abbrev pub reply_of : Option Host → Option Reply
-reply_of None = None
-reply_of (Some h) = h.reply
+-- the call that was made last
+abbrev pub made_last : Option Host → Option LastCall
+made_last None = None
+made_last (Some h) = h.last
 
 -- the rows of a table that are still to come, the next one last
 abbrev pub rows_kept : Option Host → List (List Value)
@@ -124,8 +126,10 @@ pub record IsCall (m : Machine) (number : ℕ) (values : List Value) (reply : Re
   pub constraints : AllHold after
   pub failures : FailsWithoutChange m reply after
 
-abbrev pub Called : Option Machine → ℕ → List Value → Option Reply → Option Machine → Type 0
-Called (Some m) number values (Some reply) (Some after) = IsCall m number values reply after
+-- so it is with the call that is kept
+abbrev pub Called : Option Machine → ℕ → List Value → Option LastCall → Option Machine → Type 0
+Called (Some m) number values (Some call) (Some after) =
+    IsCall m number values call.reply after × (call.procedure ≡ number) × (call.values ≡ values)
 Called _ number values _ _ = ⊥
 
 -- ---- rows of a base table

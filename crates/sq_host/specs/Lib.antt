@@ -4,3 +4,5 @@ pub mod Changes
 pub mod Host
 pub mod Kept
 pub mod Outputs
+pub mod Told
+pub mod Unfit

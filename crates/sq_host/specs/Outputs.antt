@@ -7,7 +7,7 @@ use Rattle.sq_meaning.specs.Status as status
 use Rattle.sq_meaning.specs.Environment.{same_name}
 use Rattle.sq_meaning.specs.declared.status.Status.{Status}
 use Rattle.sq_run.specs.declared.Output.{Output}
-use Rattle.sq_run.specs.declared.Reply.{Reply}
+use Rattle.sq_show.specs.declared.last.LastCall.{LastCall}
 use Rattle.sq_exchange.specs.Name.{name_read}
 use Rattle.sq_exchange.specs.Value as exchanged
 use Rattle.sq_exchange.specs.declared.answer.Answer.{Answer}
@@ -17,12 +17,12 @@ use Rattle.sq_host.specs.declared.host.Host.{Host}
 
 -- ---- the last call
 
-abbrev pub status_in : Option Reply → Result Status Answer
+abbrev pub status_in : Option LastCall → Result Status Answer
 status_in None = Err Unknown
-status_in (Some reply) = Ok reply.status
+status_in (Some call) = Ok call.reply.status
 
 abbrev pub status_of : Host → Result Status Answer
-status_of h = status_in h.reply
+status_of h = status_in h.last
 
 -- SQLSTATE with a zero behind it
 abbrev pub ended_state : Status → List ℕ
@@ -30,13 +30,13 @@ ended_state s = status.sqlstate s ++ 0 ∷ []
 
 -- ---- the parameters that it set; while a row is read there are none
 
-abbrev pub outputs_in : Option (List Value) → Option Reply → List Output
-outputs_in (Some row) reply = []
+abbrev pub outputs_in : Option (List Value) → Option LastCall → List Output
+outputs_in (Some row) last = []
 outputs_in None None = []
-outputs_in None (Some reply) = reply.outputs
+outputs_in None (Some call) = call.reply.outputs
 
 abbrev pub outputs : Host → List Output
-outputs h = outputs_in h.row h.reply
+outputs h = outputs_in h.row h.last
 
 abbrev pub name_at : Host → ℕ → Result Name Answer
 name_at h place = found (option_map (λ o. o.name) (slice_get (outputs h) place))
@@ -50,20 +50,20 @@ place_of h text = and_then (place_named h) (name_read text)
 
 -- ---- values: of the row that is read, else of the parameters
 
-abbrev pub count_in : Option (List Value) → Option Reply → Result ℕ Answer
-count_in (Some row) reply = Ok (length row)
+abbrev pub count_in : Option (List Value) → Option LastCall → Result ℕ Answer
+count_in (Some row) last = Ok (length row)
 count_in None None = Err Unknown
-count_in None (Some reply) = Ok (length reply.outputs)
+count_in None (Some call) = Ok (length call.reply.outputs)
 
 abbrev pub count : Host → Result ℕ Answer
-count h = count_in h.row h.reply
+count h = count_in h.row h.last
 
-abbrev pub value_in : Option (List Value) → Option Reply → ℕ → Result Value Answer
-value_in (Some row) reply place = found (slice_get row place)
-value_in None reply place = found (option_map (λ o. o.value) (slice_get (outputs_in None reply) place))
+abbrev pub value_in : Option (List Value) → Option LastCall → ℕ → Result Value Answer
+value_in (Some row) last place = found (slice_get row place)
+value_in None last place = found (option_map (λ o. o.value) (slice_get (outputs_in None last) place))
 
 abbrev pub value_at : Host → ℕ → Result Value Answer
-value_at h place = value_in h.row h.reply place
+value_at h place = value_in h.row h.last place
 
 abbrev pub kind_at : Host → ℕ → Result ℤ Answer
 kind_at h place = and_then (λ v. Ok (exchanged.kind_of v)) (value_at h place)

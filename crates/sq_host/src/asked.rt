@@ -4,10 +4,12 @@ ghost use Rattle.std.specs.Prelude.{◌≡◌};
 ghost use Rattle.sq_exchange.specs.declared.answer.Answer.TheVariants.{NoMemory};
 ghost use Rattle.sq_host.specs.Asked.{put_answer, put_length, put_room, set_answer, set_value};
 ghost use Rattle.sq_host.specs.Host.{leads_to};
+ghost use Rattle.sq_host.specs.Calls.{machine_of, made_last};
 ghost use Rattle.sq_host.specs.Outputs as spec;
+ghost use Rattle.sq_host.specs.Told.{CauseTold, FaultTold, Puts};
 
 use crate::handle::Handle;
-use crate::set::set;
+use crate::set::{put_words, set};
 use sq_exchange::{Answer, put_text};
 use std::alloc::Global;
 
@@ -28,22 +30,39 @@ impl Handle {
     }
 
     /// Puts the fault for which a procedure answers 42000 into a room; no words where it has none.
+    #[tactic(auto, using(crate::proofs::Telling::puts_fault, crate::proofs::Telling::puts_no_fault))]
     pub fn why(
         &mut self,
         alloc: Global,
         procedure: usize,
         room: &mut [u8],
         count: &mut usize,
-    ) -> Answer {
+    ) -> Answer
+        ensures told { Puts (FaultTold procedure (machine_of (leads_to self.old)))
+            room.old room.new count.old count.new result }
+        ensures same { leads_to self.new ≡ leads_to self.old }
+    {
         let Some(host) = self.take(alloc) else {
             return Answer::NotOpen;
         };
         let words = host.why(alloc, procedure);
         self.put(host);
-        match words {
-            Ok(words) => put_text(words.as_slice(), room, count),
-            Err(answer) => answer,
-        }
+        put_words(words, room, count)
+    }
+
+    /// Puts why the last call did not end with 00000 into a room, as a trace says it; no words where it did.
+    #[tactic(auto, using(crate::proofs::Telling::puts_cause, crate::proofs::Telling::puts_no_cause))]
+    pub fn cause(&mut self, alloc: Global, room: &mut [u8], count: &mut usize) -> Answer
+        ensures told { Puts (CauseTold (machine_of (leads_to self.old)) (made_last (leads_to self.old)))
+            room.old room.new count.old count.new result }
+        ensures same { leads_to self.new ≡ leads_to self.old }
+    {
+        let Some(host) = self.take(alloc) else {
+            return Answer::NotOpen;
+        };
+        let words = host.cause(alloc);
+        self.put(host);
+        put_words(words, room, count)
     }
 
     /// Sets SQLSTATE, with a zero behind it, and SQLCODE of the last call.

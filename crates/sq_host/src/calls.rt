@@ -6,9 +6,10 @@ ghost use Rattle.sq_value.specs.declared.value.Value.TheVariants.{Null};
 ghost use Rattle.sq_exchange.specs.Number.{number_value};
 ghost use Rattle.sq_exchange.specs.declared.answer.Answer.TheVariants.{AlreadyOpen, BadArguments, BadValue, Done, NoMemory, Refused};
 ghost use Rattle.sq_host.specs.Asked.{and_then, asked, set_answer, set_value};
-ghost use Rattle.sq_host.specs.Calls.{AreRefused, Called, IsOf, IsOutOfBounds, last_of, machine_of, modules_of, opened, procedure_named, reply_of, row_read, rows_kept, rows_named, schemas_of, taken, unopened};
+ghost use Rattle.sq_host.specs.Calls.{AreRefused, Called, IsOf, IsOutOfBounds, last_of, machine_of, made_last, modules_of, opened, procedure_named, row_read, rows_kept, rows_named, schemas_of, taken, unopened};
 ghost use Rattle.sq_host.specs.Changes.{start_answer, values_of, with_value};
 ghost use Rattle.sq_host.specs.Host.{leads_to};
+ghost use Rattle.sq_host.specs.Unfit.{set_place, unfit_in};
 
 use crate::handle::Handle;
 use crate::host::Host;
@@ -177,6 +178,8 @@ impl Handle {
     pub fn checked_values(&mut self, alloc: Global, procedure: usize, place: &mut usize) -> Answer
         ensures answer { ¬ (result ≡ NoMemory) → result ≡ set_answer
             (and_then (taken procedure (values_of (leads_to self.old))) (opened (machine_of (leads_to self.old)))) }
+        ensures place { ¬ (result ≡ NoMemory) → place.new ≡ set_place
+            (and_then (unfit_in procedure (values_of (leads_to self.old))) (opened (machine_of (leads_to self.old)))) place.old }
         ensures none { ¬ (result ≡ BadArguments) → place.new ≡ place.old }
         ensures same { leads_to self.new ≡ leads_to self.old }
     {
@@ -200,7 +203,7 @@ impl Handle {
         ensures answer { ¬ (result ≡ NoMemory) → result ≡ set_answer
             (and_then (taken procedure (values_of (leads_to self.old))) (opened (machine_of (leads_to self.old)))) }
         ensures called { result ≡ Done → Called (machine_of (leads_to self.old)) procedure
-            (values_of (leads_to self.old)) (reply_of (leads_to self.new)) (machine_of (leads_to self.new)) }
+            (values_of (leads_to self.old)) (made_last (leads_to self.new)) (machine_of (leads_to self.new)) }
         ensures none { ¬ (result ≡ Done) → machine_of (leads_to self.new) ≡ machine_of (leads_to self.old) }
         ensures values { values_of (leads_to self.new) ≡ [] }
     {

@@ -10,14 +10,16 @@ ghost use Rattle.sq_host.specs.Calls.{Called, RefusedOrNoMemory, number_named, p
 use crate::texts::{add_text, line_of};
 use sq_exchange::{Answer, name_of};
 use sq_heap::HeapStore;
+use sq_items::Items;
 use sq_lex::Name;
-use sq_run::{Limits, Processor, Reply, RunFault};
+use sq_run::{Limits, Processor, RunFault};
+use sq_show::LastCall;
 use sq_store::MOST_ROW_NUMBERS;
 use sq_value::{Row, Value};
 use std::alloc::Global;
 use std::mem::replace;
 
-/// Texts, and from when they are opened a processor; with it the values for the next call, the answer of the last one, and the
+/// Texts, and from when they are opened a processor; with it the values for the next call, the last call with its answer, and the
 /// rows of a table that is read.
 #[derive(Drop)]
 pub struct Host {
@@ -27,7 +29,8 @@ pub struct Host {
     pub line: Vec<u8>,
     pub processor: Option<Processor<HeapStore>>,
     pub values: Vec<Value>,
-    pub reply: Option<Reply>,
+    /// The call that was made last, from when one was made until one is refused.
+    pub last: Option<LastCall>,
     /// The rows that are still to come, the next one last.
     pub rows: Vec<Row>,
     /// The row whose values are the outputs, until the next call or row.
@@ -45,7 +48,7 @@ impl Host {
             line: Vec::new(alloc),
             processor: None,
             values: Vec::new(alloc),
-            reply: None,
+            last: None,
             rows: Vec::new(alloc),
             row: None,
         }
@@ -171,25 +174,20 @@ impl Host {
         ensures answer { ¬ (result ≡ NoMemory)
             → result ≡ set_answer (and_then (taken procedure self.old.values.items) (opened self.old.processor)) }
         ensures called { result ≡ Done
-            → Called self.old.processor procedure self.old.values.items self.new.reply self.new.processor }
+            → Called self.old.processor procedure self.old.values.items self.new.last self.new.processor }
         ensures none { ¬ (result ≡ Done) → self.new.processor ≡ self.old.processor }
         ensures values { self.new.values.items ≡ [] }
     {
-        self.reply = None;
+        self.last = None;
         self.row = None;
-        let values = replace(&mut self.values, Vec::new(alloc));
-        let answer = match &mut self.processor {
-            Some(processor) => call_for(
-                alloc,
-                processor,
-                procedure,
-                values.as_slice(),
-                &mut self.reply,
-            ),
-            None => Answer::NotOpen,
-        };
-        drop(values);
-        answer
+        let values = Items::from_vec(replace(&mut self.values, Vec::new(alloc)));
+        match &mut self.processor {
+            Some(processor) => call_for(alloc, processor, procedure, values, &mut self.last),
+            None => {
+                drop(values);
+                Answer::NotOpen
+            }
+        }
     }
 }
 
@@ -225,27 +223,35 @@ fn procedure_of(
     }
 }
 
-/// Calls a procedure, if there is one of this number and the values fit it, and keeps the reply.
+/// Calls a procedure, if there is one of this number and the values fit it, and keeps the call with its reply.
 fn call_for(
     alloc: Global,
     processor: &mut Processor<HeapStore>,
     procedure: usize,
-    values: &[Value],
-    kept: &mut Option<Reply>,
+    values: Row,
+    kept: &mut Option<LastCall>,
 ) -> Answer
-    ensures answer { ¬ (result ≡ NoMemory) → result ≡ set_answer (taken procedure values.now processor.old) }
+    ensures answer { ¬ (result ≡ NoMemory) → result ≡ set_answer (taken procedure values processor.old) }
     ensures called { result ≡ Done
-        → Called (Some processor.old) procedure values.now kept.new (Some processor.new) }
+        → Called (Some processor.old) procedure values kept.new (Some processor.new) }
     ensures none { ¬ (result ≡ Done) → processor.new ≡ processor.old }
 {
-    if !processor.fits(procedure, values) {
+    if !processor.fits(procedure, values.as_slice()) {
+        drop(values);
         return Answer::BadArguments;
     }
-    match processor.call(alloc, procedure, values) {
+    match processor.call(alloc, procedure, values.as_slice()) {
         Ok(reply) => {
-            *kept = Some(reply);
+            *kept = Some(LastCall {
+                procedure,
+                values,
+                reply,
+            });
             Answer::Done
         }
-        Err(_) => Answer::NoMemory,
+        Err(_) => {
+            drop(values);
+            Answer::NoMemory
+        }
     }
 }

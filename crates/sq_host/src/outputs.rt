@@ -25,8 +25,8 @@ impl Host {
     pub(crate) fn status(&self) -> Result<Status, Answer>
         ensures { result ≡ spec.status_of self.now }
     {
-        match &self.reply {
-            Some(reply) => Ok(reply.status),
+        match &self.last {
+            Some(last) => Ok(last.reply.status),
             None => Err(Answer::Unknown),
         }
     }
@@ -37,8 +37,8 @@ impl Host {
     {
         match &self.row {
             Some(row) => Ok(row.len()),
-            None => match &self.reply {
-                Some(reply) => Ok(reply.outputs.len()),
+            None => match &self.last {
+                Some(last) => Ok(last.reply.outputs.len()),
                 None => Err(Answer::Unknown),
             },
         }
@@ -50,8 +50,8 @@ impl Host {
     {
         match &self.row {
             Some(_) => &[],
-            None => match &self.reply {
-                Some(reply) => reply.outputs.as_slice(),
+            None => match &self.last {
+                Some(last) => last.reply.outputs.as_slice(),
                 None => &[],
             },
         }

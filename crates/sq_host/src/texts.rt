@@ -2,10 +2,12 @@
 
 ghost use Rattle.std.specs.Prelude.{◌≡◌, [], ◌∷◌, ◌++◌, IfOk, OnErr};
 ghost use Rattle.sq_exchange.specs.declared.answer.Answer.TheVariants.{Done, NoMemory};
+ghost use Rattle.sq_host.specs.Told.{fault_words, rule_name};
 ghost use Rattle.sq_run.specs.Opens.{IsOfTexts};
 ghost use Rattle.sq_run.specs.Texts as spec;
 
 use sq_exchange::Answer;
+use sq_meaning::BindingFault;
 use sq_run::{Fault, Refusal, RunFault};
 use std::alloc::{AllocError, Global};
 
@@ -51,14 +53,38 @@ fn line_with(alloc: Global, kind: &str, refusal: Refusal) -> Result<Vec<u8>, All
     Vec::from_slice(alloc, line.as_bytes())
 }
 
-/// A fault in words: its name, and behind a blank the name that it is about, if there is one.
-pub(crate) fn words_of(alloc: Global, fault: Fault) -> Result<Vec<u8>, AllocError> {
-    let rule = fault.rule;
-    let name = format!(in alloc; "{rule:?}")?;
-    let mut words = name.into_bytes();
+/// The words of a fault: the name of its rule, and behind a blank the name that it is about, if there is one.
+pub(crate) fn words_of(alloc: Global, fault: Fault) -> Result<Vec<u8>, AllocError>
+    ensures { IfOk result (λ words. words.items ≡ fault_words fault) }
+{
+    let mut words = Vec::from_slice(alloc, rule_name(fault.rule))?;
     if let Some(about) = fault.about {
         words.push(b' ')?;
         words.extend_from_slice(about.codes())?;
     }
     Ok(words)
+}
+
+fn rule_name(rule: BindingFault) -> &'static [u8]
+    ensures { result.now ≡ rule_name rule }
+{
+    match rule {
+        BindingFault::UnknownTable => b"UnknownTable",
+        BindingFault::UnknownColumn => b"UnknownColumn",
+        BindingFault::AmbiguousName => b"AmbiguousName",
+        BindingFault::KindMismatch => b"KindMismatch",
+        BindingFault::LimitExceeded => b"LimitExceeded",
+        BindingFault::MisplacedSetFunction => b"MisplacedSetFunction",
+        BindingFault::UngroupedColumn => b"UngroupedColumn",
+        BindingFault::CountMismatch => b"CountMismatch",
+        BindingFault::BadSortKey => b"BadSortKey",
+        BindingFault::UnknownParameter => b"UnknownParameter",
+        BindingFault::BadIndicator => b"BadIndicator",
+        BindingFault::TargetTwice => b"TargetTwice",
+        BindingFault::NotUpdatable => b"NotUpdatable",
+        BindingFault::ColumnTwice => b"ColumnTwice",
+        BindingFault::UnknownCursor => b"UnknownCursor",
+        BindingFault::BadOrientation => b"BadOrientation",
+        BindingFault::PrivilegeMissing => b"PrivilegeMissing",
+    }
 }

@@ -1,11 +1,13 @@
-//! What can be known of a call before it is made.
+//! What can be known of a call before it is made and after.
 
-ghost use Rattle.std.specs.Prelude.{◌≡◌, ◌≤◌, [], Ok, false, IfErr, IfOk, length, replicate};
+ghost use Rattle.std.specs.Prelude.{◌≡◌, Ok, Some, false, IfErr, IfOk, replicate};
 ghost use Rattle.sq_value.specs.declared.value.Value.TheVariants.{Null};
 ghost use Rattle.sq_exchange.specs.Answer.{IsWhy};
 ghost use Rattle.sq_host.specs.Asked.{and_then};
 ghost use Rattle.sq_host.specs.Calls.{is_faulty, opened, place_for, taken};
-ghost use Rattle.sq_run.specs.Processor.{has_fault};
+ghost use Rattle.sq_host.specs.Told.{IsCauseIn, IsFaultIn, caused};
+ghost use Rattle.sq_host.specs.Unfit.{unfit_at, unfit_in};
+ghost use Rattle.sq_run.specs.Processor.{takes};
 
 use crate::host::Host;
 use crate::texts::words_of;
@@ -18,8 +20,7 @@ use std::alloc::{AllocError, Global};
 impl Host {
     /// The fault for which a procedure answers 42000, in words; no words where it has none.
     pub(crate) fn why(&self, alloc: Global, procedure: usize) -> Result<Vec<u8>, Answer>
-        ensures none { is_faulty procedure self.now.processor ≡ Ok false
-            → IfOk result (λ words. words.items ≡ []) }
+        ensures told { IfOk result (λ words. IsFaultIn procedure self.now.processor words.items) }
         ensures refused { IfErr result (IsWhy (is_faulty procedure self.now.processor)) }
     {
         let Some(processor) = &self.processor else {
@@ -31,10 +32,34 @@ impl Host {
         }
     }
 
+    /// Why the last call did not end with 00000, in words; no words where it did.
+    pub(crate) fn cause(&self, alloc: Global) -> Result<Vec<u8>, Answer>
+        ensures told { IfOk result (λ words. IsCauseIn self.now.processor self.now.last words.items) }
+        ensures refused { IfErr result (IsWhy (caused self.now.processor self.now.last)) }
+    {
+        let Some(processor) = &self.processor else {
+            return Err(Answer::NotOpen);
+        };
+        let Some(last) = &self.last else {
+            return Err(Answer::Unknown);
+        };
+        let mut words = Vec::new(alloc);
+        match last.write_why(alloc, processor.session(), &mut words) {
+            Ok(()) => Ok(words),
+            Err(_) => {
+                drop(words);
+                Err(Answer::NoMemory)
+            }
+        }
+    }
+
     /// The place of the first value that doesn't fit its parameter; how many values there are if the procedure has more or
     /// fewer parameters, or isn't there; none if the values fit.
+    #[tactic(auto, using(crate::proofs::Places::none_unfit_at))]
     pub(crate) fn unfit(&self, alloc: Global, procedure: usize) -> Result<Option<usize>, Answer>
         ensures place { IfOk result (λ place.
+            and_then (unfit_in procedure self.now.values.items) (opened self.now.processor) ≡ Ok place) }
+        ensures taken { IfOk result (λ place.
             and_then (taken procedure self.now.values.items) (opened self.now.processor) ≡ place_for place) }
         ensures refused { IfErr result
             (IsWhy (and_then (taken procedure self.now.values.items) (opened self.now.processor))) }
@@ -53,23 +78,23 @@ impl Host {
     }
 }
 
-/// The place of the first value that doesn't fit where all others are null, which fits each parameter.
+/// The place of the first value that doesn't fit. Null fits each parameter, so it stands for each value behind the one that is tried.
 fn first_unfit(
     alloc: Global,
     processor: &Processor<HeapStore>,
     procedure: usize,
     values: &[Value],
 ) -> Result<usize, AllocError>
-    ensures { IfOk result (λ place. place ≤ length values.now) }
+    requires { takes processor.now.program procedure values.now ≡ false }
+    ensures { IfOk result (λ place. unfit_at processor.now.program procedure values.now ≡ Some place) }
 {
-    let none = nulls(alloc, values.len())?;
-    if !processor.fits(procedure, none.as_slice()) {
+    let mut tried = nulls(alloc, values.len())?;
+    if !processor.fits(procedure, tried.as_slice()) {
         return Ok(values.len());
     }
     for (place, value) in values.iter().enumerate() {
-        let mut alone = nulls(alloc, values.len())?;
-        alone[place] = value.copy(alloc)?;
-        if !processor.fits(procedure, alone.as_slice()) {
+        tried[place] = value.copy(alloc)?;
+        if !processor.fits(procedure, tried.as_slice()) {
             return Ok(place);
         }
     }

@@ -6,8 +6,10 @@
 ghost use Rattle.std.specs.Prelude.{◌≡◌, Ok};
 ghost use Rattle.sq_exchange.specs.Answer.{answer_text, code};
 ghost use Rattle.sq_host.specs.Asked.{put_answer, put_length, put_room, set_answer, set_value};
+ghost use Rattle.sq_host.specs.Calls.{machine_of, made_last};
 ghost use Rattle.sq_host.specs.Host.{leads_to};
 ghost use Rattle.sq_host.specs.Outputs as outputs;
+ghost use Rattle.sq_host.specs.Told.{CauseTold, FaultTold, PutsCode};
 
 use sq_exchange::{VERSION, answer_text, put_text};
 use sq_host::Handle;
@@ -79,8 +81,24 @@ pub extern "C" fn sq_host_why(
     procedure: usize,
     room: &mut [u8],
     count: &mut usize,
-) -> i32 {
+) -> i32
+    ensures { PutsCode (FaultTold procedure (machine_of (leads_to handle.old)))
+        room.old room.new count.old count.new result }
+{
     handle.why(alloc, procedure, room, count).code()
+}
+
+#[unsafe(no_mangle)]
+pub extern "C" fn sq_host_cause(
+    alloc: Global,
+    handle: &mut Handle,
+    room: &mut [u8],
+    count: &mut usize,
+) -> i32
+    ensures { PutsCode (CauseTold (machine_of (leads_to handle.old)) (made_last (leads_to handle.old)))
+        room.old room.new count.old count.new result }
+{
+    handle.cause(alloc, room, count).code()
 }
 
 #[unsafe(no_mangle)]

@@ -5,7 +5,6 @@ use Rattle.sq_exchange.specs.Room.{room_answer, with_text}
 use Rattle.sq_exchange.specs.declared.answer.Answer.{Answer}
 use Rattle.sq_exchange.specs.declared.answer.Answer.TheVariants.{Done}
 use Rattle.sq_meaning.specs.Report.{Bytes}
-use Rattle.sq_page_c.specs.Outcome.{IsOutcome}
 use Rattle.sq_page_c.specs.declared.outcome.Outcome.{Outcome}
 
 -- the answer behind a text that was put in a room
@@ -17,11 +16,10 @@ answer_of other answer = other
 abbrev pub answer_in : Outcome → Bytes → Answer
 answer_in o room = answer_of (room_answer o.text.items room) o.answer
 
--- An outcome of a run of these texts is in the room that was there before, if there is room for it; with its answer, and the length of its text.
-pub record IsShown (row_numbers : ℕ) (schemas modules : List Bytes) (script : Bytes)
-    (before after : Bytes) (count : ℕ) (answer : ℤ) : Type 0 where
+-- Such an outcome is in the room that was there before, if there is room for it; with its answer, and the length of its text.
+pub record IsShown (Is : Outcome → Type 0) (before after : Bytes) (count : ℕ) (answer : ℤ) : Type 0 where
   pub outcome : Outcome
-  pub is : IsOutcome row_numbers schemas modules script outcome
+  pub is : Is outcome
   pub answered : answer ≡ code (answer_in outcome before)
   pub room : after ≡ with_text outcome.text.items before
   pub counted : count ≡ length outcome.text.items

@@ -9,13 +9,16 @@ mod run;
 mod steps;
 mod texts;
 
+ghost use Rattle.sq_page_c.specs.Outcome.{IsOutcome, IsSteps};
 ghost use Rattle.sq_page_c.specs.Shown.{IsShown};
 ghost use Rattle.sq_page_c.specs.Texts.{pieces};
+ghost use Rattle.sq_run.specs.Answer.{answered};
 
 use outcome::put;
 use run::outcome_of_run;
 use std::alloc::Global;
 use steps::outcome_of_steps;
+use texts::run_texts;
 
 /// Runs a script on schemas and modules, and puts the report, or the line of a refusal, in a room.
 ///
@@ -33,22 +36,16 @@ pub extern "C" fn sq_page_run(
     room: &mut [u8],
     count: &mut usize,
 ) -> i32
-    ensures { IsShown row_numbers (pieces schema_lengths.now schemas.now)
-        (pieces module_lengths.now modules.now) script.now room.old room.new count.new result }
+    ensures { IsShown (IsOutcome (answered (pieces schema_lengths.now schemas.now)
+        (pieces module_lengths.now modules.now) script.now row_numbers)) room.old room.new count.new result }
 {
-    let outcome = outcome_of_run(
-        alloc,
-        schemas,
-        schema_lengths,
-        modules,
-        module_lengths,
-        script,
-        row_numbers,
-    );
+    let given = run_texts(alloc, schemas, schema_lengths, modules, module_lengths);
+    let outcome = outcome_of_run(alloc, &given, script, row_numbers);
     put(&outcome, room, count).code()
 }
 
-/// Puts a page that steps through the same run in a room, as `trace_page` of sq_show makes it. It answers as `sq_page_run` does.
+/// Puts a page that steps through the same run in a room, as `trace_page` of sq_show makes it: without their notes the lines of its steps
+/// are the report. It answers as `sq_page_run` does.
 #[unsafe(no_mangle)]
 pub extern "C" fn sq_page_steps(
     alloc: Global,
@@ -60,15 +57,11 @@ pub extern "C" fn sq_page_steps(
     row_numbers: u64,
     room: &mut [u8],
     count: &mut usize,
-) -> i32 {
-    let outcome = outcome_of_steps(
-        alloc,
-        schemas,
-        schema_lengths,
-        modules,
-        module_lengths,
-        script,
-        row_numbers,
-    );
+) -> i32
+    ensures { IsShown (IsSteps (answered (pieces schema_lengths.now schemas.now)
+        (pieces module_lengths.now modules.now) script.now row_numbers)) room.old room.new count.new result }
+{
+    let given = run_texts(alloc, schemas, schema_lengths, modules, module_lengths);
+    let outcome = outcome_of_steps(alloc, &given, script, row_numbers);
     put(&outcome, room, count).code()
 }

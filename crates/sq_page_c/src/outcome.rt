@@ -1,12 +1,13 @@
 //! What a run comes to, and how it is put in a room.
 
-ghost use Rattle.std.specs.Prelude.{◌≡◌, length, true, OnOk};
+ghost use Rattle.std.specs.Prelude.{◌≡◌, length, OnOk};
 ghost use Rattle.sq_exchange.specs.Room.{with_text};
-ghost use Rattle.sq_page_c.specs.Outcome.{IsOfStop, is_refusal};
+ghost use Rattle.sq_page_c.specs.Outcome.{IsOfStop};
 ghost use Rattle.sq_page_c.specs.Shown.{answer_in};
+ghost use Rattle.sq_run.specs.Opens.{IsOfTexts};
 
 use sq_exchange::{Answer, put_text};
-use sq_perform::{Refusal, RunFault};
+use sq_run::{Refusal, RunFault};
 use std::alloc::{AllocError, Global};
 
 /// The answer to a page, and the text that it is about: what was asked for, or the line of a refusal.
@@ -41,7 +42,7 @@ pub(crate) fn stopped(alloc: Global, fault: RunFault) -> Outcome
 
 /// The line of a refusal.
 fn line_of(alloc: Global, fault: RunFault) -> Result<Vec<u8>, AllocError>
-    ensures { OnOk result (is_refusal fault ≡ true) }
+    ensures { OnOk result (IsOfTexts fault) }
 {
     match fault {
         RunFault::SchemaRefused(refusal) => line_with(alloc, "schema", refusal),

@@ -1,10 +1,40 @@
 //! Texts that come one behind the other.
 
-ghost use Rattle.std.specs.Prelude.{◌≡◌, ◌++◌, ◌∷◌, [], IfOk, OnOk};
-ghost use Rattle.sq_page_c.specs.Texts.{pieces};
-ghost use Rattle.sq_perform.specs.Texts.{texts};
+ghost use Rattle.std.specs.Prelude.{◌≡◌, ◌++◌, ◌∷◌, [], IfOk, IfSome, OnOk};
+ghost use Rattle.sq_page_c.specs.Texts.{AreTexts, pieces};
+ghost use Rattle.sq_run.specs.Texts.{texts};
 
 use std::alloc::{AllocError, Global};
+
+/// The schemas and modules of a run.
+#[derive(Drop)]
+pub(crate) struct RunTexts {
+    pub(crate) schemas: Vec<Vec<u8>>,
+    pub(crate) modules: Vec<Vec<u8>>,
+}
+
+/// The schemas and modules of these lengths; none if memory runs out.
+pub(crate) fn run_texts(
+    alloc: Global,
+    schemas: &[u8],
+    schema_lengths: &[usize],
+    modules: &[u8],
+    module_lengths: &[usize],
+) -> Option<RunTexts>
+    ensures { IfSome result (AreTexts (pieces schema_lengths.now schemas.now)
+        (pieces module_lengths.now modules.now)) }
+{
+    let Ok(schemas) = texts_of(alloc, schemas, schema_lengths) else {
+        return None;
+    };
+    match texts_of(alloc, modules, module_lengths) {
+        Ok(modules) => Some(RunTexts { schemas, modules }),
+        Err(_) => {
+            drop(schemas);
+            None
+        }
+    }
+}
 
 /// The texts of these lengths that stand one behind the other.
 #[tactic(auto, using(std::proofs::lemmas::List::take_min, std::proofs::lemmas::List::drop_min))]

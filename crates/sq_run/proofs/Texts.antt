@@ -11,3 +11,4 @@ pub mod OneTree
 pub mod FaultLaws
 pub mod LawfulTexts
 pub mod RefusedLaws
+pub mod SteppedRuns

@@ -39,6 +39,7 @@ impl<S: Store> Model for Processor<S> {
 
 impl<S: Store> Processor<S> {
     ghost use Rattle.sq_run.specs.Answer.{opened};
+    ghost use Rattle.sq_run.specs.Beside.{IsBeside};
     ghost use Rattle.sq_run.specs.Faulty.{is_syntax_error};
     ghost use Rattle.sq_run.specs.Lawful.{Lawful};
     ghost use Rattle.sq_run.specs.Opens.{Opens};
@@ -110,6 +111,13 @@ impl<S: Store> Processor<S> {
         ensures { is_some result ≡ has_fault self.now.program procedure }
     {
         self.session.fault(procedure)
+    }
+
+    /// The session that makes the calls. It has made the same calls as the machine, from the same texts.
+    pub fn session(&self) -> &Session<S>
+        ensures { IsBeside result.now self.now }
+    {
+        &self.session
     }
 
     /// The rows of the base table of this owner and name as they are now, with their numbers; `None` where there is no such

@@ -3,5 +3,9 @@ pub mod Breaches
 pub mod Causes
 pub mod Continued
 pub mod Lexed
+pub mod Noting
 pub mod OfChange
+pub mod Paging
 pub mod SoFar
+pub mod ViewRows
+pub mod ViewShown

@@ -19,12 +19,12 @@ pub record SoFar (items : List Action) (done : ℕ) (start now : Session) (old n
   pub taken : Appends old new (flat_map shown parts)
 
 -- what is written of an action is a part: its lines in the report, and notes
-record IsPart (a : Action) (s : Session) (lines : Bytes) (t : Session) : Type 0 where
+pub record IsPart (a : Action) (s : Session) (lines : Bytes) (t : Session) : Type 0 where
   pub part : Part
   pub step : Step a s part.lines t
   pub whole : lines ≡ shown part
 
-part_of : (a : Action) (s t : Session) (lines : Bytes) (failed : Bool) → Told a s lines t failed → IsPart a s lines t
+pub part_of : (a : Action) (s t : Session) (lines : Bytes) (failed : Bool) → Told a s lines t failed → IsPart a s lines t
 part_of (Call c) s t lines failed h = record {
   part = record { lines = _; notes = h.notes };
   step = (h.reply, h.answered, refl);

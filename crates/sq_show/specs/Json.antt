@@ -1,5 +1,5 @@
 -- Texts of printable characters and line ends, as JSON has them.
-use Rattle.std.specs.Prelude.{ℕ, ◌==◌, ◌++◌, List, [], ◌∷◌, codes, flat_map, if◌then◌else◌}
+use Rattle.std.specs.Prelude.{ℕ, zero, suc, ◌==◌, ◌++◌, List, [], ◌∷◌, codes, flat_map, if◌then◌else◌}
 
 -- a quote and a backslash stand behind a backslash, a line end is `\n`, and `<` stands by its number, so that no text ends a script
 abbrev pub escaped : ℕ → List ℕ
@@ -12,3 +12,8 @@ escaped byte =
 
 abbrev pub text : List ℕ → List ℕ
 text codes_of = codes "\"" ++ flat_map escaped codes_of ++ codes "\""
+
+-- what stands before the element of a list with this place
+abbrev pub comma : ℕ → List ℕ
+comma zero = []
+comma (suc place) = codes ","

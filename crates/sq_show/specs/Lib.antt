@@ -5,13 +5,17 @@ pub mod Cause
 pub mod Cursor
 pub mod Item
 pub mod Json
+pub mod Last
 pub mod Made
 pub mod Mark
 pub mod Option
+pub mod Page
 pub mod Place
 pub mod Select
+pub mod Sessions
 pub mod Taken
 pub mod Target
 pub mod Traced
 pub mod Value
+pub mod View
 pub mod Words

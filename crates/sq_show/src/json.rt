@@ -36,7 +36,9 @@ fn push_byte(page: &mut Vec<u8>, byte: u8) -> Result<(), AllocError>
 }
 
 /// Adds what stands before an element of a list: a comma, unless it is the first.
-pub(crate) fn push_comma(page: &mut Vec<u8>, place: usize) -> Result<(), AllocError> {
+pub(crate) fn push_comma(page: &mut Vec<u8>, place: usize) -> Result<(), AllocError>
+    ensures { OnOk result (page.new.items ≡ page.old.items ++ spec.comma place) }
+{
     if place > 0 {
         page.push(b',')?;
     }

@@ -21,6 +21,7 @@ mod cursors;
 mod item;
 mod json;
 mod key_breach;
+mod last;
 mod listing;
 mod look;
 mod made;
@@ -42,17 +43,21 @@ mod told;
 mod trace;
 mod value;
 mod value_words;
+mod view;
 mod words;
 
 pub use cause::{
     Breach, Cause, CursorCause, ItemFault, OptionBreach, Referring, RowPut, ValueCause, ValueFault,
 };
 pub use item::item_size;
+pub use last::LastCall;
 pub use listing::{write_cursors, write_procedures, write_procedures_of, write_tables};
 pub use page::trace_page;
 pub use place::{Place, place_in};
 pub use shell::Shell;
+pub use sq_perform::{open_session, read_script};
 pub use sq_session::Session;
 pub use told::why;
 pub use trace::{TraceFault, TraceOptions, trace_action, trace_all};
+pub use view::write_view;
 pub use words::write_cause;

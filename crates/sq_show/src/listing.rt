@@ -49,7 +49,7 @@ fn write_views<S: Store>(session: &Session<S>, lines: &mut Vec<u8>) -> Result<()
 }
 
 /// Adds the name of a table or a view, and the names of its columns.
-fn write_columns(table: &TableDesc, lines: &mut Vec<u8>) -> Result<(), AllocError> {
+pub(crate) fn write_columns(table: &TableDesc, lines: &mut Vec<u8>) -> Result<(), AllocError> {
     write_names(table.user, table.name, lines)?;
     let mut before: &[u8] = b" (";
     for column in table.columns.as_slice() {

@@ -1,7 +1,8 @@
 //! A page that steps through a run: its data, and what it is made of besides.
 
-ghost use Rattle.std.specs.Prelude.{◌≡◌, All};
+ghost use Rattle.std.specs.Prelude.{◌≡◌, [], All, IfOk, OnOk};
 ghost use Rattle.sq_perform.specs.Steps.{IsPrepared};
+ghost use Rattle.sq_show.specs.Page.{HasItem, HasItems, IsPage};
 
 use crate::changes::push_table_name;
 use crate::cursors::{push_stand_words, stand_of};
@@ -17,7 +18,7 @@ use sq_store::{Numbered, Store};
 use std::alloc::{AllocError, Global};
 
 /// Performs actions one after the other, and makes a page of what each did, up to the first call that fails if it is to stop
-/// there. The page needs nothing else.
+/// there. The page needs nothing else. The lines of its steps, without their notes, are the report of the actions.
 pub fn trace_page<S: Store>(
     alloc: Global,
     session: &mut Session<S>,
@@ -25,6 +26,8 @@ pub fn trace_page<S: Store>(
     options: TraceOptions,
 ) -> Result<Vec<u8>, AllocError>
     requires { All (IsPrepared session.old) actions.now }
+    ensures { IfOk result
+        (λ page. IsPage options.stop actions.now session.old page.items session.new) }
 {
     let mut page = Vec::new(alloc);
     match push_page(alloc, session, actions, options, &mut page) {
@@ -44,6 +47,7 @@ fn push_page<S: Store>(
     page: &mut Vec<u8>,
 ) -> Result<(), AllocError>
     requires { All (IsPrepared session.old) actions.now }
+    ensures { OnOk result (IsPage options.stop actions.now session.old page.new.items session.new) }
 {
     page.extend_from_slice(START.as_bytes())?;
     push_names(session, page)?;
@@ -102,6 +106,8 @@ fn push_items<S: Store>(
     page: &mut Vec<u8>,
 ) -> Result<(), AllocError>
     requires { All (IsPrepared session.old) actions.now }
+    ensures { OnOk result
+        (HasItems options.stop actions.now session.old page.old.items page.new.items session.new) }
 {
     let mut lines = Vec::new(alloc);
     for (place, action) in actions.iter().enumerate() {
@@ -109,7 +115,7 @@ fn push_items<S: Store>(
         push_comma(page, place)?;
         push_item(alloc, session, lines.as_slice(), page)?;
         if fails && options.stop {
-            break;
+            return Ok(());
         }
     }
     Ok(())
@@ -121,9 +127,22 @@ fn push_item<S: Store>(
     session: &Session<S>,
     lines: &[u8],
     page: &mut Vec<u8>,
-) -> Result<(), AllocError> {
+) -> Result<(), AllocError>
+    ensures { OnOk result (HasItem lines.now page.old.items page.new.items) }
+{
+    let mut state = Vec::new(alloc);
+    push_state(alloc, session, &mut state)?;
     page.extend_from_slice(b"{\"lines\":")?;
     push_text(page, lines)?;
+    page.extend_from_slice(state.as_slice())
+}
+
+/// Adds what a session has: the rows of its tables, and where its cursors stand.
+fn push_state<S: Store>(
+    alloc: Global,
+    session: &Session<S>,
+    page: &mut Vec<u8>,
+) -> Result<(), AllocError> {
     page.extend_from_slice(b",\"tables\":[")?;
     push_tables(alloc, session, page)?;
     page.extend_from_slice(b"],\"cursors\":[")?;

@@ -12,9 +12,11 @@ use crate::texts::{Sources, read_sources};
 use crate::{report_checked, report_of_file};
 use command::{Command, HELP, Listing, command_of};
 use sq_heap::HeapStore;
-use sq_lex::{Lexeme, Name, lex};
+use sq_lex::{Lexeme, Name, Symbol, Token, lex};
 use sq_run::Limits;
-use sq_show::{Place, Shell, write_cursors, write_procedures, write_procedures_of, write_tables};
+use sq_show::{
+    Place, Shell, write_cursors, write_procedures, write_procedures_of, write_tables, write_view,
+};
 use sq_store::MOST_ROW_NUMBERS;
 use std::alloc::{AllocError, Global};
 use std::fs;
@@ -213,6 +215,11 @@ fn obey<R: Files + Print + Eprint + AllocGlobal>(
     match command {
         Command::Help => written(rt.print(HELP)),
         Command::List(listing) => list(rt, talk, file, place, listing),
+        Command::Why => tell_why(rt, talk, file, place),
+        Command::Trace(is_on) => {
+            talk.trace(is_on);
+            Ok(())
+        }
         Command::Restart => talk.restart(rt),
         Command::LoadModule(name) => load_module(rt, talk, file, place, name),
         Command::Read(_) => {
@@ -271,7 +278,38 @@ fn write_listing(
             None => Ok(()),
         },
         Listing::Cursors => write_cursors(session, lines),
+        Listing::View(view) => match full_name_of(alloc, view) {
+            Some((user, name)) => write_view(alloc, session, user, name, lines),
+            None => Ok(()),
+        },
     }
+}
+
+/// Prints why the last call did not end with 00000, or says that there is nothing to tell.
+fn tell_why<R: Print + Eprint + AllocGlobal>(
+    rt: &R,
+    talk: &mut Talk,
+    file: &str,
+    place: Place,
+) -> Result<(), Fault> {
+    let mut line = Vec::new(rt.alloc());
+    let told = match &talk.shell.last {
+        Some(last) => last.write_why(rt.alloc(), &talk.shell.session, &mut line),
+        None => {
+            talk.refuse(rt, file, place, "no call was made");
+            return Ok(());
+        }
+    };
+    if told.is_err() {
+        return Err(Fault::NoMemory(talk.taken));
+    }
+    if line.is_empty() {
+        return written(rt.print("the last call ended with 00000\n"));
+    }
+    if line.push(b'\n').is_err() {
+        return Err(Fault::NoMemory(talk.taken));
+    }
+    written(rt.write_all(line.as_slice()))
 }
 
 /// The name that a text is.
@@ -280,11 +318,36 @@ fn name_of(alloc: Global, text: &str) -> Option<Name> {
         return None;
     };
     match tokens.as_slice() {
-        [token] => match &token.lexeme {
-            Lexeme::Name(name) => Some(*name),
+        [token] => name_in(token),
+        _ => None,
+    }
+}
+
+/// The two names that a text has with a period between them.
+fn full_name_of(alloc: Global, text: &str) -> Option<(Name, Name)> {
+    let Ok(tokens) = lex(alloc, text.as_bytes()) else {
+        return None;
+    };
+    match tokens.as_slice() {
+        [user, period, name] if is_period(period) => match (name_in(user), name_in(name)) {
+            (Some(user), Some(name)) => Some((user, name)),
             _ => None,
         },
         _ => None,
+    }
+}
+
+fn name_in(token: &Token) -> Option<Name> {
+    match &token.lexeme {
+        Lexeme::Name(name) => Some(*name),
+        _ => None,
+    }
+}
+
+fn is_period(token: &Token) -> bool {
+    match &token.lexeme {
+        Lexeme::Symbol(Symbol::Dot) => true,
+        _ => false,
     }
 }
 

@@ -1,34 +1,14 @@
-use Rattle.std.proofs.Common.{◌≡◌, ◌∙◌, ap, refl, of_z, to_z, w32}
-use Rattle.sq_exchange.specs.Answer.{code}
-use Rattle.sq_exchange.specs.declared.answer.Answer.{Answer}
-use Rattle.sq_exchange.specs.declared.answer.Answer.TheVariants.{Done, NotOpen, AlreadyOpen, Refused, NoMemory, Unknown, BadValue, BadArguments, OtherKind, NullPointer, NoRoom, IsNull, NoRow}
-use Rattle.sq_page_c.specs.Shown.{answer_in}
+use Rattle.sq_run.specs.Answer.{answered}
+use Rattle.sq_page_c.specs.Outcome.{IsOutcome}
+use Rattle.sq_page_c.specs.Texts.{pieces}
+use Rattle.sq_page_c.proofs.Showing.{shown}
 use Rattle.sq_page_c.proofs.sq_page_run.Goals as goal
-
--- All codes fit in 32 bits.
-same_code : (a : Answer) → to_z w32 (of_z w32 (code a)) ≡ code a
-same_code Done = refl
-same_code NotOpen = refl
-same_code AlreadyOpen = refl
-same_code Refused = refl
-same_code NoMemory = refl
-same_code Unknown = refl
-same_code BadValue = refl
-same_code BadArguments = refl
-same_code OtherKind = refl
-same_code NullPointer = refl
-same_code NoRoom = refl
-same_code IsNull = refl
-same_code NoRow = refl
 
 pub returns : goal.returns
 returns c =
-    let outcome = c.outcome_of_run-outcome.result in
-    let is : c.code.result ≡ code (answer_in outcome c.args.room.now) = c.code.ensures ∙ ap code c.put.ensures.answer in
-    record {
-      outcome = outcome;
-      is = c.outcome_of_run-outcome.ensures;
-      answered = ap (λ z. to_z w32 (of_z w32 z)) is ∙ same_code (answer_in outcome c.args.room.now);
-      room = c.put.ensures.room;
-      counted = c.put.ensures.count;
-    }
+    let schemas = pieces c.args.schema_lengths.now c.args.schemas.now in
+    let modules = pieces c.args.module_lengths.now c.args.modules.now in
+    let task = answered schemas modules c.args.script.now c.args.row_numbers in
+    shown (IsOutcome task) c.outcome_of_run-outcome.result c.args.room.now c.put.new.room c.put.new.count c.put.result c.code.result
+    (c.outcome_of_run-outcome.ensures schemas modules c.run_texts-given.ensures)
+    c.put.ensures.answer c.put.ensures.room c.put.ensures.count c.code.ensures

@@ -9,6 +9,10 @@ pub(crate) enum Command<'a> {
     /// The lines of a file in the place of those that are typed.
     Read(&'a str),
     List(Listing<'a>),
+    /// Why the last call did not end with 00000.
+    Why,
+    /// Whether notes are written of each call from now on.
+    Trace(bool),
     /// The first state.
     Restart,
     /// A further module, from a file.
@@ -25,6 +29,8 @@ pub(crate) enum Listing<'a> {
     /// The procedures of one module.
     ProceduresOf(&'a str),
     Cursors,
+    /// The rows of the view of this owner and name, with a period between them.
+    View(&'a str),
 }
 
 /// What `.help` prints.
@@ -35,6 +41,9 @@ TABLE U.T;                   shows a base table
 .tables                      the base tables with their columns and how many rows they have, and the views
 .procedures [M]              the procedures, of all modules or of M, with their parameters
 .cursors                     where each cursor stands
+.show U.V                    the rows of a view, as its owner sees them
+.why                         why the last call did not end with 00000
+.trace on, .trace off        notes on each call, as sqmod trace writes them
 .read FILE                   takes what a file has, as if it were typed
 .restart                     goes back to the first state
 .load-module FILE            opens the session anew with a further module, and makes the calls so far again
@@ -65,6 +74,7 @@ fn alone(word: &str) -> Command<'_> {
         ".tables" => Command::List(Listing::Tables),
         ".procedures" => Command::List(Listing::Procedures),
         ".cursors" => Command::List(Listing::Cursors),
+        ".why" => Command::Why,
         _ => Command::Unknown,
     }
 }
@@ -75,6 +85,17 @@ fn with_word<'a>(word: &str, rest: &'a str) -> Command<'a> {
         ".read" => Command::Read(rest),
         ".load-module" => Command::LoadModule(rest),
         ".procedures" => Command::List(Listing::ProceduresOf(rest)),
+        ".show" => Command::List(Listing::View(rest)),
+        ".trace" => switched(rest),
+        _ => Command::Unknown,
+    }
+}
+
+/// A command that turns notes on or off.
+fn switched(word: &str) -> Command<'_> {
+    match word {
+        "on" => Command::Trace(true),
+        "off" => Command::Trace(false),
         _ => Command::Unknown,
     }
 }

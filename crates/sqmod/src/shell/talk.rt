@@ -8,7 +8,7 @@ use crate::texts::Sources;
 use sq_heap::HeapStore;
 use sq_lex::{LexError, lex};
 use sq_run::{Limits, RunFault};
-use sq_show::{Place, Shell, item_size, place_in};
+use sq_show::{Place, Shell, TraceOptions, item_size, place_in};
 use sq_store::MOST_ROW_NUMBERS;
 use std::alloc::{AllocError, Global};
 use std::fmt::Display;
@@ -124,17 +124,16 @@ impl Talk {
         file: &str,
     ) -> Result<(), Fault> {
         let mut report = Vec::new(rt.alloc());
+        let mut notes = Vec::new(rt.alloc());
+        let item = self.item.as_slice();
         let done = self
             .shell
-            .take(rt.alloc(), self.item.as_slice(), &mut report);
+            .take(rt.alloc(), item, &mut report, &mut notes);
         self.item.clear();
         match done {
             Ok(()) => {
                 self.taken = self.taken.saturating_add(1);
-                match rt.write_all(report.as_slice()) {
-                    Ok(()) => Ok(()),
-                    Err(_) => Err(Fault::Output),
-                }
+                write_noted(rt, report.as_slice(), notes.as_slice())
             }
             Err(RunFault::ScriptRefused(refusal)) => {
                 let inside = Place {
@@ -146,6 +145,15 @@ impl Talk {
             }
             Err(fault) => Err(self.stopped(fault)),
         }
+    }
+
+    /// Turns notes on each call on or off.
+    pub(crate) fn trace(&mut self, is_on: bool) {
+        let options = TraceOptions {
+            tables: false,
+            stop: false,
+        };
+        self.shell.trace = if is_on { Some(options) } else { None };
     }
 
     /// What a fault means that is no refusal of what is typed.
@@ -178,7 +186,8 @@ impl Talk {
     /// Goes back to the first state.
     pub(crate) fn restart<R: Eprint + AllocGlobal>(&mut self, rt: &R) -> Result<(), Fault> {
         match self.opened(rt.alloc()) {
-            Ok(shell) => {
+            Ok(mut shell) => {
+                shell.trace = self.shell.trace;
                 self.shell = shell;
                 self.taken = 0;
                 let _ = eprintln!(rt; "the session is as it was before the first call");
@@ -221,8 +230,11 @@ impl Talk {
         mut shell: Shell<HeapStore>,
     ) -> Result<(), Fault> {
         let mut report = Vec::new(rt.alloc());
-        match shell.take(rt.alloc(), self.shell.script.as_slice(), &mut report) {
+        let mut notes = Vec::new(rt.alloc());
+        let script = self.shell.script.as_slice();
+        match shell.take(rt.alloc(), script, &mut report, &mut notes) {
             Ok(()) => {
+                shell.trace = self.shell.trace;
                 self.shell = shell;
                 let taken = self.taken;
                 let _ = eprintln!(rt;
@@ -236,6 +248,14 @@ impl Talk {
             }
         }
     }
+}
+
+/// Writes the lines of an item, and the notes on it.
+fn write_noted<R: Print>(rt: &R, report: &[u8], notes: &[u8]) -> Result<(), Fault> {
+    if rt.write_all(report).is_err() || rt.write_all(notes).is_err() {
+        return Err(Fault::Output);
+    }
+    Ok(())
 }
 
 /// What a part of a line has.

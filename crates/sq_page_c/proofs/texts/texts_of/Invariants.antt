@@ -1,6 +1,6 @@
 use Rattle.std.proofs.Common.{◌≡◌, ◌++◌, drop}
 use Rattle.sq_page_c.specs.Texts.{pieces}
-use Rattle.sq_perform.specs.Texts.{texts}
+use Rattle.sq_run.specs.Texts.{texts}
 use Rattle.sq_page_c.proofs.texts.texts_of.Given as goal
 
 -- the texts so far and those of what is left make all
