@@ -77,15 +77,15 @@ impl<S: Store> Processor<S> {
         self.session.procedure(module, name)
     }
 
-    /// Whether there are as many values as the procedure has parameters, each of which can store its own.
+    /// Whether there are as many values as the procedure has parameters, and each parameter can store its own.
     pub fn fits(&self, procedure: usize, values: &[Value]) -> bool
         ensures { result ≡ takes self.now.program procedure values.now }
     {
         self.session.fits(procedure, values)
     }
 
-    /// Makes one call of the procedure with this number, with these values for its parameters in the order in which they are
-    /// declared. Where memory runs out, nothing was called.
+    /// Makes one call of the procedure with this number, with these values for its parameters in the order in which
+    /// they are declared. If memory runs out, nothing was called.
     pub fn call(
         &mut self,
         alloc: Global,
@@ -106,7 +106,7 @@ impl<S: Store> Processor<S> {
         Ok(reply)
     }
 
-    /// Why each call of a procedure answers 42000, where its statement has a fault.
+    /// The fault for which each call of a procedure answers 42000, if its statement has one.
     pub fn fault(&self, procedure: usize) -> Option<Fault>
         ensures { is_some result ≡ has_fault self.now.program procedure }
     {
@@ -120,8 +120,8 @@ impl<S: Store> Processor<S> {
         &self.session
     }
 
-    /// The rows of the base table of this owner and name as they are now, with their numbers; `None` where there is no such
-    /// base table.
+    /// The rows of the base table of this owner and name as they are now, with their numbers; `None` if there is no
+    /// such base table.
     pub fn rows(&self, user: Name, name: Name) -> Option<TableRows<'_, S>>
         ensures { result ≡ rows_of self.now user name }
     {
