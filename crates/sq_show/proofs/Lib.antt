@@ -1,7 +1,14 @@
 pub mod Adding
+pub mod AlwaysFound
 pub mod Breaches
 pub mod Causes
 pub mod Continued
+pub mod CursorFound
+pub mod Finding
 pub mod Lexed
+pub mod Noted
+pub mod NullsBefore
 pub mod OfChange
+pub mod OfTargets
 pub mod SoFar
+pub mod Worded

@@ -15,6 +15,8 @@ mod call_words;
 mod cause;
 mod changes;
 mod changing;
+mod clause;
+mod clause_words;
 mod constraint;
 mod cursor;
 mod cursors;
@@ -25,27 +27,34 @@ mod listing;
 mod look;
 mod made;
 mod mark;
+mod no_row;
 mod notes;
 mod option_breach;
 mod option_words;
 mod page;
 mod place;
 mod put;
+mod query_rows;
+mod query_value;
 mod reference_breach;
 mod row_breach;
 mod select;
+mod set_value;
 mod shell;
 mod table;
 mod target;
+mod target_end;
 mod template;
 mod told;
+mod touched;
 mod trace;
 mod value;
 mod value_words;
 mod words;
 
 pub use cause::{
-    Breach, Cause, CursorCause, ItemFault, OptionBreach, Referring, RowPut, ValueCause, ValueFault,
+    Breach, Cause, Clause, ClauseCause, CursorCause, Given, ItemFault, NoRowCause, OptionBreach,
+    Referring, RowPut, ValueCause, ValueFault,
 };
 pub use item::item_size;
 pub use listing::{write_cursors, write_procedures, write_procedures_of, write_tables};
