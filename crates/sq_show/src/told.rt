@@ -35,7 +35,8 @@ use std::alloc::{AllocError, Global};
 /// procedure and values.
 ///
 /// What the cause says is true of the session as it is, and its status is that of the reply. Where no cause can be told, it is the
-/// general one, which says no more than the status.
+/// general one, which says no more than the status. If values fit the procedure, it is so only if no fault of the statement and
+/// no cause of its cursor holds that has the status.
 #[tactic(auto, using(crate::proofs::Causes::kept_cause, crate::proofs::AlwaysFound::left_of))]
 pub fn why<S: Store>(
     alloc: Global,
