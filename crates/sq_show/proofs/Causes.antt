@@ -30,6 +30,9 @@ close_cause s n vs ws state (cause.CheckOption table b) h = let there = h.leaf_i
 close_cause s n vs ws state (cause.Value v) h = absurd h
 close_cause s n vs ws state (cause.Target t) h = absurd h
 close_cause s n vs ws state (cause.Select c) h = absurd h
+close_cause s n vs ws state (cause.NoRow c) h = absurd h
+close_cause s n vs ws state (cause.NoNumber table) h = absurd h
+close_cause s n vs ws state (cause.Clause c) h = absurd h
 close_cause s n vs ws state (cause.General st) h = tt
 
 commit_cause : (s : Schemas) (vs ws : List Value) (state : State) (c : Cause) → IsStatementCause s (Kind.commits) vs state c → IsStatementCause s (Kind.commits) ws state c
@@ -40,6 +43,9 @@ commit_cause s vs ws state (cause.CheckOption table b) h = let there = h.leaf_is
 commit_cause s vs ws state (cause.Value v) h = absurd h
 commit_cause s vs ws state (cause.Target t) h = absurd h
 commit_cause s vs ws state (cause.Select c) h = absurd h
+commit_cause s vs ws state (cause.NoRow c) h = absurd h
+commit_cause s vs ws state (cause.NoNumber table) h = absurd h
+commit_cause s vs ws state (cause.Clause c) h = absurd h
 commit_cause s vs ws state (cause.General st) h = tt
 
 rollback_cause : (s : Schemas) (vs ws : List Value) (state : State) (c : Cause) → IsStatementCause s (Kind.rolls_back) vs state c → IsStatementCause s (Kind.rolls_back) ws state c
@@ -50,6 +56,9 @@ rollback_cause s vs ws state (cause.CheckOption table b) h = let there = h.leaf_
 rollback_cause s vs ws state (cause.Value v) h = absurd h
 rollback_cause s vs ws state (cause.Target t) h = absurd h
 rollback_cause s vs ws state (cause.Select c) h = absurd h
+rollback_cause s vs ws state (cause.NoRow c) h = absurd h
+rollback_cause s vs ws state (cause.NoNumber table) h = absurd h
+rollback_cause s vs ws state (cause.Clause c) h = absurd h
 rollback_cause s vs ws state (cause.General st) h = tt
 
 of_update : (u : Updating) (t : ChangeTarget) → read_parameters (update_kind u t) ≡ u.caller.parameters
@@ -93,6 +102,9 @@ one_of_call s n vs k (cause.CheckOption table b) at h = record { kind = k; at = 
 one_of_call s n vs k (cause.Value v) at h = record { kind = k; at = at; cause = h }
 one_of_call s n vs k (cause.Target t) at h = record { kind = k; at = at; cause = h }
 one_of_call s n vs k (cause.Select c) at h = record { kind = k; at = at; cause = h }
+one_of_call s n vs k (cause.NoRow c) at h = record { kind = k; at = at; cause = h }
+one_of_call s n vs k (cause.NoNumber table) at h = record { kind = k; at = at; cause = h }
+one_of_call s n vs k (cause.Clause c) at h = record { kind = k; at = at; cause = h }
 one_of_call s n vs k (cause.General st) at h = tt
 
 pub of_call : (s : Session) (n : ℕ) (vs : List Value) (k : Kind) (r : Result (Option Cause) AllocError) → kind_at s.procedures n ≡ Some k

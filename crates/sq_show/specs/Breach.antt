@@ -1,6 +1,6 @@
 -- Constraints that would not hold if a statement made its changes (ISO/IEC 9075:1992, 4.10, 11.4, 11.7 to 11.9, 11.19). Rows that it would put
 -- in its table are named by the place of their change, from 0.
-use Rattle.std.specs.Prelude.{◌≡◌, ℕ, Bool, true, false, not, ◌&&◌, List, nat_eq, slice_get, if◌then◌else◌, Option, Some, None}
+use Rattle.std.specs.Prelude.{◌≡◌, ◌<◌, ℕ, Bool, true, false, not, ◌&&◌, List, nat_eq, slice_get, if◌then◌else◌, Option, Some, None}
 use Rattle.std.specs.List.{list_any}
 use Rattle.std.specs.Option.{option_map_or}
 use Rattle.std.specs.Cmp.Lexicographic.{pointwise}
@@ -49,11 +49,25 @@ lacks_value t row column =
     option_map_or (λ c. c.not_null) (slice_get t.columns column) false
     && option_map_or is_null (slice_get row column) false
 
--- the row that is put in is null in the column
+-- no column before this one is null in the row that may not be
+abbrev pub LacksNoneBefore : BaseTable → List Value → ℕ → Type 0
+LacksNoneBefore t row column = (n : ℕ) → n < column → lacks_value t row n ≡ false
+
+abbrev pub LacksNone : BaseTable → List Value → Type 0
+LacksNone t row = (n : ℕ) → lacks_value t row n ≡ false
+
+-- no row that a change before this place puts in is null where it may not be
+abbrev pub LackNoneBefore : BaseTable → List Change → ℕ → Type 0
+LackNoneBefore t changes place =
+    (put : RowPut) (row : List Value) → put.place < place → IsPut changes put row → LacksNone t row
+
+-- the row that is put in is null in the column, and none is so before: neither this row in an earlier column, nor an earlier row
 pub record IsNullPut (t : BaseTable) (changes : List Change) (put : RowPut) (column : ℕ) : Type 0 where
   pub row : List Value
   pub is_put : IsPut changes put row
   pub lacks : lacks_value t row column ≡ true
+  pub columns : LacksNoneBefore t row column
+  pub rows : LackNoneBefore t changes put.place
 
 -- ---- keys (11.7)
 

@@ -16,7 +16,7 @@ use Rattle.sq_session.specs.Kind.{Kind}
 use Rattle.sq_session.specs.Schemas.{Schemas, columns_of}
 use Rattle.sq_session.specs.State.{State}
 use Rattle.sq_lex.specs.declared.name.Name.{Name}
-use Rattle.sq_show.specs.Breach.{IsBetween, IsNullPut, IsPut}
+use Rattle.sq_show.specs.Breach.{IsBetween, IsNullPut, IsPut, LackNoneBefore, LacksNone}
 use Rattle.sq_show.specs.declared.cause.Breach.{Breach}
 use Rattle.sq_show.specs.declared.cause.Breach.TheVariants as breach
 use Rattle.sq_show.specs.declared.cause.RowPut.{RowPut}
@@ -35,10 +35,13 @@ pub record IsFalseOf (s : Schemas) (seen : Seen) (t : BaseTable) (row : List Val
   pub at : slice_get t.checks check ≡ Some condition
   pub is_false : HasTruth s seen row condition truth.False
 
+-- so it is of a row that is put in, and neither this row nor an earlier one is null where it may not be
 pub record IsFalseCheck (s : Schemas) (seen : Seen) (t : BaseTable) (changes : List Change) (put : RowPut) (check : ℕ) : Type 0 where
   pub row : List Value
   pub is_put : IsPut changes put row
   pub of_row : IsFalseOf s seen t row check
+  pub whole : LacksNone t row
+  pub rows : LackNoneBefore t changes put.place
 
 -- a row that is put in does not meet NOT NULL or a CHECK
 abbrev pub IsRowBreach : Schemas → Seen → BaseTable → List Change → Breach → Type 0

@@ -14,12 +14,15 @@ use Rattle.sq_session.specs.Schemas.{Schemas}
 use Rattle.sq_session.specs.Session.{Session}
 use Rattle.sq_session.specs.State.{State}
 use Rattle.sq_show.specs.Broken.{IsBroken, seen_of}
+use Rattle.sq_show.specs.Clause.{IsClauseCause}
 use Rattle.sq_show.specs.Cursor.{IsCursorCause}
 use Rattle.sq_show.specs.Made.{IsMade, leaf_of}
+use Rattle.sq_show.specs.NoRow.{IsNoNumberCause, IsNoRowCause}
 use Rattle.sq_show.specs.Option.{IsOptionBreach}
 use Rattle.sq_show.specs.Select.{IsSelectCause, status_of_select}
 use Rattle.sq_show.specs.Target.{IsTargetCause, status_of_target}
-use Rattle.sq_show.specs.Value.{IsValueCause, status_of_value}
+use Rattle.sq_show.specs.Value.{IsValueCause}
+use Rattle.sq_show.specs.ValueFault.{status_of_value}
 use Rattle.sq_show.specs.declared.cause.Cause.{Cause}
 use Rattle.sq_show.specs.declared.cause.Cause.TheVariants as cause
 
@@ -32,6 +35,9 @@ status_of (cause.CheckOption table b) = status.CheckOptionViolation
 status_of (cause.Value v) = status_of_value v.fault
 status_of (cause.Target t) = status_of_target t.fault
 status_of (cause.Select c) = status_of_select c
+status_of (cause.NoRow c) = status.NoData
+status_of (cause.NoNumber table) = status.NoRowNumberLeft
+status_of (cause.Clause c) = c.status
 status_of (cause.General st) = st
 
 -- ---- of changes that are made in the base table of a leaf; these are the columns of the keys of all tables
@@ -59,9 +65,12 @@ IsStatementCause s k values state (cause.Cursor c) = IsCursorCause k state.curso
 IsStatementCause s k values state (cause.Breach table b) = ChangeCause s k values state (cause.Breach table b)
 IsStatementCause s k values state (cause.CheckOption table b) =
     ChangeCause s k values state (cause.CheckOption table b)
-IsStatementCause s k values state (cause.Value v) = IsValueCause k values v
+IsStatementCause s k values state (cause.Value v) = IsValueCause s k values state v
 IsStatementCause s k values state (cause.Target t) = IsTargetCause k state.cursors state.tables t
 IsStatementCause s k values state (cause.Select c) = IsSelectCause s k values state.tables c
+IsStatementCause s k values state (cause.NoRow c) = IsNoRowCause s k values state c
+IsStatementCause s k values state (cause.NoNumber table) = IsNoNumberCause s k values state table
+IsStatementCause s k values state (cause.Clause c) = IsClauseCause s k values state c
 IsStatementCause s k values state (cause.General st) = ⊤
 
 -- the procedure has a statement without a fault, of which this is a cause
@@ -81,4 +90,7 @@ IsCause s procedure values (cause.CheckOption table b) = HasCause s procedure va
 IsCause s procedure values (cause.Value v) = HasCause s procedure values (cause.Value v)
 IsCause s procedure values (cause.Target t) = HasCause s procedure values (cause.Target t)
 IsCause s procedure values (cause.Select c) = HasCause s procedure values (cause.Select c)
+IsCause s procedure values (cause.NoRow c) = HasCause s procedure values (cause.NoRow c)
+IsCause s procedure values (cause.NoNumber table) = HasCause s procedure values (cause.NoNumber table)
+IsCause s procedure values (cause.Clause c) = HasCause s procedure values (cause.Clause c)
 IsCause s procedure values (cause.General st) = ⊤

@@ -7,7 +7,7 @@ use Rattle.sq_meaning.specs.declared.status.Status.{Status}
 use Rattle.sq_meaning.specs.declared.status.Status.TheVariants as status
 use Rattle.sq_session.specs.Kind.{Kind, Selecting}
 use Rattle.sq_session.specs.Schemas.{Schemas}
-use Rattle.sq_session.specs.Step.{SelectIsMeant}
+use Rattle.sq_show.specs.Query.{HasRows}
 use Rattle.sq_show.specs.Target.{IsRowFault, status_of_target}
 use Rattle.sq_show.specs.declared.cause.SelectCause.{SelectCause}
 use Rattle.sq_show.specs.declared.cause.SelectCause.TheVariants as cause
@@ -32,7 +32,7 @@ IsOfRows s found (cause.Target t) = IsOnlyRowFault s found t
 -- so it is with the rows of the query
 pub record IsOfQuery (schemas : Schemas) (s : Selecting) (values : List Value) (tables : Content) (c : SelectCause) : Type 0 where
   pub found : List (List Value)
-  pub meant : SelectIsMeant schemas s values tables (Ok found)
+  pub meant : HasRows schemas s.user values tables s.query (Ok found)
   pub of_rows : IsOfRows s found c
 
 abbrev pub IsSelectCause : Schemas → Kind → List Value → Content → SelectCause → Type 0

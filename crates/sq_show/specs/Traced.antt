@@ -12,6 +12,7 @@ use Rattle.sq_perform.specs.declared.action.Action.{Action}
 use Rattle.sq_perform.specs.declared.action.Action.TheVariants.{Call, Show}
 use Rattle.sq_perform.specs.declared.action.CallAction.{CallAction}
 use Rattle.sq_show.specs.Mark.{marked}
+use Rattle.sq_show.specs.Notes.{Notes}
 use Rattle.sq_show.specs.declared.trace.TraceFault.{TraceFault}
 use Rattle.sq_show.specs.declared.trace.TraceFault.TheVariants.{NoMemory, Output}
 
@@ -35,12 +36,13 @@ shown p = p.lines ++ marked true p.notes
 abbrev pub left : Part → Bytes
 left p = p.lines
 
--- What is written of a call: its line in the report, and notes; and whether it failed.
+-- What is written of a call: its line in the report, and notes, which say why it did not end with 00000; and whether it failed.
 pub record ToldCall (c : CallAction) (s : Session) (lines : Bytes) (t : Session)
     (failed : Bool) : Type 0 where
   pub reply : Reply
   pub answered : Answered s c reply t
   pub notes : Bytes
+  pub say : Notes c t reply.status notes
   pub written : lines ≡ call_line (call_of c) (told reply) ++ marked true notes
   pub fails_so : failed ≡ fails reply.status
 

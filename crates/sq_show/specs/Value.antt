@@ -1,46 +1,23 @@
--- A value that a statement would give a column: its expression ends with a status, or the column can't store it (ISO/IEC 9075:1992, 9.2 and 13.8).
-use Rattle.std.specs.Prelude.{◌≡◌, List, [], slice_get, Some, Ok, Err}
+-- A value that a statement would give a column: its expression ends with a status, or the column can't store it (ISO/IEC 9075:1992, 9.2 and 13.8
+-- to 13.10).
+use Rattle.std.specs.Prelude.{◌≡◌, ◌⊎◌, List, [], slice_get, Some, None}
 use Rattle.sq_lex.specs.declared.name.Name.{Name}
-use Rattle.sq_value.specs.declared.domain.Domain.{Domain}
 use Rattle.sq_value.specs.declared.value.Value.{Value}
-use Rattle.sq_meaning.specs.Assignment.{assigned}
-use Rattle.sq_meaning.specs.Environment.{Line, Row}
-use Rattle.sq_meaning.specs.Expression as meaning
-use Rattle.sq_meaning.specs.Placed.{by_place}
-use Rattle.sq_meaning.specs.Status.{Outcome}
-use Rattle.sq_meaning.specs.declared.status.Status.{Status}
-use Rattle.sq_bound.specs.Expression.{expr_of}
-use Rattle.sq_bound.specs.declared.condition.TablePlace.{TablePlace}
+use Rattle.sq_store.specs.Content.{Content}
 use Rattle.sq_bound.specs.declared.expression.BoundExpr.{BoundExpr}
 use Rattle.sq_bound.specs.declared.names.ObjectColumn.{ObjectColumn}
 use Rattle.sq_bound.specs.declared.statement.BoundInsert.{BoundInsert}
 use Rattle.sq_bound.specs.declared.statement.InsertedRows.TheVariants as source
-use Rattle.sq_query.specs.Row.{outside}
 use Rattle.sq_session.specs.Kind.{Kind}
+use Rattle.sq_session.specs.Schemas.{Schemas}
+use Rattle.sq_session.specs.State.{State}
+use Rattle.sq_session.specs.Step.{on_row, seen_in}
+use Rattle.sq_show.specs.QueryValue.{IsQueriedFault}
+use Rattle.sq_show.specs.SetValue.{IsSetFault}
+use Rattle.sq_show.specs.ValueFault.{IsValueFault}
+use Rattle.sq_show.specs.declared.cause.Given.TheVariants as given
 use Rattle.sq_show.specs.declared.cause.ItemFault.{ItemFault}
 use Rattle.sq_show.specs.declared.cause.ValueCause.{ValueCause}
-use Rattle.sq_show.specs.declared.cause.ValueFault.{ValueFault}
-use Rattle.sq_show.specs.declared.cause.ValueFault.TheVariants as fault
-
-abbrev pub status_of_value : ValueFault → Status
-status_of_value (fault.Ends st) = st
-status_of_value (fault.Unfit st) = st
-
--- what an expression comes to on a line, for this user and with these values of the parameters; it reads no table, so they may be any
-abbrev pub ComesTo : Outcome Value → BoundExpr → Line → List Value → Name → Type 0
-ComesTo o e line parameters user =
-    (tables : TablePlace → Outcome (List Row))
-    → meaning.value (by_place tables) (expr_of [] e) (outside line parameters user) ≡ o
-
--- the expression has this value, and a column of the domain can't store it
-pub record IsUnfit (d : Domain) (e : BoundExpr) (line : Line) (parameters : List Value) (user : Name) (st : Status) : Type 0 where
-  pub value : Value
-  pub comes : ComesTo (Ok value) e line parameters user
-  pub unfit : assigned d value ≡ Err st
-
-abbrev pub IsValueFault : Domain → BoundExpr → Line → List Value → Name → ValueFault → Type 0
-IsValueFault d e line parameters user (fault.Ends st) = ComesTo (Err st) e line parameters user
-IsValueFault d e line parameters user (fault.Unfit st) = IsUnfit d e line parameters user st
 
 -- so it is with the value at a place of VALUES, for the column at the same place
 pub record IsItemFault (columns : List ObjectColumn) (es : List BoundExpr) (parameters : List Value) (user : Name) (f : ItemFault) : Type 0 where
@@ -54,10 +31,21 @@ pub record IsItemFault (columns : List ObjectColumn) (es : List BoundExpr) (para
 -- an insert statement whose values are those of VALUES
 pub record IsInsertedFault (i : BoundInsert) (parameters : List Value) (user : Name) (c : ValueCause) : Type 0 where
   pub table : c.table ≡ i.leaf.table.place
+  pub given : c.given ≡ given.InValues
   pub values : List BoundExpr
   pub are : i.source ≡ source.Values values
   pub item : IsItemFault i.columns values parameters user (record { item = c.item; column = c.column; fault = c.fault })
 
-abbrev pub IsValueCause : Kind → List Value → ValueCause → Type 0
-IsValueCause (Kind.inserts caller i) values c = IsInsertedFault i values caller.user c
-IsValueCause _ values c = ⊥
+-- the values of an insert statement are those of VALUES, or of a query
+abbrev pub IsInsertFault : Schemas → BoundInsert → List Value → Name → Content → ValueCause → Type 0
+IsInsertFault s i parameters user tables c =
+    IsInsertedFault i parameters user c ⊎ IsQueriedFault s i parameters user tables c
+
+abbrev pub IsValueCause : Schemas → Kind → List Value → State → ValueCause → Type 0
+IsValueCause s (Kind.inserts caller i) values state c =
+    IsInsertFault s i values caller.user state.tables c
+IsValueCause s (Kind.updates u) values state c =
+    IsSetFault (seen_in s u.caller values state.tables) u.statement None c
+IsValueCause s (Kind.updates_at u p) values state c =
+    IsSetFault (seen_in s u.caller values state.tables) u.statement (on_row state p) c
+IsValueCause s _ values state c = ⊥

@@ -4,7 +4,7 @@ ghost use Rattle.std.specs.Prelude.{◌≡◌};
 ghost use Rattle.sq_show.specs.Cause.{status_of};
 ghost use Rattle.sq_show.specs.Select.{status_of_select};
 ghost use Rattle.sq_show.specs.Target.{status_of_target};
-ghost use Rattle.sq_show.specs.Value.{status_of_value};
+ghost use Rattle.sq_show.specs.ValueFault.{status_of_value};
 
 use sq_lex::Name;
 use sq_meaning::Status;
@@ -27,6 +27,12 @@ pub enum Cause {
     Target(TargetCause),
     /// A SELECT INTO sets no target, or only a part of one.
     Select(SelectCause),
+    /// The statement comes to no row.
+    NoRow(NoRowCause),
+    /// Too few row numbers are left for the new rows of the base table at this place.
+    NoNumber(usize),
+    /// A condition ends with a status on a row.
+    Clause(ClauseCause),
     /// The status alone.
     General(Status),
 }
@@ -70,12 +76,24 @@ pub struct ValueCause {
     /// The place of the base table.
     pub table: usize,
     pub column: usize,
-    /// The place of the value among those of VALUES, from 0.
+    /// The place of the value, from 0: among those of VALUES, among the set clauses, or in the row of the query.
     pub item: usize,
+    pub given: Given,
     pub fault: ValueFault,
 }
 
-/// A faulty value among those of VALUES, and its column.
+/// By what a value is given.
+#[derive(Clone, Copy)]
+pub enum Given {
+    /// VALUES of an insert statement.
+    InValues,
+    /// A set clause, for the row of the base table under this number.
+    InSet(u64),
+    /// The query of an insert statement: its row at this place, from 0.
+    InQuery(usize),
+}
+
+/// A faulty value among others, and its column.
 #[derive(Clone, Copy)]
 pub struct ItemFault {
     pub item: usize,
@@ -180,6 +198,37 @@ pub enum CursorCause {
     RowIsGone(usize, u64),
 }
 
+/// Which statement comes to no row.
+#[derive(Clone, Copy)]
+pub enum NoRowCause {
+    /// FETCH: the cursor with this number is on none of its rows.
+    Fetched(usize),
+    /// UPDATE or DELETE: no row of the base table at this place meets the condition.
+    Chosen(usize),
+    /// INSERT: its query has no row.
+    Given,
+}
+
+/// A condition that ends with a status on a row of a base table.
+#[derive(Clone, Copy)]
+pub struct ClauseCause {
+    /// The place of the base table.
+    pub table: usize,
+    /// The number of the row.
+    pub number: u64,
+    pub clause: Clause,
+    pub status: Status,
+}
+
+/// A condition on rows.
+#[derive(Clone, Copy)]
+pub enum Clause {
+    /// The condition of the view at this level over the base table, counted from 0 and from inside out.
+    View(usize),
+    /// WHERE of the statement or of the cursor's query.
+    Where,
+}
+
 impl Cause {
     /// The status with which the call ended.
     pub fn status(&self) -> Status
@@ -193,6 +242,9 @@ impl Cause {
             Cause::Value(value) => value.fault.status(),
             Cause::Target(target) => target.fault.status(),
             Cause::Select(select) => select.status(),
+            Cause::NoRow(_) => Status::NoData,
+            Cause::NoNumber(_) => Status::NoRowNumberLeft,
+            Cause::Clause(clause) => clause.status,
             Cause::General(status) => *status,
         }
     }

@@ -1,6 +1,6 @@
 //! Why a statement can't use its cursor (ISO/IEC 9075:1992, 13.2 to 13.4, 13.6 and 13.9).
 
-ghost use Rattle.std.specs.Prelude.{◌≡◌, IfSome, false, true};
+ghost use Rattle.std.specs.Prelude.{◌≡◌, IfSome, IsSome, false, true};
 ghost use Rattle.sq_session.specs.Called.{kind_for};
 ghost use Rattle.sq_session.specs.State.{is_open};
 ghost use Rattle.sq_show.specs.Cursor.{IsClosedCause, IsCursorCause, IsGone, IsOpenCause, IsPositionCause, IsTargetCause, is_open_at};
@@ -17,8 +17,11 @@ pub(crate) fn cursor_cause<S: Store>(
     cursors: &[CursorState],
     store: &S,
 ) -> Option<CursorCause>
-    ensures { IfSome result
+    ensures is { IfSome result
         (IsCursorCause (kind_for called.now statement.now) cursors.now (S.content_now store.now)) }
+    ensures found { (cause : CursorCause)
+        → IsCursorCause (kind_for called.now statement.now) cursors.now (S.content_now store.now) cause
+        → IsSome result }
 {
     match statement {
         BoundStatement::Open(cursor) => open_cause(*cursor, cursors),
@@ -34,9 +37,10 @@ pub(crate) fn cursor_cause<S: Store>(
 }
 
 /// OPEN of a cursor that is open.
+#[tactic(auto, using(crate::proofs::CursorFound::open_one))]
 fn open_cause(cursor: usize, cursors: &[CursorState]) -> Option<CursorCause>
-    ensures { IfSome result
-        (IsOpenCause cursor cursors.now) }
+    ensures is { IfSome result (IsOpenCause cursor cursors.now) }
+    ensures found { (cause : CursorCause) → IsOpenCause cursor cursors.now cause → IsSome result }
 {
     if is_open_at(cursors, cursor) {
         Some(CursorCause::IsOpen(cursor))
@@ -46,9 +50,10 @@ fn open_cause(cursor: usize, cursors: &[CursorState]) -> Option<CursorCause>
 }
 
 /// FETCH or CLOSE of a cursor that is closed.
+#[tactic(auto, using(crate::proofs::CursorFound::closed_one))]
 fn closed_cause(cursor: usize, cursors: &[CursorState]) -> Option<CursorCause>
-    ensures { IfSome result
-        (IsClosedCause cursor cursors.now) }
+    ensures is { IfSome result (IsClosedCause cursor cursors.now) }
+    ensures found { (cause : CursorCause) → IsClosedCause cursor cursors.now cause → IsSome result }
 {
     if is_open_at(cursors, cursor) {
         None
@@ -81,7 +86,9 @@ fn target_cause<S: Store>(
     cursors: &[CursorState],
     store: &S,
 ) -> Option<CursorCause>
-    ensures { IfSome result (IsTargetCause target.now cursors.now (S.content_now store.now)) }
+    ensures is { IfSome result (IsTargetCause target.now cursors.now (S.content_now store.now)) }
+    ensures found { (cause : CursorCause) → IsTargetCause target.now cursors.now (S.content_now store.now) cause
+        → IsSome result }
 {
     match target {
         ChangeTarget::Searched(_) => None,
@@ -95,10 +102,14 @@ fn position_cause<S: Store>(
     cursors: &[CursorState],
     store: &S,
 ) -> Option<CursorCause>
-    ensures { IfSome result (IsPositionCause positioned.now cursors.now (S.content_now store.now)) }
+    ensures is { IfSome result (IsPositionCause positioned.now cursors.now (S.content_now store.now)) }
+    ensures found { (cause : CursorCause)
+        → IsPositionCause positioned.now cursors.now (S.content_now store.now) cause → IsSome result }
 {
     let cursor = positioned.cursor;
-    let state = cursors.get(cursor)?;
+    let Some(state) = cursors.get(cursor) else {
+        return Some(CursorCause::IsClosed(cursor));
+    };
     if !is_open(state) {
         return Some(CursorCause::IsClosed(cursor));
     }
@@ -114,9 +125,10 @@ fn gone_cause<S: Store>(
     number: u64,
     store: &S,
 ) -> Option<CursorCause>
-    ensures { IfSome result
+    ensures is { IfSome result
         (λ cause. (cause ≡ CursorCause.RowIsGone positioned.now.cursor number)
         × IsGone (S.content_now store.now) positioned.now.base number) }
+    ensures found { IsGone (S.content_now store.now) positioned.now.base number → IsSome result }
 {
     if positioned.base >= store.table_count() {
         return None;

@@ -3,7 +3,7 @@
 //! - Why a call did not end with 00000: the constraint and the row, the cursor and where it stands, the fault of the statement. A call
 //!   that fails changes no table, and a FETCH that fails stays on the row that it reached. So a cause is found anew, after the call,
 //!   from the session as it is then: calls pay nothing for it. What a cause says is a definition (`specs/Cause.antt`); that it is
-//!   the first of several is not promised.
+//!   the first of several is promised of NOT NULL alone.
 //! - A trace: to the lines of the report come lines that say what each call was, why it failed, what it changed and where its
 //!   cursor stands. These begin with two blanks and `--`, and the report is what is left without them. And a page that steps through a run.
 //! - A shell: where an item ends that is typed, what a session does with one after the other, and what the session has.
@@ -15,6 +15,8 @@ mod call_words;
 mod cause;
 mod changes;
 mod changing;
+mod clause;
+mod clause_words;
 mod constraint;
 mod cursor;
 mod cursors;
@@ -26,20 +28,26 @@ mod listing;
 mod look;
 mod made;
 mod mark;
+mod no_row;
 mod notes;
 mod option_breach;
 mod option_words;
 mod page;
 mod place;
 mod put;
+mod query_rows;
+mod query_value;
 mod reference_breach;
 mod row_breach;
 mod select;
+mod set_value;
 mod shell;
 mod table;
 mod target;
+mod target_end;
 mod template;
 mod told;
+mod touched;
 mod trace;
 mod value;
 mod value_words;
@@ -47,7 +55,8 @@ mod view;
 mod words;
 
 pub use cause::{
-    Breach, Cause, CursorCause, ItemFault, OptionBreach, Referring, RowPut, ValueCause, ValueFault,
+    Breach, Cause, Clause, ClauseCause, CursorCause, Given, ItemFault, NoRowCause, OptionBreach,
+    Referring, RowPut, ValueCause, ValueFault,
 };
 pub use item::item_size;
 pub use last::LastCall;

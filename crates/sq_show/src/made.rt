@@ -138,7 +138,7 @@ fn removals<S: Store>(
 
 /// The number of the row that a positioned statement means, and `None` for a searched one; nothing where the cursor is not on
 /// a row that is there.
-fn number_meant<S: Store>(
+pub(crate) fn number_meant<S: Store>(
     target: &ChangeTarget,
     cursors: &[CursorState],
     store: &S,

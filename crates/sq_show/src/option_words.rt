@@ -28,7 +28,7 @@ pub(crate) fn write_option<S: Store>(
 }
 
 /// The view whose condition is at this level over a base table, if there is only one.
-fn only_view(catalog: &Catalog, place: usize, level: usize) -> Option<&TableDesc> {
+pub(crate) fn only_view(catalog: &Catalog, place: usize, level: usize) -> Option<&TableDesc> {
     let mut only = None;
     for view in 0..1000 {
         if let Some(table) = catalog.at(TablePlace::View(view)) {

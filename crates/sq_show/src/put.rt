@@ -1,7 +1,8 @@
 //! The rows that the changes of a statement put in a table, and those that they take away.
 
-ghost use Rattle.std.specs.Prelude.{◌≡◌, IfOk, IfSome};
+ghost use Rattle.std.specs.Prelude.{◌≡◌, ◌≢◌, IfOk, IfSome, List, None};
 ghost use Rattle.std.specs.List.{list_any};
+ghost use Rattle.sq_value.specs.declared.value.Value.{Value as AnyValue};
 ghost use Rattle.sq_store.specs.Keys.{has_columns};
 ghost use Rattle.sq_show.specs.Breach.{IsPut, has_values, is_touched, key_in, puts, touches};
 
@@ -13,7 +14,9 @@ use std::alloc::{AllocError, Global};
 
 /// The row that the change at a place puts in, if it puts in one.
 pub(crate) fn put_at(changes: &[Change], place: usize) -> Option<(RowPut, &Row)>
-    ensures { IfSome result (λ put. IsPut changes.now put.0 put.1.now) }
+    ensures is { IfSome result (λ put. (put.0.place ≡ place) × IsPut changes.now put.0 put.1.now) }
+    ensures none { (result ≡ None) → (put : RowPut) (row : List AnyValue) → IsPut changes.now put row
+        → put.place ≢ place }
 {
     match changes.get(place)? {
         Change::Insert(row) => Some((

@@ -1,12 +1,12 @@
 //! NOT NULL and CHECK, of the rows that a statement would put in a table (ISO/IEC 9075:1992, 11.4, 11.9).
 
-ghost use Rattle.std.specs.Prelude.{◌≡◌, IfOk, IfSome, IsTrue, true};
+ghost use Rattle.std.specs.Prelude.{◌≡◌, ◌+◌, IfOk, IfSome, IsTrue, None, true};
 ghost use Rattle.sq_catalog.specs.Catalog.{column_kinds};
 ghost use Rattle.sq_change.specs.Made.{seen_by};
 ghost use Rattle.sq_query.specs.Needed.{FindsCond, FindsConds};
 ghost use Rattle.sq_session.specs.Schemas.{schemas_of};
 ghost use Rattle.sq_value.specs.declared.truth.Truth.TheVariants.{False};
-ghost use Rattle.sq_show.specs.Breach.{IsPut, lacks_value};
+ghost use Rattle.sq_show.specs.Breach.{IsPut, LackNoneBefore, LacksNone, LacksNoneBefore, lacks_value};
 ghost use Rattle.sq_show.specs.Broken.{HasTruth, IsFalseOf, IsRowBreach};
 
 use crate::cause::{Breach, RowPut};
@@ -31,13 +31,32 @@ pub(crate) fn row_breach<S: Store>(
         setting.now.parameters.now) table.now changes.now)) }
 {
     for place in 0..changes.len() {
-        if let Some((put, row)) = put_at(changes, place) {
-            if let Some(breach) = breach_of_row(setting, table, changes, put, row)? {
-                return Ok(Some(breach));
-            }
+        if let Some(breach) = breach_at(setting, table, changes, place)? {
+            return Ok(Some(breach));
         }
     }
     Ok(None)
+}
+
+/// What the row that the change at a place puts in does not meet.
+#[tactic(auto, using(crate::proofs::NullsBefore::before_at, crate::proofs::NullsBefore::if_more, crate::proofs::NullsBefore::without_row))]
+fn breach_at<S: Store>(
+    setting: &Setting<'_, Catalog, S>,
+    table: &BaseTable,
+    changes: &[Change],
+    place: usize,
+) -> Result<Option<Breach>, AllocError>
+    requires finds { FindsConds setting.now.names.now.bases (column_kinds setting.now.names.now) table.now.checks }
+    requires before { LackNoneBefore table.now changes.now place }
+    ensures more { IfOk result (λ found. (found ≡ None) → LackNoneBefore table.now changes.now (place + 1)) }
+    ensures is { IfOk result (λ found. IfSome found (IsRowBreach (schemas_of setting.now.names.now)
+        (seen_by setting.now.names.now.views (S.content_now setting.now.store.now) setting.now.user
+        setting.now.parameters.now) table.now changes.now)) }
+{
+    match put_at(changes, place) {
+        Some((put, row)) => breach_of_row(setting, table, changes, put, row),
+        None => Ok(None),
+    }
 }
 
 /// NOT NULL, and then each CHECK in the order of the text.
@@ -50,7 +69,9 @@ fn breach_of_row<S: Store>(
 ) -> Result<Option<Breach>, AllocError>
     requires finds { FindsConds setting.now.names.now.bases (column_kinds setting.now.names.now) table.now.checks }
     requires put { IsPut changes.now put row.now }
-    ensures { IfOk result (λ found. IfSome found (IsRowBreach (schemas_of setting.now.names.now)
+    requires before { LackNoneBefore table.now changes.now put.place }
+    ensures lacks { IfOk result (λ found. (found ≡ None) → LacksNone table.now row.now) }
+    ensures is { IfOk result (λ found. IfSome found (IsRowBreach (schemas_of setting.now.names.now)
         (seen_by setting.now.names.now.views (S.content_now setting.now.store.now) setting.now.user
         setting.now.parameters.now) table.now changes.now)) }
 {
@@ -103,7 +124,9 @@ fn is_false<S: Store>(
 
 /// The first column that is null in a row and may not be.
 pub(crate) fn column_lacking(table: &BaseTable, row: &[Value]) -> Option<usize>
-    ensures { IfSome result (λ column. lacks_value table.now row.now column ≡ true) }
+    ensures is { IfSome result (λ column. lacks_value table.now row.now column ≡ true) }
+    ensures first { IfSome result (LacksNoneBefore table.now row.now) }
+    ensures none { (result ≡ None) → LacksNone table.now row.now }
 {
     for column in 0..table.columns.len() {
         if lacks_value(table, row, column) {

@@ -1,20 +1,18 @@
 //! Why a SELECT INTO sets no target, or only a part of one (ISO/IEC 9075:1992, 13.5).
 
-ghost use Rattle.std.specs.Prelude.{IfOk, IfSome, Ok};
+ghost use Rattle.std.specs.Prelude.{IfOk, IfSome};
 ghost use Rattle.sq_bound.specs.declared.statement.BoundStatement.TheVariants.{Select};
 ghost use Rattle.sq_session.specs.Called.{IsWholeFor, MayPerform, kind_for, selecting_for};
 ghost use Rattle.sq_session.specs.Schemas.{schemas_of};
 ghost use Rattle.sq_session.specs.State.{state_of};
-ghost use Rattle.sq_session.specs.Step.{SelectIsMeant};
 ghost use Rattle.sq_show.specs.Select.{IsOfQuery, IsOfRows, IsSelectCause};
 
 use crate::cause::SelectCause;
+use crate::query_rows::rows_of_query;
 use crate::target::{Shown, row_fault};
 use sq_bound::{BoundSelect, BoundStatement};
-use sq_expression::Fault;
-use sq_query::specification_rows;
 use sq_session::{Called, Inside};
-use sq_store::{Meter, Store};
+use sq_store::Store;
 use sq_value::Row;
 use std::alloc::AllocError;
 
@@ -50,42 +48,13 @@ fn cause_of_query<S: Store>(
     ensures { IfOk result (λ found. IfSome found (IsOfQuery (schemas_of called.now.catalog.now)
         (selecting_for called.now select.now) called.now.values.now (S.content_now inside.now.store.now))) }
 {
-    match rows_selected(called, inside, select)? {
+    match rows_of_query(called, inside, &select.query)? {
         None => Ok(None),
         Some(rows) => {
             let found = cause_of_rows(called, select, rows.as_slice());
             drop(rows);
             found
         }
-    }
-}
-
-/// The rows of its query.
-fn rows_selected<S: Store>(
-    called: &Called<'_>,
-    inside: &Inside<'_, S>,
-    select: &BoundSelect,
-) -> Result<Option<Vec<Row>>, AllocError>
-    requires may { MayPerform called.now (Select select.now) }
-    requires whole { IsWholeFor called.now
-        (state_of (S.content_now inside.now.store.now) (S.committed inside.now.store.now)
-        (S.key_columns inside.now.store.now) (S.row_numbers inside.now.store.now) inside.now.cursors.now) }
-    ensures { IfOk result (λ found. IfSome found (λ rows. SelectIsMeant (schemas_of called.now.catalog.now)
-        (selecting_for called.now select.now) called.now.values.now (S.content_now inside.now.store.now)
-        (Ok rows.items))) }
-{
-    let found = specification_rows(
-        called.alloc,
-        called.catalog,
-        &select.query,
-        inside.store,
-        called.inputs(),
-        &mut Meter::new(),
-    );
-    match found {
-        Ok(rows) => Ok(Some(rows)),
-        Err(Fault::Status(_)) => Ok(None),
-        Err(Fault::NoMemory) => Err(AllocError),
     }
 }
 

@@ -105,7 +105,7 @@ fn trace_call<S: Store>(
     ensures procedures { session.new.procedures ≡ session.old.procedures }
     ensures tables { session.new.tables ≡ session.old.tables }
 {
-    let before = Look::at(alloc, session)?;
+    let before = Look::at(alloc, session, call)?;
     let ended = called(alloc, session, call, &before, options, lines);
     drop(before);
     ended

@@ -1,12 +1,13 @@
 //! A cause in words, one line without its end.
 
-ghost use Rattle.std.specs.Prelude.{OnOk};
+ghost use Rattle.std.specs.Prelude.{◌≡◌, ◌++◌, IfSome, OnOk, codes};
+ghost use Rattle.sq_show.specs.CauseWords.{fault_words, meaning, target_words, unless_end, without_ends, words_of};
 ghost use Rattle.sq_show.specs.Words.{IsContinued};
 
-use crate::breach_words::{write_breach, write_column_of};
-use crate::cause::{Cause, CursorCause, SelectCause, TargetCause, TargetFault, ValueCause};
+use crate::breach_words::write_breach;
+use crate::cause::{Cause, CursorCause, SelectCause, TargetCause, TargetFault};
+use crate::clause_words::{write_clause, write_no_number, write_no_row, write_value_cause};
 use crate::option_words::write_option;
-use sq_bound::{Names, TablePlace};
 use sq_lex::Name;
 use sq_meaning::Status;
 use sq_session::{Fault, Session};
@@ -21,7 +22,9 @@ pub fn write_cause<S: Store>(
     cause: &Cause,
     line: &mut Vec<u8>,
 ) -> Result<(), AllocError>
-    ensures { OnOk result (IsContinued line.old.items line.new.items) }
+    ensures line { OnOk result (IsContinued line.old.items line.new.items) }
+    ensures words { OnOk result (IfSome (words_of cause.now)
+        (λ words. line.new.items ≡ line.old.items ++ without_ends words)) }
 {
     let mut words = Vec::new(alloc);
     let told = write_words(alloc, session, cause, &mut words);
@@ -34,8 +37,10 @@ pub fn write_cause<S: Store>(
 }
 
 /// Appends what is no line end.
+#[tactic(auto, using(crate::proofs::Continued::without_all))]
 fn add_to_line(words: &[u8], line: &mut Vec<u8>) -> Result<(), AllocError>
-    ensures { OnOk result (IsContinued line.old.items line.new.items) }
+    ensures line { OnOk result (IsContinued line.old.items line.new.items) }
+    ensures words { OnOk result (line.new.items ≡ line.old.items ++ without_ends words.now) }
 {
     for code in words {
         add_code(*code, line)?;
@@ -45,7 +50,7 @@ fn add_to_line(words: &[u8], line: &mut Vec<u8>) -> Result<(), AllocError>
 
 /// Appends a character unless it is a line end.
 fn add_code(code: u8, line: &mut Vec<u8>) -> Result<(), AllocError>
-    ensures { OnOk result (IsContinued line.old.items line.new.items) }
+    ensures { OnOk result (line.new.items ≡ line.old.items ++ unless_end code) }
 {
     if code == b'\n' {
         return Ok(());
@@ -59,7 +64,9 @@ fn write_words<S: Store>(
     session: &Session<S>,
     cause: &Cause,
     words: &mut Vec<u8>,
-) -> Result<(), AllocError> {
+) -> Result<(), AllocError>
+    ensures { OnOk result (IfSome (words_of cause.now) (λ known. words.new.items ≡ words.old.items ++ known)) }
+{
     match cause {
         Cause::Fault(fault) => write_fault(*fault, words),
         Cause::Cursor(cause) => write_cursor_cause(session, *cause, words),
@@ -67,11 +74,10 @@ fn write_words<S: Store>(
         Cause::CheckOption(table, breach) => write_option(session, *table, *breach, words),
         Cause::Value(cause) => write_value_cause(session, *cause, words),
         Cause::Target(cause) => write_target_cause(*cause, words),
-        Cause::Select(SelectCause::Target(cause)) => write_target_cause(*cause, words),
-        Cause::Select(SelectCause::NoRow) => words.extend_from_slice(b"the query has no row"),
-        Cause::Select(SelectCause::SeveralRows) => {
-            words.extend_from_slice(b"the query has more than one row")
-        }
+        Cause::Select(cause) => write_select_cause(*cause, words),
+        Cause::NoRow(cause) => write_no_row(session, *cause, words),
+        Cause::NoNumber(table) => write_no_number(session, *table, words),
+        Cause::Clause(cause) => write_clause(session, *cause, words),
         Cause::General(status) => words.extend_from_slice(meaning(*status)),
     }
 }
@@ -107,7 +113,7 @@ fn write_cursor_cause<S: Store>(
 }
 
 /// The name of a cursor, and what is to be said of it.
-fn write_cursor<S: Store>(
+pub(crate) fn write_cursor<S: Store>(
     session: &Session<S>,
     cursor: usize,
     rest: &[u8],
@@ -120,26 +126,38 @@ fn write_cursor<S: Store>(
     words.extend_from_slice(rest)
 }
 
-/// The column that a value is for, and what is wrong with it.
-fn write_value_cause<S: Store>(
-    session: &Session<S>,
-    cause: ValueCause,
-    words: &mut Vec<u8>,
-) -> Result<(), AllocError> {
-    write!(words, "value {}, for ", cause.item.saturating_add(1)).map_err(|_| AllocError)?;
-    match session.catalog().at(TablePlace::Base(cause.table)) {
-        Some(table) => write_column_of(table, cause.column, words)?,
-        None => words.extend_from_slice(b"its column")?,
+fn write_select_cause(cause: SelectCause, words: &mut Vec<u8>) -> Result<(), AllocError>
+    ensures { OnOk result (IfSome (words_of (Cause.Select cause))
+        (λ known. words.new.items ≡ words.old.items ++ known)) }
+{
+    match cause {
+        SelectCause::Target(cause) => write_target_cause(cause, words),
+        SelectCause::NoRow => words.extend_from_slice(b"the query has no row"),
+        SelectCause::SeveralRows => words.extend_from_slice(b"the query has more than one row"),
     }
-    words.extend_from_slice(b": ")?;
-    words.extend_from_slice(meaning(cause.fault.status()))
 }
 
 /// The parameter, and why it can't take its value.
-fn write_target_cause(cause: TargetCause, words: &mut Vec<u8>) -> Result<(), AllocError> {
+#[tactic(auto, using(crate::proofs::Worded::behind))]
+fn write_target_cause(cause: TargetCause, words: &mut Vec<u8>) -> Result<(), AllocError>
+    ensures { OnOk result (IfSome (target_words cause) (λ known. words.new.items ≡ words.old.items ++ known)) }
+{
+    write_parameter(cause.parameter, words)?;
+    write_target_fault(cause.fault, words)
+}
+
+fn write_parameter(name: Name, words: &mut Vec<u8>) -> Result<(), AllocError>
+    ensures { OnOk result (words.new.items ≡ (words.old.items ++ codes "parameter ") ++ name) }
+{
     words.extend_from_slice(b"parameter ")?;
-    words.extend_from_slice(cause.parameter.codes())?;
-    match cause.fault {
+    words.extend_from_slice(name.codes())
+}
+
+/// Why a parameter can't take its value.
+fn write_target_fault(fault: TargetFault, words: &mut Vec<u8>) -> Result<(), AllocError>
+    ensures { OnOk result (IfSome (fault_words fault) (λ known. words.new.items ≡ words.old.items ++ known)) }
+{
+    match fault {
         TargetFault::NullWithoutIndicator => {
             words.extend_from_slice(b": null, and it has no indicator")
         }
@@ -151,7 +169,9 @@ fn write_target_cause(cause: TargetCause, words: &mut Vec<u8>) -> Result<(), All
 }
 
 /// What a status means.
-fn meaning(status: Status) -> &'static [u8] {
+pub(crate) fn meaning(status: Status) -> &'static [u8]
+    ensures { result.now ≡ meaning status }
+{
     match status {
         Status::SuccessfulCompletion => b"done",
         Status::TextTruncated => b"a text was cut to the length of its parameter",
