@@ -14,7 +14,7 @@ use sq_exchange::{Answer, put_text};
 use std::alloc::Global;
 
 impl Handle {
-    /// Puts the line of the last refusal into a room; an empty one where there is none.
+    /// Puts the line of the last refusal into a room; an empty one if there is none.
     pub fn refusal(&mut self, alloc: Global, room: &mut [u8], count: &mut usize) -> Answer
         ensures answer { result ≡ put_answer (spec.line_behind (leads_to self.old)) room.old }
         ensures room { room.new ≡ put_room (spec.line_behind (leads_to self.old)) room.old }
@@ -29,7 +29,7 @@ impl Handle {
         answer
     }
 
-    /// Puts the fault for which a procedure answers 42000 into a room; no words where it has none.
+    /// Puts the fault for which a procedure answers 42000 into a room; no words if it has none.
     #[tactic(auto, using(crate::proofs::Telling::puts_fault, crate::proofs::Telling::puts_no_fault))]
     pub fn why(
         &mut self,
@@ -65,7 +65,7 @@ impl Handle {
         put_words(words, room, count)
     }
 
-    /// Sets SQLSTATE, with a zero behind it, and SQLCODE of the last call.
+    /// Sets SQLSTATE, with a zero after it, and SQLCODE of the last call.
     pub fn status(&mut self, alloc: Global, state: &mut [u8; 6], code: &mut i32) -> Answer
         ensures answer { result ≡ set_answer (spec.status_behind (leads_to self.old)) }
         ensures state { state.new ≡ set_value (spec.state_behind (leads_to self.old)) state.old }

@@ -232,7 +232,7 @@ impl Handle {
         answer
     }
 
-    /// Goes on to the next row, whose values are then the outputs; `NoRow` where there is none.
+    /// Goes on to the next row, whose values are then the outputs; `NoRow` if there is none.
     pub fn next_row(&mut self, alloc: Global) -> Answer
         ensures answer { result ≡ set_answer (asked (leads_to self.old) (λ h. last_of h.rows.items)) }
         ensures rows { rows_kept (leads_to self.old)

@@ -10,7 +10,7 @@ use sq_lex::Name;
 use sq_meaning::Status;
 use sq_session::Fault;
 
-/// Why a call did not end with 00000. Tables, columns, keys and cursors stand in it by their places.
+/// The cause why a call did not end with 00000. It names tables, columns, keys and cursors by their places.
 #[derive(Clone, Copy)]
 pub enum Cause {
     /// The statement has this fault, and each call of it ends with 42000.
@@ -40,7 +40,7 @@ pub enum Cause {
 /// A row that a statement would put in its table.
 #[derive(Clone, Copy)]
 pub struct RowPut {
-    /// The place of its change among those of the statement, from 0.
+    /// The place of its change among the statement's changes, from 0.
     pub place: usize,
     /// The number of the row that it would take the place of; a new row has none.
     pub number: Option<u64>,
@@ -101,7 +101,7 @@ pub struct ItemFault {
     pub fault: ValueFault,
 }
 
-/// What is wrong with a value.
+/// The fault of a value.
 #[derive(Clone, Copy)]
 pub enum ValueFault {
     /// Its expression ends with this status.
@@ -129,7 +129,7 @@ pub struct TargetCause {
     pub fault: TargetFault,
 }
 
-/// What is wrong with a target and its value.
+/// The fault of a target and its value.
 #[derive(Clone, Copy)]
 pub enum TargetFault {
     /// Null, and the target has no indicator.

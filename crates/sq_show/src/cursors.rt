@@ -18,9 +18,9 @@ pub(crate) enum Stand {
     Row(usize, u64),
     /// It is on no row: there is none left, or its row is gone.
     NoRow,
-    /// It is on a row that has this place among so many.
+    /// It is on a row: its place, and how many rows there are.
     Place(usize, usize),
-    /// It is behind the last of its rows.
+    /// It is after the last of its rows.
     Behind,
 }
 

@@ -156,7 +156,7 @@ fn write_domain(domain: Domain, lines: &mut Vec<u8>) -> Result<(), AllocError> {
     }
 }
 
-/// Adds a line for each cursor: whether it is closed, or on which row it stands.
+/// Adds a line for each cursor: whether it is closed, or on which row it is.
 pub fn write_cursors<S: Store>(
     session: &Session<S>,
     lines: &mut Vec<u8>,

@@ -14,12 +14,12 @@ use sq_session::Session;
 use sq_store::Store;
 use std::alloc::{AllocError, Global};
 
-/// What is shown beside the report, and where a trace ends.
+/// What a trace shows beside the report, and where it ends.
 #[derive(Clone, Copy, Debug, PartialEq, Eq)]
 pub struct TraceOptions {
     /// Each table that a call changed is shown whole.
     pub tables: bool,
-    /// The trace ends behind the first call that fails.
+    /// The trace ends after the first call that fails.
     pub stop: bool,
 }
 
@@ -32,8 +32,8 @@ pub enum TraceFault {
     Output,
 }
 
-/// Performs actions one after the other, and writes the lines of each, with those that say what it did. Where it is to
-/// stop at a call that fails, it answers how many actions were performed then.
+/// Performs actions one after the other, and writes the lines of each, with lines that say what it did. If it stops at
+/// a call that fails, it answers how many actions were performed then.
 pub fn trace_all<S: Store, W: Out>(
     alloc: Global,
     session: &mut Session<S>,

@@ -125,11 +125,7 @@ fn write_all(
     write_rows(alloc, rows, lines)
 }
 
-fn write_heading(
-    table: &TableDesc,
-    count: usize,
-    heading: &mut Vec<u8>,
-) -> Result<(), AllocError> {
+fn write_heading(table: &TableDesc, count: usize, heading: &mut Vec<u8>) -> Result<(), AllocError> {
     write_columns(table, heading)?;
     let word = if count == 1 { "row" } else { "rows" };
     writeln!(heading, ": {count} {word}").map_err(|_| AllocError)

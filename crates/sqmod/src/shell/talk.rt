@@ -126,9 +126,7 @@ impl Talk {
         let mut report = Vec::new(rt.alloc());
         let mut notes = Vec::new(rt.alloc());
         let item = self.item.as_slice();
-        let done = self
-            .shell
-            .take(rt.alloc(), item, &mut report, &mut notes);
+        let done = self.shell.take(rt.alloc(), item, &mut report, &mut notes);
         self.item.clear();
         match done {
             Ok(()) => {
