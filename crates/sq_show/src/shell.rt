@@ -155,7 +155,7 @@ impl<S: Store> Shell<S> {
         let Some(options) = self.trace else {
             return self.make(alloc, call, lines);
         };
-        let before = Look::at(alloc, &self.session)?;
+        let before = Look::at(alloc, &self.session, call)?;
         let done = match self.make(alloc, call, lines) {
             Ok(()) => self.note(alloc, call, &before, options, notes),
             Err(error) => Err(error),
