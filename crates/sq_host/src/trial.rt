@@ -63,6 +63,8 @@ impl Host {
             and_then (taken procedure self.now.values.items) (opened self.now.processor) ≡ place_for place) }
         ensures refused { IfErr result
             (IsWhy (and_then (taken procedure self.now.values.items) (opened self.now.processor))) }
+        ensures none { IfErr result
+            (IsWhy (and_then (unfit_in procedure self.now.values.items) (opened self.now.processor))) }
     {
         let Some(processor) = &self.processor else {
             return Err(Answer::NotOpen);
