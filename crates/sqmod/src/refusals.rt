@@ -1,7 +1,8 @@
 //! The refusals of texts that are checked, each with what stands there, what may, and what to write.
 use crate::check::Checking;
+use crate::command_line::TextsRequest;
 use crate::fault::Source;
-use crate::judged::judge;
+use crate::judged::{Judged, judge};
 use crate::meanings::meaning_of;
 use crate::remarks::{module_of, schemas_of, write_checked};
 use crate::texts::Sources;
@@ -77,9 +78,34 @@ fn write_judged(
     let Some(judged) = judge(refusals, alloc, checking)? else {
         return Ok(());
     };
-    let written = write_checked(out, alloc, checking, &judged.left, &judged.checked);
+    let written = write_left(
+        out,
+        alloc,
+        checking.request,
+        checking.sources,
+        checking.form,
+        &judged,
+    );
     drop(judged);
     written
+}
+
+/// Adds what is to be said of what is left of texts.
+fn write_left<'a>(
+    out: &mut Vec<u8>,
+    alloc: Global,
+    request: &'a TextsRequest<'a>,
+    sources: &'a Sources,
+    form: Form,
+    judged: &'a Judged,
+) -> Result<(), AllocError> {
+    let checking = Checking {
+        request,
+        sources,
+        script: None,
+        form,
+    };
+    write_checked(out, alloc, &checking, &judged.left, &judged.checked)
 }
 
 /// Adds every error in the tokens and the grammar of the texts.

@@ -11,11 +11,11 @@ use std::alloc::{AllocError, Global};
 use std::str;
 
 /// Adds what is to be said of each text, where so much is left of the texts.
-pub(crate) fn write_checked(
+pub(crate) fn write_checked<'a>(
     out: &mut Vec<u8>,
     alloc: Global,
-    checking: &Checking<'_>,
-    left: &Sources,
+    checking: &Checking<'a>,
+    left: &'a Sources,
     checked: &Checked,
 ) -> Result<(), AllocError> {
     let schemas = schemas_of(alloc, checking, left)?;
