@@ -69,10 +69,10 @@ first_place (d ∷ ds) (t ∷ ts) (w ∷ ws) (suc j) v fits fails same lt at =
 
 -- ---- of a procedure that is there or is not
 
-accepts : Option (List Declared) → List Value → Bool
+abbrev accepts : Option (List Declared) → List Value → Bool
 accepts o values = option_map_or (λ ds. fit ds values) o false
 
-first_in : Option (List Declared) → List Value → Option ℕ
+abbrev first_in : Option (List Declared) → List Value → Option ℕ
 first_in o values = option_map_or (λ ds. unfit ds values) o (Some (length values))
 
 none_fit : (o : Option (List Declared)) (values nulls : List Value) → nulls ≡ replicate (length values) Null → accepts o nulls ≡ false → first_in o values ≡ Some (length values)
