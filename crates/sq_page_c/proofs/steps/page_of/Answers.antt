@@ -1,6 +1,6 @@
 use Rattle.sq_run.specs.Answer.{answered}
 use Rattle.sq_run.specs.Texts.{texts}
-use Rattle.sq_run.proofs.SteppedRuns.{opening_stopped, script_stopped, stepped}
+use Rattle.sq_run.proofs.Texts.SteppedRuns.{opening_stopped, script_stopped, stepped}
 use Rattle.sq_show.proofs.Paging.{page_report}
 use Rattle.sq_page_c.proofs.Says.{steps_stop}
 use Rattle.sq_page_c.proofs.steps.page_of.Goals as goal
