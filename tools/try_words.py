@@ -77,7 +77,7 @@ TAKEN = (
     Run("check"),
     Run("trace --rows 1 --stop --schema a --module m --script five --schema b",
         ADDED + "  -- CALL M.ADD (0)\n  -- U.T row 1 is new: K=0\n" + NO_NUMBER
-        + "  -- CALL M.ADD (1)\n  -- no row number is left in the table\n", "", 5),
+        + "  -- CALL M.ADD (1)\n  -- too few row numbers are left in U.T\n", "", 5),
     Run("trace --schema a --schema b --script c --html page --tables", NO_ROWS),
     Run("trace --schema a --schema b --script c --html /dev/null/page", NO_ROWS, "sqmod: /dev/null/page: cannot be written\n", 1),
 )
