@@ -117,9 +117,12 @@ def must(name, *words):
 def text_of(name, *words):
     """The text that a function of the library puts into a room."""
     length, room = c_size_t(), ctypes.create_string_buffer(256)
-    if ask(name, *words, room, len(room), byref(length)) == NO_ROOM:
+    code = ask(name, *words, room, len(room), byref(length))
+    if code == NO_ROOM:
         room = ctypes.create_string_buffer(length.value + 1)
         must(name, *words, room, len(room), byref(length))
+    elif code != DONE:
+        raise MemoryError("memory ran out") if code == NO_MEMORY else Error(code)
     return room.raw[: length.value].decode("ascii")
 
 
