@@ -107,7 +107,11 @@ def ask(name, *words):
 
 def must(name, *words):
     """Calls a function of the library, which is to do what it is asked."""
-    code = ask(name, *words)
+    accept(ask(name, *words))
+
+
+def accept(code):
+    """Raises the error of a code that is not DONE."""
     if code == NO_MEMORY:
         raise MemoryError("memory ran out; tables and cursors are as they were")
     if code != DONE:
@@ -121,8 +125,8 @@ def text_of(name, *words):
     if code == NO_ROOM:
         room = ctypes.create_string_buffer(length.value + 1)
         must(name, *words, room, len(room), byref(length))
-    elif code != DONE:
-        raise MemoryError("memory ran out") if code == NO_MEMORY else Error(code)
+    else:
+        accept(code)
     return room.raw[: length.value].decode("ascii")
 
 
