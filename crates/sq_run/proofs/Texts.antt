@@ -11,4 +11,8 @@ pub mod OneTree
 pub mod FaultLaws
 pub mod LawfulTexts
 pub mod RefusedLaws
+pub mod SpelledExpressions
+pub mod SpelledConditions
+pub mod SpellingMet
+pub mod SpellingOnly
 pub mod SteppedRuns

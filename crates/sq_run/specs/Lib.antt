@@ -16,6 +16,7 @@ pub mod Processor
 pub mod Refused
 pub mod Reported
 pub mod ShownRows
+pub mod Spelling
 pub mod Stored
 pub mod TextRow
 pub mod Texts

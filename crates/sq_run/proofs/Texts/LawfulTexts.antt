@@ -25,6 +25,7 @@ use Rattle.sq_run.proofs.Laws.IntegrityLaws.{only_allowed_changes}
 use Rattle.sq_run.proofs.Laws.NameLaws.{constraints_hold_in_runs}
 use Rattle.sq_run.proofs.Texts.RefusedLaws.{refusals_tell}
 use Rattle.sq_run.proofs.Rows.RowsRead.{readings_are_rows}
+use Rattle.sq_run.proofs.Texts.SpellingOnly.{spelled_is_spelling}
 use Rattle.sq_run.proofs.Laws.ShownRowLaws.{fetch_shows_rows_now}
 use Rattle.sq_run.proofs.Tokens.UnexpectedTokens.{unexpected_tokens}
 
@@ -81,4 +82,5 @@ module _ (row_numbers : ℕ) (schemas modules : List Bytes) (script : Bytes) whe
     refused = refusals_tell row_numbers schemas modules script;
     unexpected = unexpected_is_final;
     rows = readings_are_rows;
+    spelling = spelled_is_spelling;
   }
