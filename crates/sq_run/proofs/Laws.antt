@@ -5,6 +5,7 @@ pub mod TruthLaws
 pub mod PrivilegeLaws
 pub mod LookupLaws
 pub mod AnswerLaws
+pub mod AskedLaws
 pub mod CallLaws
 pub mod CursorLaws
 pub mod FetchLaws

@@ -1,5 +1,6 @@
 -- What holds of the table machine of accepted texts, whatever is called (ISO/IEC 9075:1992, 4.10, 4.26, 4.28 and clause 13).
 use Rattle.sq_meaning.specs.Machine.{Program}
+use Rattle.sq_run.specs.Asked.{OnlyListedRulesBreak}
 use Rattle.sq_run.specs.Committed.{CommitAloneCommits}
 use Rattle.sq_run.specs.Confined.{SelectTellsWhatMayBeRead}
 use Rattle.sq_run.specs.Defaults.{DefaultsAreNotReached}
@@ -23,5 +24,7 @@ pub record Lawful (p : Program) : Type 0 where
   pub fetched : FetchShowsRowsNow p
   -- a SELECT INTO tells nothing but what its module's user may read
   pub selected : SelectTellsWhatMayBeRead p
+  -- of each site of a statement, the rules that may find a fault there are listed
+  pub rules : OnlyListedRulesBreak
   -- what the definitions write by default, for what can't be, is never reached
   pub defaults : DefaultsAreNotReached p

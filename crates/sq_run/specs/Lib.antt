@@ -1,6 +1,7 @@
 pub mod Accepted
 pub mod Answer
 pub mod Answers
+pub mod Asked
 pub mod Beside
 pub mod Committed
 pub mod Confined

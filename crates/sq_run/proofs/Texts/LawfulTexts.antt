@@ -16,6 +16,7 @@ use Rattle.sq_run.specs.Refused.{RefusalsTell}
 use Rattle.sq_run.specs.Trees.{TellsOfTrees}
 use Rattle.sq_run.specs.Unexpected.{UnexpectedIsFinal}
 use Rattle.sq_run.proofs.Texts.AcceptedTexts.{accepted_are, accepted_spell_trees, texts_have_one_tree}
+use Rattle.sq_run.proofs.Laws.AskedLaws.{only_listed_rules_break}
 use Rattle.sq_run.proofs.Laws.CallLaws.{failed_changes_nothing}
 use Rattle.sq_run.proofs.Laws.CalledAs.{faults_change_nothing}
 use Rattle.sq_run.proofs.Laws.CommitLaws.{commit_alone_commits}
@@ -50,6 +51,7 @@ module _ (schemas : List SchemaText) (modules : List ModuleText) (row_numbers : 
     changes = only_allowed_changes p;
     fetched = fetch_shows_rows_now p;
     selected = select_tells_what_may_be_read p;
+    rules = only_listed_rules_break;
     defaults = defaults_are_not_reached schemas modules row_numbers accepted admitted;
   }
 
