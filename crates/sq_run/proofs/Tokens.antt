@@ -27,4 +27,6 @@ pub mod QueryViable
 pub mod StatementViable
 pub mod ModuleViable
 pub mod ScriptViable
+pub mod TableViable
+pub mod GrantViable
 pub mod BeginsTree
