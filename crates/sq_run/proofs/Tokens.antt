@@ -29,4 +29,5 @@ pub mod ModuleViable
 pub mod ScriptViable
 pub mod TableViable
 pub mod GrantViable
+pub mod SchemaViable
 pub mod BeginsTree
