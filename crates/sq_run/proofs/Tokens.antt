@@ -31,3 +31,4 @@ pub mod TableViable
 pub mod GrantViable
 pub mod SchemaViable
 pub mod BeginsTree
+pub mod SchemaTextViable
