@@ -31,4 +31,5 @@ pub mod TableViable
 pub mod GrantViable
 pub mod SchemaViable
 pub mod BeginsTree
+pub mod DefinitionViable
 pub mod SchemaTextViable

@@ -1,5 +1,5 @@
 -- The tokens before the one at which the reading of a text is stuck are the beginning of those of a tree.
-use Rattle.std.proofs.Common.{◌≡◌, ℕ, ◌+◌, ◌-◌, [], ◌∷◌, ◌++◌, length, take, Ok, Err, refl, sym, ◌∙◌, ap, subst, arith, append-nil, length-append, inl, inr, ◌⊎◌}
+use Rattle.std.proofs.Common.{◌≡◌, ℕ, ◌+◌, ◌-◌, [], ◌∷◌, ◌++◌, length, take, Ok, Err, refl, sym, ◌∙◌, ap, arith, append-nil, length-append, inl, inr, ◌⊎◌}
 use Rattle.std.proofs.Math.Seq.{take-append_seam}
 use Rattle.sq_grammar.specs.Reading.{Tokens, Outcome, Parser, and_then, end_of, whole}
 use Rattle.sq_grammar.proofs.Spells.{Sound}

@@ -1,19 +1,23 @@
 -- Grants and views: what is read of one is the beginning of one.
-use Rattle.std.proofs.Common.{◌≡◌, ℕ, suc, Bool, true, false, ◌∷◌, Option, Some, None, refl, inl, inr}
+use Rattle.std.proofs.Common.{◌≡◌, ℕ, suc, Bool, false, ◌∷◌, Option, refl, inl, inr}
 use Rattle.sq_lex.specs.declared.lexeme.Lexeme.{Lexeme}
 use Rattle.sq_lex.specs.declared.lexeme.Lexeme.TheVariants as lexeme
 use Rattle.sq_lex.specs.declared.symbol.Symbol.TheVariants as symbol
 use Rattle.sq_lex.specs.declared.word.Word.TheVariants as word
 use Rattle.sq_tree.specs.declared.names.TableName.{TableName}
+use Rattle.sq_lex.specs.declared.name.Name.{Name}
+use Rattle.sq_tree.specs.declared.list.CommaList.{CommaList}
+use Rattle.sq_tree.specs.declared.schema.ViewDefinition.{ViewDefinition}
 use Rattle.sq_tree.specs.declared.schema.GrantStatement.{GrantStatement}
 use Rattle.sq_tree.specs.declared.schema.Privileges.{Privileges}
 use Rattle.sq_grammar.specs.Reading.{Tokens, Parser, ◌>>=◌, ◌>>◌, pure, eat, expect, sees, comma, listed}
-use Rattle.sq_grammar.specs.Names.{table_name}
+use Rattle.sq_grammar.specs.Names.{table_name, columns_if_any}
+use Rattle.sq_grammar.specs.Cond.{query_specification}
 use Rattle.sq_grammar.specs.Schema.{by_with_check, check_option, view_definition, action_update, action_delete, action_insert, action_select, action, by_all, privileges, by_public, grantee, by_with_grant, grant_option, grant}
-use Rattle.sq_run.proofs.Tokens.Viable.{Any, Begins, Begun, Blank, Eats, Not, Starts, Viable, begun, blank, blanks, commas, commas_start, comes_starts, done, done_starts, eaten, eats_expect, eats_first, eats_next, eats_one, from, if_comes, mapped, mapped_starts, must, must_starts, not_begun, not_starts, starts_with, then_part, then_some, uneaten}
-use Rattle.sq_run.proofs.Tokens.NamesViable.{a_name, columns_blank, columns_or_none, name_starts, names, tables, tables_begun}
+use Rattle.sq_run.proofs.Tokens.Viable.{Begins, Begun, Blank, Eats, Not, Starts, Viable, begun, blank, blanks, commas, commas_start, comes_starts, done, done_starts, eaten, eats_expect, eats_first, eats_next, eats_one, from, if_comes, mapped, mapped_starts, must, must_starts, not_begun, not_starts, starts_with, then_part, then_some, uneaten}
+use Rattle.sq_run.proofs.Tokens.NamesViable.{a_name, columns_blank, columns_or_none, names, tables, tables_begun}
 use Rattle.sq_run.proofs.Tokens.CondViable.{AfterCond}
-use Rattle.sq_run.proofs.Tokens.CondsViable.{query_specification_begun, query_specifications, query_specifications_eat}
+use Rattle.sq_run.proofs.Tokens.CondsViable.{query_specification_begun, query_specifications}
 
 -- ---- views
 
@@ -26,6 +30,13 @@ no_open = not_begun (lexeme.Word word.As) (lexeme.Symbol symbol.Open) (λ ts. re
 no_dot : Not As (lexeme.Symbol symbol.Dot)
 no_dot = not_begun (lexeme.Word word.As) (lexeme.Symbol symbol.Dot) (λ ts. refl)
 
+-- the parts of a view behind AS, and behind its name
+abbrev as_query : ℕ → TableName → Option (CommaList Name) → Parser ViewDefinition
+as_query left n cs = query_specification left >>= λ q. check_option >>= λ o. pure (record { name = n; columns = cs; query = q; check_option = o })
+
+abbrev of_columns : ℕ → TableName → Parser ViewDefinition
+of_columns left n = columns_if_any >>= λ cs. expect (lexeme.Word word.As) >> as_query left n cs
+
 module _ (left : ℕ) {F : Tokens → Type 0} (closes : AfterCond F) (no_with : Not F (lexeme.Word word.With)) where
   check_options : Viable check_option check_option F
   unfolding check_option
@@ -37,25 +48,28 @@ module _ (left : ℕ) {F : Tokens → Type 0} (closes : AfterCond F) (no_with : 
   unfolding check_option
   check_blank = blanks (not_starts (lexeme.Word word.With) by_with_check done_starts no_with) refl
 
+  queries : (n : TableName) (cs : Option (CommaList Name)) → Viable (as_query left n cs) (as_query (suc left) n cs) F
+  queries n cs = then_part {G = F} _ _ (query_specifications left closes) (λ q. mapped _ check_options) (λ q. mapped_starts _ (blank check_blank)) (λ q other i. i) (λ other i. i)
+
+  query_start : (n : TableName) (cs : Option (CommaList Name)) → Starts (as_query (suc left) n cs) F
+  query_start n cs = starts_with {G = F} _ (from (query_specification_begun left closes)) (mapped_starts _ (blank check_blank)) (λ other i. i)
+
+  query_eats : (n : TableName) (cs : Option (CommaList Name)) → Eats (expect (lexeme.Word word.As) >> as_query left n cs)
+  query_eats n cs = eats_first _ _ {F = F} (eats_expect (lexeme.Word word.As)) (λ u. queries n cs)
+
+  view_queries : (n : TableName) → Viable (of_columns left n) (of_columns (suc left) n) F
+  view_queries n = then_some {G = As} _ _ (columns_or_none no_open) (λ cs. must (lexeme.Word word.As) (λ ts. refl) (queries n cs) (query_start n cs)) (λ cs. must_starts (lexeme.Word word.As) (λ ts. refl) (query_start n cs)) (λ cs other i. (_, refl)) (λ cs. query_eats n cs)
+
+  view_query_begun : (n : TableName) → Begun (of_columns (suc left) n) F (lexeme.Word word.As)
+  view_query_begun n = begun (lexeme.Word word.As) _ (starts_with {G = As} _ (blank (columns_blank no_open)) (must_starts (lexeme.Word word.As) (λ ts. refl) (query_start n _)) (λ other i. (_, refl))) refl
+
   pub view_definitions : Viable (view_definition left) (view_definition (suc left)) F
   unfolding view_definition
-  view_definitions = then_some {G = As} _ _ (tables no_dot)
-      (λ n. then_some {G = As} _ _ (columns_or_none no_open)
-      (λ cs. must (lexeme.Word word.As) (λ ts. refl)
-      (then_part {G = F} _ _ (query_specifications left closes) (λ q. mapped _ check_options) (λ q. mapped_starts _ (blank check_blank)) (λ q other i. i) (λ other i. i))
-      (starts_with {G = F} _ (from (query_specification_begun left closes)) (mapped_starts _ (blank check_blank)) (λ other i. i)))
-      (λ cs. must_starts (lexeme.Word word.As) (λ ts. refl) (starts_with {G = F} _ (from (query_specification_begun left closes)) (mapped_starts _ (blank check_blank)) (λ other i. i)))
-      (λ cs other i. (_, refl))
-      (λ cs. eats_first _ _ {F = F} (eats_expect (lexeme.Word word.As)) (λ u. then_part {G = F} _ _ (query_specifications left closes) (λ q. mapped _ check_options) (λ q. mapped_starts _ (blank check_blank)) (λ q other i. i) (λ other i. i))))
-      (λ n. starts_with {G = As} _ (blank (columns_blank no_open)) (must_starts (lexeme.Word word.As) (λ ts. refl) (starts_with {G = F} _ (from (query_specification_begun left closes)) (mapped_starts _ (blank check_blank)) (λ other i. i))) (λ other i. (_, refl)))
-      (λ n other i. (_, refl))
-      (λ n. eats_next _ (columns_or_none no_open) (λ cs. eats_first _ _ {F = F} (eats_expect (lexeme.Word word.As)) (λ u. then_part {G = F} _ _ (query_specifications left closes) (λ q. mapped _ check_options) (λ q. mapped_starts _ (blank check_blank)) (λ q other i. i) (λ other i. i))))
+  view_definitions = then_some {G = As} _ _ (tables no_dot) (λ n. view_queries n) (λ n. from (view_query_begun n)) (λ n other i. (_, refl)) (λ n. eats_next _ (columns_or_none no_open) (λ cs. query_eats n cs))
 
   pub view_definition_start : Starts (view_definition (suc left)) F
   unfolding view_definition
-  view_definition_start = starts_with {G = As} _ (from (tables_begun no_dot))
-      (starts_with {G = As} _ (blank (columns_blank no_open)) (must_starts (lexeme.Word word.As) (λ ts. refl) (starts_with {G = F} _ (from (query_specification_begun left closes)) (mapped_starts _ (blank check_blank)) (λ other i. i))) (λ other i. (_, refl)))
-      (λ other i. (_, refl))
+  view_definition_start = starts_with {G = As} _ (from (tables_begun no_dot)) (from (view_query_begun _)) (λ other i. (_, refl))
 
 -- ---- grants
 
@@ -92,10 +106,10 @@ privileges_start : Starts privileges On
 unfolding privileges
 privileges_start = comes_starts (lexeme.Word word.All) by_all refl (must_starts (lexeme.Word word.Privileges) (λ ts. refl) done_starts)
 
-abbrev Name : Tokens → Type 0
-Name = Begins a_name
+abbrev Named : Tokens → Type 0
+Named = Begins a_name
 
-no_table : Not Name (lexeme.Word word.Table)
+no_table : Not Named (lexeme.Word word.Table)
 no_table = not_begun a_name (lexeme.Word word.Table) (λ ts. refl)
 
 abbrev To : Tokens → Type 0
@@ -150,10 +164,10 @@ module _ {F : Tokens → Type 0} (no_comma : Not F comma) (no_with : Not F (lexe
   granted_table_begun ps w = begun a_name _ (starts_with {G = To} _ (from (tables_begun to_dot)) (must_starts (lexeme.Word word.To) (λ ts. refl) (grantees_start ps w _)) (λ other i. (_, refl))) refl
 
   objects : (ps : Privileges) → Viable (on_object ps) (on_object ps) F
-  objects ps = then_some {G = Name} _ _ (eaten (lexeme.Word word.Table) no_table) (λ w. granted_tables ps w) (λ w. from (granted_table_begun ps w)) (λ w other i. (_, refl)) (λ w. eats_next _ (tables to_dot) (λ t. to_eats ps w t))
+  objects ps = then_some {G = Named} _ _ (eaten (lexeme.Word word.Table) no_table) (λ w. granted_tables ps w) (λ w. from (granted_table_begun ps w)) (λ w other i. (_, refl)) (λ w. eats_next _ (tables to_dot) (λ t. to_eats ps w t))
 
   object_start : (ps : Privileges) → Starts (on_object ps) F
-  object_start ps = starts_with {G = Name} _ (uneaten (lexeme.Word word.Table) no_table) (from (granted_table_begun ps false)) (λ other i. (_, refl))
+  object_start ps = starts_with {G = Named} _ (uneaten (lexeme.Word word.Table) no_table) (from (granted_table_begun ps false)) (λ other i. (_, refl))
 
   pub grants : Viable grant grant F
   unfolding grant

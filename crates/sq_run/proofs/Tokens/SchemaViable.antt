@@ -3,18 +3,17 @@
 use Rattle.std.proofs.Common.{◌≡◌, ℕ, suc, ◌<◌, Bool, true, false, cond, ◌&&◌, ◌||◌, [], ◌∷◌, ◌++◌, length, Option, Some, None, Ok, Err, refl, sym, ◌∙◌, ap, subst, arith, append_assoc, length-append, inl, inr, ◌⊎◌}
 use Rattle.sq_lex.specs.declared.lexeme.Lexeme.{Lexeme}
 use Rattle.sq_lex.specs.declared.lexeme.Lexeme.TheVariants as lexeme
-use Rattle.sq_lex.specs.declared.symbol.Symbol.TheVariants as symbol
 use Rattle.sq_lex.specs.declared.word.Word.TheVariants as word
 use Rattle.sq_tree.specs.declared.schema.SchemaElement.{SchemaElement}
 use Rattle.sq_tree.specs.declared.schema.SchemaElement.TheVariants.{Table, View, Grant}
 use Rattle.sq_grammar.specs.Reading.{Tokens, Outcome, Parser, ◌>>=◌, and_then, pure, eat, expect, sees, rest as without_first, is_token, comma, all}
-use Rattle.sq_grammar.specs.Schema.{sees_created, by_table, created, nothing, by_grant, element, table_definition, view_definition, grant}
+use Rattle.sq_grammar.specs.Schema.{sees_created, created, nothing, by_grant, element, table_definition, view_definition, grant}
 use Rattle.sq_grammar.proofs.Follows.{ends_expr, ends_table}
 use Rattle.sq_grammar.proofs.Many.{all-none}
 use Rattle.sq_grammar.proofs.Ranks.{is_token-is}
 use Rattle.sq_grammar.proofs.Spells.{ok_pair}
 use Rattle.sq_run.proofs.Tokens.Final.{SameFirst}
-use Rattle.sq_run.proofs.Tokens.Viable.{Begins, Inside, Items, Kept, KeptBy, NextBy, Not, Starts, Viable, ViableBy, mapped, mapped_starts, rows_by, some_found}
+use Rattle.sq_run.proofs.Tokens.Viable.{Begins, Inside, Kept, KeptBy, NextBy, Not, Starts, Viable, ViableBy, mapped, mapped_starts, rows_by, some_found}
 use Rattle.sq_run.proofs.Tokens.CondViable.{AfterCond, Closes}
 use Rattle.sq_run.proofs.Tokens.StatementViable.{semi_closes_at, semicolon}
 use Rattle.sq_run.proofs.Tokens.ModuleViable.{end_closes_at}

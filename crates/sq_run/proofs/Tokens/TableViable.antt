@@ -1,13 +1,13 @@
 -- The elements of a table: what is read of one is the beginning of one. Behind it comes a bracket that closes, or a comma as before.
-use Rattle.std.proofs.Common.{◌≡◌, ℕ, suc, true, false, ◌∷◌, Option, Some, None, Ok, refl, ap, inl, codes}
+use Rattle.std.proofs.Common.{◌≡◌, ℕ, suc, false, ◌∷◌, None, Ok, refl, ap, inl, codes}
 use Rattle.sq_lex.specs.declared.lexeme.Lexeme.{Lexeme}
 use Rattle.sq_lex.specs.declared.lexeme.Lexeme.TheVariants as lexeme
 use Rattle.sq_lex.specs.declared.symbol.Symbol.TheVariants as symbol
 use Rattle.sq_lex.specs.declared.word.Word.TheVariants as word
 use Rattle.sq_lex.specs.declared.name.Name.{Name}
-use Rattle.sq_grammar.specs.Reading.{Tokens, eat, sees, comma, first_of, text_of, name_of}
+use Rattle.sq_grammar.specs.Reading.{Tokens, sees, comma, first_of, text_of, name_of}
 use Rattle.sq_grammar.specs.Schema.{references_from, references, by_text, by_null, by_user, default_value, default_clause, check, constraint_check, constraint_references, constraint_primary, constraint_unique, constraint_not, column_constraint, column_definition, foreign_key, element_foreign, element_primary, element_unique, table_constraint, element_name, table_element, table_definition}
-use Rattle.sq_run.proofs.Tokens.Viable.{Any, Begins, Begun, Blank, Not, Starts, Viable, begun, behind_it, blank, blanks, commas, commas_start, comes_starts, done, done_starts, eats_expect, eats_first, from, if_comes, if_one, mapped, mapped_starts, must, must_starts, not_begun, not_starts, one_starts, rows, rows_start, starts_with, then_part, then_some, unmet_starts}
+use Rattle.sq_run.proofs.Tokens.Viable.{Any, Begins, Blank, Not, Starts, Viable, behind_it, blank, blanks, commas, commas_start, comes_starts, done, done_starts, eats_expect, eats_first, from, if_comes, if_one, mapped, mapped_starts, must, must_starts, not_begun, not_starts, one_starts, rows, rows_start, starts_with, then_part, then_some}
 use Rattle.sq_run.proofs.Tokens.NamesViable.{a_name, bracketed_columns, closing, columns_begun, columns_blank, columns_or_none, signed_numbers, tables, tables_begun}
 use Rattle.sq_run.proofs.Tokens.DataTypeViable.{data_type_begun, data_types}
 use Rattle.sq_run.proofs.Tokens.CondsViable.{inners}
