@@ -5,7 +5,9 @@ use Rattle.sq_lex.specs.declared.lexeme.Lexeme.TheVariants as lexeme
 use Rattle.sq_lex.specs.declared.symbol.Symbol.TheVariants as symbol
 use Rattle.sq_lex.specs.declared.word.Word.TheVariants as word
 use Rattle.sq_lex.specs.declared.name.Name.{Name}
-use Rattle.sq_grammar.specs.Reading.{Tokens, sees, comma, first_of, text_of, name_of}
+use Rattle.sq_tree.specs.declared.names.TableName.{TableName}
+use Rattle.sq_tree.specs.declared.schema.TableDefinition.{TableDefinition}
+use Rattle.sq_grammar.specs.Reading.{Tokens, Parser, ◌>>=◌, ◌>>◌, pure, expect, sees, comma, listed, first_of, text_of, name_of}
 use Rattle.sq_grammar.specs.Schema.{references_from, references, by_text, by_null, by_user, default_value, default_clause, check, constraint_check, constraint_references, constraint_primary, constraint_unique, constraint_not, column_constraint, column_definition, foreign_key, element_foreign, element_primary, element_unique, table_constraint, element_name, table_element, table_definition}
 use Rattle.sq_run.proofs.Tokens.Viable.{Any, Begins, Blank, Not, Starts, Viable, behind_it, blank, blanks, commas, commas_start, comes_starts, done, done_starts, eats_expect, eats_first, from, if_comes, if_one, mapped, mapped_starts, must, must_starts, not_begun, not_starts, one_starts, rows, rows_start, starts_with, then_part, then_some}
 use Rattle.sq_run.proofs.Tokens.NamesViable.{a_name, bracketed_columns, closing, columns_begun, columns_blank, columns_or_none, signed_numbers, tables, tables_begun}
@@ -139,21 +141,27 @@ module _ (left : ℕ) where
   unfolding table_element
   table_element_start = one_starts name_of (element_name (suc left)) a_name (codes "A") refl (mapped_starts _ (column_start left (codes "A")))
 
-  no_comma : Not Close comma
-  no_comma = not_close comma (λ ts. refl)
+no_comma : Not Close comma
+no_comma = not_close comma (λ ts. refl)
 
-  module _ {F : Tokens → Type 0} where
-    pub table_definitions : Viable (table_definition left) (table_definition (suc left)) F
-    unfolding table_definition
-    table_definitions = then_some {G = Begins opening} _ _ (tables (not_begun opening (lexeme.Symbol symbol.Dot) (λ ts. refl)))
-        (λ n. must opening (λ ts. refl)
-        (then_some {G = Close} _ _ (commas table_elements table_element_start no_comma) (λ es. must closing (λ ts. refl) done done_starts) (λ es. must_starts closing (λ ts. refl) done_starts) (λ es other i. (_, refl)) (λ es. eats_first _ _ {F = Any} (eats_expect closing) (λ u. done)))
-        (starts_with {G = Close} _ (commas_start table_elements table_element_start no_comma) (must_starts closing (λ ts. refl) done_starts) (λ other i. (_, refl))))
-        (λ n. must_starts opening (λ ts. refl) (starts_with {G = Close} _ (commas_start table_elements table_element_start no_comma) (must_starts closing (λ ts. refl) done_starts) (λ other i. (_, refl))))
-        (λ n other i. (_, refl))
-        (λ n. eats_first _ _ {F = Any} (eats_expect opening) (λ u. then_some {G = Close} _ _ (commas table_elements table_element_start no_comma) (λ es. must closing (λ ts. refl) done done_starts) (λ es. must_starts closing (λ ts. refl) done_starts) (λ es other i. (_, refl)) (λ es. eats_first _ _ {F = Any} (eats_expect closing) (λ u. done))))
+dot_opens : Not (Begins opening) (lexeme.Symbol symbol.Dot)
+dot_opens = not_begun opening (lexeme.Symbol symbol.Dot) (λ ts. refl)
 
-    pub table_definition_start : Starts (table_definition (suc left)) F
-    unfolding table_definition
-    table_definition_start = starts_with {G = Begins opening} _ (from (tables_begun (not_begun opening (lexeme.Symbol symbol.Dot) (λ ts. refl))))
-        (must_starts opening (λ ts. refl) (starts_with {G = Close} _ (commas_start table_elements table_element_start no_comma) (must_starts closing (λ ts. refl) done_starts) (λ other i. (_, refl)))) (λ other i. (_, refl))
+-- the elements behind the bracket
+abbrev up_to_close : ℕ → TableName → Parser TableDefinition
+up_to_close left n = listed (table_element left) >>= λ es. expect closing >> pure (record { name = n; elements = es })
+
+module _ (left : ℕ) {F : Tokens → Type 0} where
+  bracketed : (n : TableName) → Viable (up_to_close left n) (up_to_close (suc left) n) F
+  bracketed n = then_some {G = Close} _ _ (commas (table_elements left) (table_element_start left) no_comma) (λ es. must closing (λ ts. refl) done done_starts) (λ es. must_starts closing (λ ts. refl) done_starts) (λ es other i. (_, refl)) (λ es. eats_first _ _ {F = Any} (eats_expect closing) (λ u. done))
+
+  bracketed_start : (n : TableName) → Starts (up_to_close (suc left) n) F
+  bracketed_start n = starts_with {G = Close} _ (commas_start (table_elements left) (table_element_start left) no_comma) (must_starts closing (λ ts. refl) done_starts) (λ other i. (_, refl))
+
+  pub table_definitions : Viable (table_definition left) (table_definition (suc left)) F
+  unfolding table_definition
+  table_definitions = then_some {G = Begins opening} _ _ (tables dot_opens) (λ n. must opening (λ ts. refl) (bracketed n) (bracketed_start n)) (λ n. must_starts opening (λ ts. refl) (bracketed_start n)) (λ n other i. (_, refl)) (λ n. eats_first _ _ {F = F} (eats_expect opening) (λ u. bracketed n))
+
+  pub table_definition_start : Starts (table_definition (suc left)) F
+  unfolding table_definition
+  table_definition_start = starts_with {G = Begins opening} _ (from (tables_begun dot_opens)) (must_starts opening (λ ts. refl) (bracketed_start _)) (λ other i. (_, refl))
