@@ -27,4 +27,9 @@ pub mod QueryViable
 pub mod StatementViable
 pub mod ModuleViable
 pub mod ScriptViable
+pub mod TableViable
+pub mod GrantViable
+pub mod SchemaViable
 pub mod BeginsTree
+pub mod DefinitionViable
+pub mod SchemaTextViable

@@ -8,8 +8,8 @@ use Rattle.sq_run.specs.TextRow.{ReadingsAreRows}
 use Rattle.sq_run.specs.Unexpected.{UnexpectedIsFinal}
 
 -- Accepted texts spell the trees of the machine; no text spells two; a refused one spells none, or only deeper ones, unless it is
--- refused for what it means; no text begins with the tokens up to one that is refused as Unexpected; the tokens of a text are those
--- of which it is a row; and what trees mean is what the equations of `Spelling` say, and nothing else.
+-- refused for what it means; the token of Unexpected is the first with which no text goes on; the tokens of a text are those of which
+-- it is a row; and what trees mean is what the equations of `Spelling` say, and nothing else.
 pub record TellsOfTrees (row_numbers : ℕ) (schemas modules : List Bytes) (script : Bytes) : Type 0 where
   pub accepted : AcceptedSpellTrees row_numbers schemas modules script
   pub one_tree : TextsHaveOneTree

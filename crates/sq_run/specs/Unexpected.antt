@@ -35,10 +35,10 @@ pub record IsFirstWrong {T : Type 0} (tokens_of : T → List Lexeme) (all : List
   pub others : List Lexeme
   pub begins : tokens_of tree ≡ take wrong.number (lexemes wrong.token_there.tokens) ++ others
 
--- What the token of Unexpected is to the texts of its kind. Of schemas it is not said that it is the first.
+-- What the token of Unexpected is to the texts of its kind.
 unfoldable pub UnexpectedToken : List Bytes → List Bytes → Bytes → RunFault → Type 0
 UnexpectedToken schemas modules script (SchemaRefused refusal) =
-    refusal.what ≡ Unexpected → NoTextGoesOn schema_tokens schemas refusal
+    refusal.what ≡ Unexpected → IsFirstWrong schema_tokens schemas refusal
 UnexpectedToken schemas modules script (ModuleRefused refusal) =
     refusal.what ≡ Unexpected → IsFirstWrong module_tokens modules refusal
 UnexpectedToken schemas modules script (ScriptRefused refusal) =

@@ -25,7 +25,7 @@ End ts = ts ≡ []
 pub not_ended : (u : Lexeme) → Not End u
 not_ended u other i = ap (sees u) i
 
-end_closes_at : Closes []
+pub end_closes_at : Closes []
 end_closes_at = record { table = ends_table _ refl refl; bare = record { expr = ends_expr _ refl; comparison = refl; is = refl; not = refl; between = refl; in_word = refl; like = refl } }
 
 pub end_closes : AfterCond End

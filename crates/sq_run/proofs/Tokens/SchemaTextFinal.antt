@@ -19,11 +19,11 @@ use Rattle.sq_run.proofs.Tokens.Final.{Final, SameFirst, looks_at_one, bind, don
 use Rattle.sq_run.proofs.Tokens.SchemaFinal.{table_definitions, view_definitions, grants}
 
 -- Both have a first token, and it is the same; so is the second behind CREATE.
-abbrev SameTwo : Tokens → Tokens → Type 0
+abbrev pub SameTwo : Tokens → Tokens → Type 0
 SameTwo (t ∷ ts) (u ∷ us) = (t ≡ u) × (is_token (lexeme.Word word.Create) t ≡ true → SameFirst ts us)
 SameTwo _ _ = ⊥
 
-nearer : (rest other : Tokens) → SameTwo rest other → SameFirst rest other
+pub nearer : (rest other : Tokens) → SameTwo rest other → SameFirst rest other
 nearer [] other s = absurd s
 nearer (t ∷ ts) [] s = absurd s
 nearer (t ∷ ts) (u ∷ us) s = s.0
@@ -97,6 +97,26 @@ eat_calm token f t ts e = by (is_token token t) e
 
 -- ---- elements
 
+-- what is created is chosen alike where two tokens are the same
+pub chosen_alike : (rest other : Tokens) → SameTwo rest other → sees_created rest ≡ sees_created other
+chosen_alike [] other s = absurd s
+chosen_alike (t ∷ ts) [] s = absurd s
+chosen_alike (t ∷ ts) (u ∷ us) s = by (is_token (lexeme.Word word.Create) t) refl
+  where
+    second : (ts us : Tokens) → SameFirst ts us → (sees (lexeme.Word word.Table) ts || sees (lexeme.Word word.View) ts) ≡ (sees (lexeme.Word word.Table) us || sees (lexeme.Word word.View) us)
+    second [] us s = absurd s
+    second (t ∷ ts) [] s = absurd s
+    second (t ∷ ts) (u ∷ us) s = ap (λ v. is_token (lexeme.Word word.Table) v || is_token (lexeme.Word word.View) v) s
+
+    by : (b : Bool) → is_token (lexeme.Word word.Create) t ≡ b → sees_created (t ∷ ts) ≡ sees_created (u ∷ us)
+    by false e =
+        ap (λ c. c && (sees (lexeme.Word word.Table) ts || sees (lexeme.Word word.View) ts)) e
+        ∙ sym (ap (λ c. c && (sees (lexeme.Word word.Table) us || sees (lexeme.Word word.View) us)) (ap (is_token (lexeme.Word word.Create)) (sym s.0) ∙ e))
+    by true e =
+        ap (λ c. c && (sees (lexeme.Word word.Table) ts || sees (lexeme.Word word.View) ts)) e
+        ∙ second ts us (s.1 e)
+        ∙ sym (ap (λ c. c && (sees (lexeme.Word word.Table) us || sees (lexeme.Word word.View) us)) (ap (is_token (lexeme.Word word.Create)) (sym s.0) ∙ e))
+
 module _ (left inner : ℕ) where
   created_parts : Final (eat (lexeme.Word word.Table) >>= by_table left inner)
   created_parts = if_comes _ (by_table left inner) (bind (table_definitions inner) (λ t. done)) (must _ (bind (view_definitions left) (λ v. done)))
@@ -104,26 +124,6 @@ module _ (left inner : ℕ) where
   creations : Final (created left inner)
   unfolding created
   creations = must _ created_parts
-
-  -- what is created is chosen alike where two tokens are the same
-  chosen_alike : (rest other : Tokens) → SameTwo rest other → sees_created rest ≡ sees_created other
-  chosen_alike [] other s = absurd s
-  chosen_alike (t ∷ ts) [] s = absurd s
-  chosen_alike (t ∷ ts) (u ∷ us) s = by (is_token (lexeme.Word word.Create) t) refl
-    where
-      second : (ts us : Tokens) → SameFirst ts us → (sees (lexeme.Word word.Table) ts || sees (lexeme.Word word.View) ts) ≡ (sees (lexeme.Word word.Table) us || sees (lexeme.Word word.View) us)
-      second [] us s = absurd s
-      second (t ∷ ts) [] s = absurd s
-      second (t ∷ ts) (u ∷ us) s = ap (λ v. is_token (lexeme.Word word.Table) v || is_token (lexeme.Word word.View) v) s
-
-      by : (b : Bool) → is_token (lexeme.Word word.Create) t ≡ b → sees_created (t ∷ ts) ≡ sees_created (u ∷ us)
-      by false e =
-          ap (λ c. c && (sees (lexeme.Word word.Table) ts || sees (lexeme.Word word.View) ts)) e
-          ∙ sym (ap (λ c. c && (sees (lexeme.Word word.Table) us || sees (lexeme.Word word.View) us)) (ap (is_token (lexeme.Word word.Create)) (sym s.0) ∙ e))
-      by true e =
-          ap (λ c. c && (sees (lexeme.Word word.Table) ts || sees (lexeme.Word word.View) ts)) e
-          ∙ second ts us (s.1 e)
-          ∙ sym (ap (λ c. c && (sees (lexeme.Word word.Table) us || sees (lexeme.Word word.View) us)) (ap (is_token (lexeme.Word word.Create)) (sym s.0) ∙ e))
 
   none_or_created : Parser (Option SchemaElement)
   none_or_created ts = (cond (sees_created ts) (created left inner) nothing) ts

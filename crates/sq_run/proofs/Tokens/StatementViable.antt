@@ -29,7 +29,7 @@ semicolon = lexeme.Symbol symbol.Semicolon
 abbrev pub Semi : Tokens → Type 0
 Semi = Begins (lexeme.Symbol symbol.Semicolon)
 
-semi_closes_at : (ts : Tokens) → Closes (semicolon ∷ ts)
+pub semi_closes_at : (ts : Tokens) → Closes (semicolon ∷ ts)
 semi_closes_at ts = record { table = ends_table _ refl refl; bare = record { expr = ends_expr _ refl; comparison = refl; is = refl; not = refl; between = refl; in_word = refl; like = refl } }
 
 pub semi_closes : AfterCond Semi

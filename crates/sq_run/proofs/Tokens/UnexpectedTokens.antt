@@ -1,4 +1,4 @@
--- A text that is refused as Unexpected stands at a token with which no text of its kind goes on.
+-- A text that is refused as Unexpected stands at the first token with which no text of its kind goes on.
 use Rattle.std.proofs.Common.{◌≡◌, ℕ, zero, suc, ◌+◌, ◌-◌, ◌<◌, Bool, true, false, cond, List, [], ◌∷◌, ◌++◌, length, take, slice_get, Some, Result, Ok, Err, nat_lt, refl, sym, ◌∙◌, ap, subst, arith, lit≤}
 use Rattle.std.proofs.lemmas.Bool.{ltb-true}
 use Rattle.std.proofs.lemmas.List.{length-map}
@@ -34,6 +34,7 @@ use Rattle.sq_run.proofs.Tokens.ScriptViable as script_parts
 use Rattle.sq_run.proofs.Tokens.GoesNoFurther.{StopsForGood, goes_no_further, stops_for_good}
 use Rattle.sq_run.proofs.Tokens.ModuleFinal.{modules as module_texts}
 use Rattle.sq_run.proofs.Tokens.SchemaTextFinal.{schema_stops}
+use Rattle.sq_run.proofs.Tokens.SchemaTextViable.{schema_begins}
 use Rattle.sq_run.proofs.Tokens.ScriptFinal.{scripts}
 
 refused_is : {A : Type 0} (a b : Refusal) → (let r : Result A Refusal = Err a in let s : Result A Refusal = Err b in r ≡ s) → a ≡ b
@@ -132,10 +133,11 @@ first_wrong rule tokens_of all refusal begins f =
 module _ (schemas modules : List Bytes) (script : Bytes) where
   pub unexpected_tokens : (fault : RunFault) → RefusedText schemas modules script fault → UnexpectedToken schemas modules script fault
   unfolding RefusedText UnexpectedToken
-  unexpected_tokens (SchemaRefused refusal) one = λ e. (unexpected_token schema_rule schema_tokens schema_depth schemas_exact (schema_stops MAX_DEPTH (MAX_DEPTH - 1)) schemas refusal one e).wrong
-  unexpected_tokens (ModuleRefused refusal) one = λ e. first_wrong module_rule module_tokens modules refusal (begins_tree module_tokens module_depth (suc MAX_DEPTH) (module_sound (suc MAX_DEPTH) (lit≤ tt)) (viable.modules MAX_DEPTH) (viable.module_starts MAX_DEPTH))
+  unexpected_tokens (SchemaRefused refusal) one = λ e. first_wrong schema_rule schema_tokens schemas refusal schema_begins
+      (unexpected_token schema_rule schema_tokens schema_depth schemas_exact (schema_stops MAX_DEPTH (MAX_DEPTH - 1)) schemas refusal one e)
+  unexpected_tokens (ModuleRefused refusal) one = λ e. first_wrong module_rule module_tokens modules refusal (begins_tree (viable.modules MAX_DEPTH) (viable.module_starts MAX_DEPTH) module_tokens module_depth (suc MAX_DEPTH) (module_sound (suc MAX_DEPTH) (lit≤ tt)))
       (unexpected_token module_rule module_tokens module_depth modules_exact (stops_for_good (module_texts MAX_DEPTH)) modules refusal one e)
-  unexpected_tokens (ScriptRefused refusal) one = λ e. first_wrong script_rule script_tokens (script ∷ []) refusal (begins_tree script_tokens script_depth MAX_DEPTH (script_sound MAX_DEPTH (lit≤ tt)) script_parts.scripts script_parts.script_starts)
+  unexpected_tokens (ScriptRefused refusal) one = λ e. first_wrong script_rule script_tokens (script ∷ []) refusal (begins_tree script_parts.scripts script_parts.script_starts script_tokens script_depth MAX_DEPTH (script_sound MAX_DEPTH (lit≤ tt)))
       (unexpected_token script_rule script_tokens script_depth scripts_exact (stops_for_good scripts) (script ∷ []) refusal one e)
   unexpected_tokens (Write bytes) h = h
   unexpected_tokens (NoMemory items) h = h

@@ -11,7 +11,7 @@ use Rattle.sq_grammar.proofs.Spells.{ok_pair}
 use Rattle.sq_grammar.proofs.Takes.{none_behind}
 use Rattle.sq_run.proofs.Tokens.Ahead.{bind_ok, err_is}
 use Rattle.sq_run.proofs.Tokens.Final.{SameFirst}
-pub use Rattle.sq_run.proofs.Tokens.ViableBasics.{Any, Eats, Filled, Inside, Kept, Next, Not, Starts, Viable, alike, alike_starts, done, done_starts, expected, expected_reads, expected_starts, never, starts_with, then_part, then_some, whole_first}
+pub use Rattle.sq_run.proofs.Tokens.ViableBasics.{Any, Eats, Filled, Inside, Kept, KeptBy, Nearer, Next, NextBy, Not, Starts, Viable, ViableBy, alike, alike_starts, done, done_starts, expected, expected_reads, expected_starts, never, starts_with, then_part, then_part_by, then_some, whole_first}
 pub use Rattle.sq_run.proofs.Tokens.ViableChoices.{Begins, Begun, Blank, as_choice, begun, behind_it, blank, blanks, branch, choice, chosen, comes_starts, eat_reads, eaten, from, if_begun, if_comes, if_one, mapped, mapped_starts, must, must_starts, none_starts, not_begun, not_starts, one, one_choice, one_of_starts, one_reads, one_starts, seen_as, some_starts, uneaten, unmet_starts}
 
 -- ---- items again and again
@@ -27,8 +27,14 @@ front_err : {A : Type 0} (front : List A) (r : Outcome (List A)) (m : ℕ) → w
 front_err {A = A} front (Ok p) m e = cc
 front_err {A = A} front (Err n) m e = ap Err (err_is (List A) n m e)
 
-module _ {A : Type 0} {item item' : Parser (Option A)} {F : Tokens → Type 0} (h : Viable item item' F) (ends : (other : Tokens) → F other → item' other ≡ Ok (None, other)) where
-  pub nothing_more : (other : Tokens) → F other → all item' other ≡ Ok ([], other)
+-- An item looks at one token behind it, and where there is none, it may look further.
+pub record Items {A : Type 0} (Alike : Tokens → Tokens → Type 0) (item item' : Parser (Option A)) (F : Tokens → Type 0) : Type 0 where
+  pub some : (ts : Tokens) (x : A) (rest : Tokens) → item ts ≡ Ok (Some x, rest) → Kept item' F ts (Some x) rest
+  pub none : (ts rest : Tokens) → item ts ≡ Ok (None, rest) → KeptBy Alike item' F ts None rest
+  pub stops : (ts : Tokens) (n : ℕ) → item ts ≡ Err n → (n ≡ length ts) ⊎ Inside item' F ts n
+
+module _ {A : Type 0} {Alike : Tokens → Tokens → Type 0} (nearer : Nearer Alike) {item item' : Parser (Option A)} {F : Tokens → Type 0} (h : Items Alike item item' F) (ends : (other : Tokens) → F other → item' other ≡ Ok (None, other)) where
+  nothing_more : (other : Tokens) → F other → all item' other ≡ Ok ([], other)
   nothing_more other i = all-none item' other other (ends other i)
 
   -- an item and then the others
@@ -38,44 +44,44 @@ module _ {A : Type 0} {item item' : Parser (Option A)} {F : Tokens → Type 0} (
   some_taken : (ts : Tokens) (x : A) (after : Tokens) (k : Kept item' F ts (Some x) after) → nat_lt (length after) (length ts) ≡ true → 0 < length k.before
   some_taken ts x after k less = omega (arith, ltb-true _ _ less, ap length k.text_is ∙ length-append k.before after)
 
-  next_of : (after b rest other : Tokens) → after ≡ b ++ rest → Next F rest other → Next F after (b ++ other)
+  next_of : (after b rest other : Tokens) → after ≡ b ++ rest → NextBy Alike F rest other → Next F after (b ++ other)
   next_of after [] rest other is (inl i) = inl i
-  next_of after [] rest other is (inr s) = inr (subst (λ us. SameFirst us other) (sym is) s)
+  next_of after [] rest other is (inr s) = inr (subst (λ us. SameFirst us other) (sym is) (nearer rest other s))
   next_of after (t ∷ b) rest other is n = inr (subst (λ us. SameFirst us (t ∷ (b ++ other))) (sym is) refl)
 
-  module _ (ts : Tokens) (xs : List A) (rest : Tokens) (others : (after : Tokens) → length after < length ts → (ys : List A) (r : Tokens) → all item after ≡ Ok (ys, r) → Kept (all item') F after ys r) where
-    longer_reads : (x : A) (after : Tokens) → Kept item' F ts (Some x) after → (b : Bool) → nat_lt (length after) (length ts) ≡ b → cond b (with_front (x ∷ []) (all item after)) (Ok ([], ts)) ≡ Ok (xs, rest) → Kept (all item') F ts xs rest
+  module _ (ts : Tokens) (xs : List A) (rest : Tokens) (others : (after : Tokens) → length after < length ts → (ys : List A) (r : Tokens) → all item after ≡ Ok (ys, r) → KeptBy Alike (all item') F after ys r) where
+    longer_reads : (x : A) (after : Tokens) → Kept item' F ts (Some x) after → (b : Bool) → nat_lt (length after) (length ts) ≡ b → cond b (with_front (x ∷ []) (all item after)) (Ok ([], ts)) ≡ Ok (xs, rest) → KeptBy Alike (all item') F ts xs rest
     longer_reads x after k false same e =
         let q = ok_pair [] xs ts rest e in
-        record { before = []; text_is = q.1; keeps = λ other n. by k.before k.text_is other (subst (λ us. Next F us other) (sym q.1) n) (k.keeps other) ∙ ap (λ ys. Ok (ys, other)) q.0 }
+        record { before = []; text_is = q.1; keeps = λ other n. by k.before k.text_is other (subst (λ us. NextBy Alike F us other) (sym q.1) n) (k.keeps other) ∙ ap (λ ys. Ok (ys, other)) q.0 }
       where
-        by : (b : Tokens) → ts ≡ b ++ after → (other : Tokens) → Next F ts other → (Next F after other → item' (b ++ other) ≡ Ok (Some x, other)) → all item' other ≡ Ok ([], other)
+        by : (b : Tokens) → ts ≡ b ++ after → (other : Tokens) → NextBy Alike F ts other → (Next F after other → item' (b ++ other) ≡ Ok (Some x, other)) → all item' other ≡ Ok ([], other)
         by b is other (inl i) on = nothing_more other i
         by [] is other (inr s) on =
-            all-turn item' other ∙ ap (turn other (all item')) (on (inr (subst (λ us. SameFirst us other) is s))) ∙ ap (λ b. cond b (with_front (x ∷ []) (all item' other)) (Ok ([], other))) (not_less (length other))
+            all-turn item' other ∙ ap (turn other (all item')) (on (inr (subst (λ us. SameFirst us other) is (nearer ts other s)))) ∙ ap (λ b. cond b (with_front (x ∷ []) (all item' other)) (Ok ([], other))) (not_less (length other))
         by (t ∷ b) is other (inr s) on = absurd (omega (arith, ltb-false _ _ same, ap length is ∙ length-append (t ∷ b) after))
     longer_reads x after k true shorter e =
         let b = bind_ok (all item after) (λ ys. pure (x ∷ ys)) xs rest e in
         let q = ok_pair (x ∷ b.0) xs b.1 rest b.3 in
-        let l : Kept (all item') F after b.0 b.1 = others after (ltb-true _ _ shorter) b.0 b.1 b.2 in
+        let l : KeptBy Alike (all item') F after b.0 b.1 = others after (ltb-true _ _ shorter) b.0 b.1 b.2 in
         record {
           before = k.before ++ l.before;
           text_is = k.text_is ∙ ap (λ us. k.before ++ us) l.text_is ∙ sym (append_assoc k.before l.before b.1) ∙ ap (λ us. (k.before ++ l.before) ++ us) q.1;
           keeps = λ other n.
-              let m : Next F b.1 other = subst (λ us. Next F us other) (sym q.1) n in
+              let m : NextBy Alike F b.1 other = subst (λ us. NextBy Alike F us other) (sym q.1) n in
               ap (all item') (append_assoc k.before l.before other)
               ∙ one_more x k.before (l.before ++ other) other b.0 (some_taken ts x after k shorter) (k.keeps (l.before ++ other) (next_of after l.before b.1 other l.text_is m)) (l.keeps other m) ∙ ap (λ ys. Ok (ys, other)) q.0;
         }
 
-    turn_reads : (r : Outcome (Option A)) → item ts ≡ r → turn ts (all item) r ≡ Ok (xs, rest) → Kept (all item') F ts xs rest
+    turn_reads : (r : Outcome (Option A)) → item ts ≡ r → turn ts (all item) r ≡ Ok (xs, rest) → KeptBy Alike (all item') F ts xs rest
     turn_reads (Err m) is e = cc
     turn_reads (Ok (None, after)) is e =
         let q = ok_pair [] xs after rest e in
-        let k = h.reads ts None after is in
-        record { before = k.before; text_is = k.text_is ∙ ap (λ us. k.before ++ us) q.1; keeps = λ other n. all-none item' (k.before ++ other) other (k.keeps other (subst (λ us. Next F us other) (sym q.1) n)) ∙ ap (λ ys. Ok (ys, other)) q.0 }
-    turn_reads (Ok (Some x, after)) is e = longer_reads x after (h.reads ts (Some x) after is) (nat_lt (length after) (length ts)) refl e
+        let k = h.none ts after is in
+        record { before = k.before; text_is = k.text_is ∙ ap (λ us. k.before ++ us) q.1; keeps = λ other n. all-none item' (k.before ++ other) other (k.keeps other (subst (λ us. NextBy Alike F us other) (sym q.1) n)) ∙ ap (λ ys. Ok (ys, other)) q.0 }
+    turn_reads (Ok (Some x, after)) is e = longer_reads x after (h.some ts x after is) (nat_lt (length after) (length ts)) refl e
 
-  all_reads : (n : ℕ) (ts : Tokens) → length ts < n → (xs : List A) (rest : Tokens) → all item ts ≡ Ok (xs, rest) → Kept (all item') F ts xs rest
+  all_reads : (n : ℕ) (ts : Tokens) → length ts < n → (xs : List A) (rest : Tokens) → all item ts ≡ Ok (xs, rest) → KeptBy Alike (all item') F ts xs rest
   all_reads zero ts less xs rest e = absurd (omega arith)
   all_reads (suc n) ts less xs rest e = turn_reads ts xs rest (λ us i. all_reads n us (omega arith)) (item ts) refl (sym (all-turn item ts) ∙ e)
 
@@ -137,18 +143,22 @@ module _ {A : Type 0} {item item' : Parser (Option A)} {F : Tokens → Type 0} (
         longer : (b : Bool) → nat_lt (length after) (length ts) ≡ b → cond b (with_front (x ∷ []) (all item after)) (Ok ([], ts)) ≡ Err m → (m ≡ length ts) ⊎ Inside (all item') F ts m
         longer false same i = cc
         longer true shorter i =
-            let k = h.reads ts (Some x) after is in
+            let k = h.some ts x after is in
             behind_item x after k (some_taken ts x after k shorter) (others after (ltb-true _ _ shorter) (front_err (x ∷ []) (all item after) m i))
 
   all_stops : (n : ℕ) (ts : Tokens) → length ts < n → (m : ℕ) → all item ts ≡ Err m → (m ≡ length ts) ⊎ Inside (all item') F ts m
   all_stops zero ts less m e = absurd (omega arith)
   all_stops (suc n) ts less m e = turn_stops ts m (λ us i. all_stops n us (omega arith) m) (item ts) refl (sym (all-turn item ts) ∙ e)
 
+  pub rows_by : ViableBy Alike (all item) (all item') F
+  rows_by = record { reads = λ ts. all_reads (suc (length ts)) ts (omega arith); stops = λ ts. all_stops (suc (length ts)) ts (omega arith) }
+
+module _ {A : Type 0} {item item' : Parser (Option A)} {F : Tokens → Type 0} (h : Viable item item' F) (ends : (other : Tokens) → F other → item' other ≡ Ok (None, other)) where
   pub rows : Viable (all item) (all item') F
-  rows = record { reads = λ ts. all_reads (suc (length ts)) ts (omega arith); stops = λ ts. all_stops (suc (length ts)) ts (omega arith) }
+  rows = rows_by (λ rest other s. s) (record { some = λ ts x. h.reads ts (Some x); none = λ ts. h.reads ts None; stops = h.stops }) ends
 
   abbrev pub rows_start : Starts (all item') F
-  rows_start = record { more = []; value = []; reads = nothing_more }
+  rows_start = record { more = []; value = []; reads = λ other i. all-none item' other other (ends other i) }
 
 -- one item or more, with commas between
 module _ {A : Type 0} {item item' : Parser A} {F : Tokens → Type 0} (h : Viable item item' F) (k : Starts item' F) (no_comma : Not F comma) where

@@ -7,15 +7,22 @@ use Rattle.sq_grammar.proofs.Spells.{ok_pair}
 use Rattle.sq_run.proofs.Tokens.Ahead.{bind_ok, err_is}
 use Rattle.sq_run.proofs.Tokens.Final.{SameFirst}
 
--- what may follow: tokens of these, or tokens that begin as the rest did
-abbrev pub Next : (Tokens → Type 0) → Tokens → Tokens → Type 0
-Next F rest other = F other ⊎ SameFirst rest other
+-- what may follow: tokens of these, or tokens that begin alike
+abbrev pub NextBy : (Tokens → Tokens → Type 0) → (Tokens → Type 0) → Tokens → Tokens → Type 0
+NextBy Alike F rest other = F other ⊎ Alike rest other
 
 -- it has read x, and reads it also before what may follow
-pub record Kept {A : Type 0} (q : Parser A) (F : Tokens → Type 0) (ts : Tokens) (x : A) (rest : Tokens) : Type 0 where
+pub record KeptBy {A : Type 0} (Alike : Tokens → Tokens → Type 0) (q : Parser A) (F : Tokens → Type 0) (ts : Tokens) (x : A) (rest : Tokens) : Type 0 where
   pub before : Tokens
   pub text_is : ts ≡ before ++ rest
-  pub keeps : (other : Tokens) → Next F rest other → q (before ++ other) ≡ Ok (x, other)
+  pub keeps : (other : Tokens) → NextBy Alike F rest other → q (before ++ other) ≡ Ok (x, other)
+
+-- the same of parsers that look at one token
+abbrev pub Next : (Tokens → Type 0) → Tokens → Tokens → Type 0
+Next F rest other = NextBy SameFirst F rest other
+
+abbrev pub Kept : {A : Type 0} → Parser A → (Tokens → Type 0) → Tokens → A → Tokens → Type 0
+Kept q F ts x rest = KeptBy SameFirst q F ts x rest
 
 -- these tokens, and more, are read
 pub record Filled {A : Type 0} (q : Parser A) (F : Tokens → Type 0) (before : Tokens) : Type 0 where
@@ -36,9 +43,16 @@ pub record Inside {A : Type 0} (q : Parser A) (F : Tokens → Type 0) (ts : Toke
   pub left : n ≡ length after
   pub filled : Filled q F before
 
-pub record Viable {A : Type 0} (p q : Parser A) (F : Tokens → Type 0) : Type 0 where
-  pub reads : (ts : Tokens) (x : A) (rest : Tokens) → p ts ≡ Ok (x, rest) → Kept q F ts x rest
+pub record ViableBy {A : Type 0} (Alike : Tokens → Tokens → Type 0) (p q : Parser A) (F : Tokens → Type 0) : Type 0 where
+  pub reads : (ts : Tokens) (x : A) (rest : Tokens) → p ts ≡ Ok (x, rest) → KeptBy Alike q F ts x rest
   pub stops : (ts : Tokens) (n : ℕ) → p ts ≡ Err n → (n ≡ length ts) ⊎ Inside q F ts n
+
+abbrev pub Viable : {A : Type 0} → Parser A → Parser A → (Tokens → Type 0) → Type 0
+Viable p q F = ViableBy SameFirst p q F
+
+-- tokens that are alike have the same first
+abbrev pub Nearer : (Tokens → Tokens → Type 0) → Type 0
+Nearer Alike = (rest other : Tokens) → Alike rest other → SameFirst rest other
 
 -- whatever is read, some tokens are taken
 abbrev pub Eats : {A : Type 0} → Parser A → Type 0
@@ -63,8 +77,8 @@ module _ {A B : Type 0} {q : Parser A} {F G : Tokens → Type 0} (g : A → Pars
   }
 
   -- what is read behind a part reads on
-  kept_next : (ts : Tokens) (x : A) (after : Tokens) (y : B) (rest : Tokens) → Kept q G ts x after → (k : Kept (g x) F after y rest) → (0 < length k.before) ⊎ ((other : Tokens) → F other → G other) → Kept (q >>= g) F ts y rest
-  kept_next ts x after y rest h k passes = record {
+  kept_next : {Alike : Tokens → Tokens → Type 0} → Nearer Alike → (ts : Tokens) (x : A) (after : Tokens) (y : B) (rest : Tokens) → Kept q G ts x after → (k : KeptBy Alike (g x) F after y rest) → (0 < length k.before) ⊎ ((other : Tokens) → F other → G other) → KeptBy Alike (q >>= g) F ts y rest
+  kept_next {Alike = Alike} nearer ts x after y rest h k passes = record {
     before = h.before ++ k.before;
     text_is = h.text_is ∙ ap (λ us. h.before ++ us) k.text_is ∙ sym (append_assoc h.before k.before rest);
     keeps = λ other n.
@@ -73,10 +87,10 @@ module _ {A B : Type 0} {q : Parser A} {F G : Tokens → Type 0} (g : A → Pars
         ∙ k.keeps other n;
   }
     where
-      by : (b : Tokens) → after ≡ b ++ rest → (0 < length b) ⊎ ((other : Tokens) → F other → G other) → (other : Tokens) → Next F rest other → Next G after (b ++ other)
+      by : (b : Tokens) → after ≡ b ++ rest → (0 < length b) ⊎ ((other : Tokens) → F other → G other) → (other : Tokens) → NextBy Alike F rest other → Next G after (b ++ other)
       by [] is (inl some) other n = absurd (omega arith)
       by [] is (inr pass) other (inl h) = inl (pass other h)
-      by [] is (inr pass) other (inr s) = inr (subst (λ us. SameFirst us other) (sym is) s)
+      by [] is (inr pass) other (inr s) = inr (subst (λ us. SameFirst us other) (sym is) (nearer rest other s))
       by (t ∷ b) is pass other n = inr (subst (λ us. SameFirst us (t ∷ (b ++ other))) (sym is) refl)
 
   -- stuck at the first token behind a part
@@ -111,7 +125,7 @@ module _ {A B : Type 0} {q : Parser A} {F G : Tokens → Type 0} (g : A → Pars
   abbrev pub starts_with : (k : Starts q G) (s : Starts (g k.value) F) → ((other : Tokens) → F other → G (s.more ++ other)) → Starts (q >>= g) F
   starts_with k s joins = whole_first [] k s joins
 
-  module _ {p : Parser A} (f : A → Parser B) (first : Viable p q G) (next : (x : A) → Viable (f x) (g x) F) (starts : (x : A) → Starts (g x) F) (joins : (x : A) (other : Tokens) → F other → G ((starts x).more ++ other)) where
+  module _ {Alike : Tokens → Tokens → Type 0} (nearer : Nearer Alike) {p : Parser A} (f : A → Parser B) (first : Viable p q G) (next : (x : A) → ViableBy Alike (f x) (g x) F) (starts : (x : A) → Starts (g x) F) (joins : (x : A) (other : Tokens) → F other → G ((starts x).more ++ other)) where
     bind_stops : (ts : Tokens) (n : ℕ) → (p >>= f) ts ≡ Err n → (n ≡ length ts) ⊎ Inside (q >>= g) F ts n
     bind_stops ts n e = by (p ts) refl e
       where
@@ -135,24 +149,31 @@ module _ {A B : Type 0} {q : Parser A} {F G : Tokens → Type 0} (g : A → Pars
         by (Ok r) is i = of_next r.0 r.1 (first.reads ts r.0 r.1 is) ((next r.0).stops r.1 n i)
 
     -- where the next part may read nothing, what may follow it may follow the first
-    pub then_part : ((other : Tokens) → F other → G other) → Viable (p >>= f) (q >>= g) F
-    then_part passes = record {
+    pub then_part_by : ((other : Tokens) → F other → G other) → ViableBy Alike (p >>= f) (q >>= g) F
+    then_part_by passes = record {
       reads = λ ts y rest e.
           let b = bind_ok (p ts) f y rest e in
-          kept_next ts b.0 b.1 y rest (first.reads ts b.0 b.1 b.2) ((next b.0).reads b.1 y rest b.3) (inr passes);
+          kept_next nearer ts b.0 b.1 y rest (first.reads ts b.0 b.1 b.2) ((next b.0).reads b.1 y rest b.3) (inr passes);
       stops = bind_stops;
     }
 
     -- where the next part takes some tokens
-    pub then_some : ((x : A) → Eats (f x)) → Viable (p >>= f) (q >>= g) F
-    then_some eats = record {
+    then_some_by : ((x : A) → Eats (f x)) → ViableBy Alike (p >>= f) (q >>= g) F
+    then_some_by eats = record {
       reads = λ ts y rest e.
           let b = bind_ok (p ts) f y rest e in
           let k = (next b.0).reads b.1 y rest b.3 in
           let less = eats b.0 b.1 y rest b.3 in
-          kept_next ts b.0 b.1 y rest (first.reads ts b.0 b.1 b.2) k (inl (omega (arith, less, ap length k.text_is ∙ length-append k.before rest)));
+          kept_next nearer ts b.0 b.1 y rest (first.reads ts b.0 b.1 b.2) k (inl (omega (arith, less, ap length k.text_is ∙ length-append k.before rest)));
       stops = bind_stops;
     }
+
+  module _ {p : Parser A} (f : A → Parser B) (first : Viable p q G) (next : (x : A) → Viable (f x) (g x) F) (starts : (x : A) → Starts (g x) F) (joins : (x : A) (other : Tokens) → F other → G ((starts x).more ++ other)) where
+    pub then_part : ((other : Tokens) → F other → G other) → Viable (p >>= f) (q >>= g) F
+    then_part passes = then_part_by (λ rest other s. s) f first next starts joins passes
+
+    pub then_some : ((x : A) → Eats (f x)) → Viable (p >>= f) (q >>= g) F
+    then_some eats = then_some_by (λ rest other s. s) f first next starts joins eats
 
 pub expected_reads : (t : Lexeme) → ((ts : Tokens) → sees t (t ∷ ts) ≡ true) → (other : Tokens) → expect t (t ∷ other) ≡ Ok (tt, other)
 unfolding expect
