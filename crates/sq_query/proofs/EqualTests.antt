@@ -1,8 +1,7 @@
 -- On a line with a row that lacks the value to which a test says that its column is equal, the test is false (ISO/IEC 9075:1992, 8.2).
-use Rattle.std.proofs.Common.{◌≡◌, ◌∙◌, ◌<◌, ◌⊎◌, inl, inr, ℕ, zero, suc, Bool, true, false, not, List, [], ◌∷◌, length, map, take, slice_get, slice_index_or, Option, Some, None, arith, refl, sym, ap, subst, Ok, Err}
-use Rattle.std.proofs.lemmas.List.{take_all}
+use Rattle.std.proofs.Common.{◌≡◌, ◌∙◌, ◌⊎◌, inl, inr, ℕ, zero, Bool, false, List, [], ◌∷◌, slice_get, slice_index_or, Option, Some, None, refl, sym, ap, subst, Ok, Err}
 use Rattle.std.specs.Prelude.{IsTrue}
-use Rattle.std.specs.List.{AllByRecursion, AllZip, Contains}
+use Rattle.std.specs.List.{AllZip}
 use Rattle.std.specs.Option.{option_and_then}
 use Rattle.sq_lex.specs.declared.name.Name.{Name}
 use Rattle.sq_value.specs.Comparison.{is_same}
@@ -12,7 +11,6 @@ use Rattle.sq_value.specs.Truth.{known}
 use Rattle.sq_value.specs.laws.ValueOrder.{same_equiv}
 use Rattle.sq_value.specs.declared.domain.Kind.{Kind}
 use Rattle.sq_value.specs.declared.domain.Kind.TheVariants as kinds
-use Rattle.sq_value.specs.declared.truth.Truth.{Truth}
 use Rattle.sq_value.specs.declared.truth.Truth.TheVariants.{False}
 use Rattle.sq_value.specs.declared.value.Value.{Value}
 use Rattle.sq_value.specs.declared.value.Value.TheVariants.{Null, Num, Chars}
@@ -21,36 +19,28 @@ use Rattle.sq_meaning.specs.Environment.{Env, Line, Row, Scope, alone}
 use Rattle.sq_meaning.specs.Expression.{value}
 use Rattle.sq_meaning.specs.Kind.{Kinds, kind}
 use Rattle.sq_meaning.specs.Placed.{Placed, by_place}
-use Rattle.sq_meaning.specs.Query.{comparison, is_true, or_else, truth}
+use Rattle.sq_meaning.specs.Query.{comparison, truth}
 use Rattle.sq_meaning.specs.Status.{Outcome, and_then, well_formed}
-use Rattle.sq_meaning.specs.Sure.{IsSureOutcome, is_sure}
-use Rattle.sq_meaning.specs.Syntax.{column, compare, conds, conjunction, disjunction}
-use Rattle.sq_meaning.specs.WellFormed.{Fits, Has, HasValue, IsDeclaredAt, HasRowsOf, IsEnvOf, IsRowOf, WellFormedCond, WellFormedConds, froms, is_comparable, kinds_by_place, of_lines}
-use Rattle.sq_meaning.proofs.QueryKinds.{truth_of_kinds}
+use Rattle.sq_meaning.specs.Syntax.{column, compare}
+use Rattle.sq_meaning.specs.WellFormed.{Fits, Has, HasValue, IsDeclaredAt, HasRowsOf, IsEnvOf, IsRowOf, WellFormedCond, froms, is_comparable, kinds_by_place, of_lines}
 use Rattle.sq_meaning.proofs.ReadingKinds.{env_by_place, places_agree}
-use Rattle.sq_meaning.proofs.SureLaws.{sure_truth}
 use Rattle.sq_meaning.proofs.ValueKinds.{value_fits}
 use Rattle.sq_bound.specs.Condition.{PlacedCond, cond_of, not_if, predicate_of, test_of}
 use Rattle.sq_bound.specs.Expression.{PlacedExpr, expr_of}
 use Rattle.sq_bound.specs.Keyed.{AreEqualled}
-use Rattle.sq_bound.specs.Noted.{IsNotedTest, may_fail}
 use Rattle.sq_bound.specs.WellFormed.{Levels, TableKinds}
-use Rattle.sq_bound.specs.declared.condition.BoundCond.{BoundCond, out-BoundCond}
-use Rattle.sq_bound.specs.declared.condition.BoundConj.{BoundConj, out-BoundConj}
+use Rattle.sq_bound.specs.declared.condition.BoundCond.{BoundCond}
 use Rattle.sq_bound.specs.declared.condition.BoundTest.{BoundTest}
 use Rattle.sq_bound.specs.declared.condition.TablePlace.{TablePlace}
 use Rattle.sq_bound.specs.declared.expression.BoundExpr.{BoundExpr}
 use Rattle.sq_bound.proofs.ColumnTests.{compared}
 use Rattle.sq_bound.proofs.ConditionLaws.{predicate_of-Bracketed, test_of-out}
-use Rattle.sq_bound.proofs.QuietTruths.{both_left, both_right, valued_so}
 use Rattle.sq_expression.specs.Frame.{inputs_of}
 use Rattle.sq_query.specs.Around.{beneath}
-use Rattle.sq_query.specs.Items.{AreFirstSure, IsBracketed, IsEqualTo, IsPartOf, are_sure}
+use Rattle.sq_query.specs.Items.{IsBracketed, IsEqualTo}
 use Rattle.sq_query.specs.Union.{AreFitting}
-use Rattle.sq_query.proofs.KeyLacked.{first_false, outcomes_differ}
-use Rattle.sq_query.proofs.KeyOut.{all_is}
+use Rattle.sq_query.proofs.KeyLacked.{outcomes_differ}
 use Rattle.sq_query.proofs.KeyTests.{in_row}
-use Rattle.sq_query.proofs.KeyValues.{all_contained, all_first, term_tree}
 use Rattle.sq_query.proofs.KeyedRows.{inputs_are}
 
 -- a condition in brackets means what it says

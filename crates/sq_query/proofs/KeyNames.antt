@@ -8,7 +8,7 @@ use Rattle.std.proofs.lemmas.Option.{get_or_from_slice_get, slice_get_within}
 use Rattle.sq_lex.specs.declared.name.Name.{Name}
 use Rattle.sq_value.specs.declared.value.Value.{Value}
 use Rattle.sq_store.specs.Content.{Content}
-use Rattle.sq_store.specs.Keys.{Keys, are_keyed, key_at, keys_at}
+use Rattle.sq_store.specs.Keys.{Keys, are_keyed, keys_at}
 use Rattle.sq_store.proofs.Sound.{keyed_length}
 use Rattle.sq_bound.specs.Condition.{PlacedCond, test_of}
 use Rattle.sq_bound.specs.Fits.{IsBase, keys_of_bases}

@@ -17,7 +17,7 @@ use Rattle.sq_meaning.specs.Status.{Outcome, well_formed}
 use Rattle.sq_meaning.specs.Syntax.{added, between, bracketed, column, compare, compare_quantified, compare_subquery, conds, conjunction, count_rows, disjunction, exists, in_list, in_subquery, is_null, like, literal, negated, parameter, scaled, set_function, signed, user}
 use Rattle.sq_meaning.specs.Environment.{Env, Row}
 use Rattle.sq_meaning.specs.Placed.{by_place}
-use Rattle.sq_meaning.specs.Query.{all_truth, and_also, is_true, or_else, truth}
+use Rattle.sq_meaning.specs.Query.{all_truth, and_also, or_else, truth}
 use Rattle.sq_meaning.specs.Quiet.{is_quiet, is_quiet_expr}
 use Rattle.sq_meaning.specs.WellFormed.{Has, HasValue, IsRowOf}
 use Rattle.sq_bound.specs.Condition.{PlacedCond, cond_of, test_of}

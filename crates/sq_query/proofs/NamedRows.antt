@@ -5,7 +5,6 @@ use Rattle.std.specs.Prelude.{IfOk, IfSome}
 use Rattle.std.proofs.lemmas.List.{take_more}
 use Rattle.std.specs.List.{AllByRecursion}
 use Rattle.sq_lex.specs.declared.name.Name.{Name}
-use Rattle.sq_value.specs.SetFunctions.{is_null}
 use Rattle.sq_value.specs.declared.domain.Kind.{Kind}
 use Rattle.sq_value.specs.declared.truth.Truth.{Truth}
 use Rattle.sq_value.specs.declared.truth.Truth.TheVariants.{False}
@@ -13,14 +12,13 @@ use Rattle.sq_value.specs.declared.value.Value.{Value}
 use Rattle.sq_tree.specs.declared.cond.Comparison.{Comparison}
 use Rattle.sq_tree.specs.declared.cond.Comparison.TheVariants.{Equal}
 use Rattle.sq_meaning.specs.Environment.{Row}
-use Rattle.sq_meaning.specs.Expression.{value}
 use Rattle.sq_meaning.specs.Placed.{by_place}
 use Rattle.sq_meaning.specs.Query.{or_else, truth}
 use Rattle.sq_meaning.specs.Quiet.{is_quiet, is_quiet_expr}
 use Rattle.sq_meaning.specs.Status.{Outcome}
 use Rattle.sq_meaning.specs.Syntax.{conds, conjunction, disjunction}
 use Rattle.sq_meaning.specs.Target.{has_subquery}
-use Rattle.sq_meaning.specs.WellFormed.{Has, HasValue, IsRowOf}
+use Rattle.sq_meaning.specs.WellFormed.{Has, IsRowOf}
 use Rattle.sq_bound.specs.Condition.{PlacedCond, cond_of, not_if, predicate_of, test_of}
 use Rattle.sq_bound.specs.Expression.{expr_of}
 use Rattle.sq_bound.specs.Keyed.{AreEqualled}

@@ -1,4 +1,4 @@
-use Rattle.std.proofs.Common.{◌≡◌, ◌∙◌, arith, ap, length, sym, true}
+use Rattle.std.proofs.Common.{◌≡◌, ◌∙◌, arith, ap, length, sym}
 use Rattle.sq_bound.specs.declared.condition.Predicate.TheVariants as bound
 use Rattle.sq_bound.proofs.Keys.{only_of}
 use Rattle.sq_query.proofs.NamedRows.{brackets_found, one_more, term_found, test_found}
