@@ -193,9 +193,10 @@ def inserted(n):
                calls("INS ({}, {})", pairs(n), "R"), changed("INSERT INTO R VALUES ({}, {})", pairs(n), "R"))
 
 
-def updated(n):
-    return Row({"R": one_more(n)}, "PROCEDURE UPD (SQLCODE, :K INTEGER, :A INTEGER); UPDATE R SET A = :A WHERE K = :K;\n",
-               calls("UPD ({}, 5)", keys(n), "R"), changed("UPDATE R SET A = 5 WHERE K = {}", keys(n), "R"))
+def updated(n, where="K = {}"):
+    procedure = f"PROCEDURE UPD (SQLCODE, :K INTEGER, :A INTEGER); UPDATE R SET A = :A WHERE {where.format(':K')};\n"
+    return Row({"R": one_more(n)}, procedure, calls("UPD ({}, 5)", keys(n), "R"),
+               changed(f"UPDATE R SET A = 5 WHERE {where}", keys(n), "R"))
 
 
 def deleted(n):
@@ -360,6 +361,8 @@ CHAIN = f"OPEN and FETCHes of n SELECTs of {CHAINED} rows, joined by UNION ALL"
 ROWS = {
     "INSERT with a key": inserted,
     "UPDATE by key": updated,
+    "UPDATE by key in brackets, after another test": lambda n: updated(n, "A >= 0 AND (K = {})"),
+    "UPDATE by a sum that is a key": lambda n: updated(n, "K = {} + 0"),
     "DELETE by key": deleted,
     "FETCH": fetched,
     "FETCH, then positioned UPDATE": fetched_and_updated,

@@ -103,13 +103,13 @@ value_there (c ∷ columns) (v ∷ row) (suc n) x there written none =
 
 -- ---- AND
 
-also_false : (o p : Outcome Truth) → HasValue o → p ≡ Ok False → and_also o p ≡ Ok False
+pub also_false : (o p : Outcome Truth) → HasValue o → p ≡ Ok False → and_also o p ≡ Ok False
 also_false (Err s) p has e = absurd has
 also_false (Ok False) p has e = refl
 also_false (Ok True) p has e = ap (and_also (Ok True)) e
 also_false (Ok Unknown) p has e = ap (and_also (Ok Unknown)) e
 
-stops : (o p : Outcome Truth) → o ≡ Ok False → and_also o p ≡ Ok False
+pub stops : (o p : Outcome Truth) → o ≡ Ok False → and_also o p ≡ Ok False
 stops o p e = ap (λ (q : Outcome Truth). and_also q p) e
 
 -- joined by AND, one after another

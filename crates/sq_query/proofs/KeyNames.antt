@@ -8,7 +8,7 @@ use Rattle.std.proofs.lemmas.Option.{get_or_from_slice_get, slice_get_within}
 use Rattle.sq_lex.specs.declared.name.Name.{Name}
 use Rattle.sq_value.specs.declared.value.Value.{Value}
 use Rattle.sq_store.specs.Content.{Content}
-use Rattle.sq_store.specs.Keys.{Keys, are_keyed, key_at, keys_at}
+use Rattle.sq_store.specs.Keys.{Keys, are_keyed, keys_at}
 use Rattle.sq_store.proofs.Sound.{keyed_length}
 use Rattle.sq_bound.specs.Condition.{PlacedCond, test_of}
 use Rattle.sq_bound.specs.Fits.{IsBase, keys_of_bases}
@@ -117,21 +117,6 @@ named_by own parameters user columns tests values found named r all values_are =
   compared = subst (λ (vs : List Value). AllZip (IsComparedWith (take (length columns) (out-BoundConj r.term).tests) parameters user) columns vs) (sym values_are)
       (subst (λ (ts : List BoundTest). AllZip (IsComparedWith ts parameters user) columns values) r.firsts all);
 }
-
--- a condition that names a row by the columns of a key does so by a key of the base table
-pub key_on : (place : ℕ) (own : BoundCond) (content : Content) (keys : List Keys) (parameters : List Value) (user : Name) (key : ℕ) (columns : List ℕ) (r : Result (Option KnownKey) Fault) → place < length content
-    → key < length (keys_at keys place) → columns ≡ key_at keys place key → IfOk r (λ found. IfSome found (λ known. (known.key ≡ key) × IsNamedBy columns own parameters user known.values))
-    → IfOk r (λ found. IfSome found (λ known. (known.key ≡ key) × IsKeyOn place own content keys parameters user known))
-key_on place own content keys parameters user key columns (Err e) there within are h = tt
-key_on place own content keys parameters user key columns (Ok None) there within are h = tt
-key_on place own content keys parameters user key columns (Ok (Some known)) there within are h = (
-  h.0,
-  record {
-    table = there;
-    key = subst (λ (k : ℕ). k < length (keys_at keys place)) (sym h.0) within;
-    by_key = subst (λ (cs : List ℕ). IsNamedBy cs own parameters user known.values) (are ∙ ap (key_at keys place) (sym h.0)) h.1;
-  },
-)
 
 -- a key by which a target's own condition names a row is one of the target where it is noted
 pub noted_key : (t : Target) (own : BoundCond) (content : Content) (keys : List Keys) (parameters : List Value) (user : Name) (key : ℕ) (r : Result (Option KnownKey) Fault) → t.condition ≡ Some own → t.key ≡ Some key

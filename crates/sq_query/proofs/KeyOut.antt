@@ -3,7 +3,7 @@
 use Rattle.std.proofs.Common.{◌≡◌, ℕ, Bool, true, false, ◌&&◌, List, [], ◌∷◌, length, map, take, nat_eq, Option, Some, None, refl, sym, ap, subst, ◌∙◌, Ok}
 use Rattle.std.specs.Prelude.{if◌then◌else◌, slice_get}
 use Rattle.std.specs.Cmp.Lexicographic.{pointwise}
-use Rattle.std.specs.List.{AllByRecursion, Contains, list_all}
+use Rattle.std.specs.List.{AllByRecursion, AllZip, Contains, list_all}
 use Rattle.sq_lex.specs.declared.name.Name.{Name}
 use Rattle.sq_value.specs.Comparison.{is_same}
 use Rattle.sq_value.specs.Key.{in_columns}
@@ -17,7 +17,7 @@ use Rattle.sq_meaning.specs.Status.{Outcome, well_formed}
 use Rattle.sq_meaning.specs.Syntax.{added, between, bracketed, column, compare, compare_quantified, compare_subquery, conds, conjunction, count_rows, disjunction, exists, in_list, in_subquery, is_null, like, literal, negated, parameter, scaled, set_function, signed, user}
 use Rattle.sq_meaning.specs.Environment.{Env, Row}
 use Rattle.sq_meaning.specs.Placed.{by_place}
-use Rattle.sq_meaning.specs.Query.{all_truth, and_also, is_true, or_else, truth}
+use Rattle.sq_meaning.specs.Query.{all_truth, and_also, or_else, truth}
 use Rattle.sq_meaning.specs.Quiet.{is_quiet, is_quiet_expr}
 use Rattle.sq_meaning.specs.WellFormed.{Has, HasValue, IsRowOf}
 use Rattle.sq_bound.specs.Condition.{PlacedCond, cond_of, test_of}
@@ -30,7 +30,7 @@ use Rattle.sq_bound.specs.declared.condition.BoundTest.{BoundTest}
 use Rattle.sq_bound.specs.declared.condition.TablePlace.{TablePlace}
 use Rattle.sq_bound.proofs.QuietRows.{no_tables}
 use Rattle.sq_bound.proofs.QuietTruths.{both_left, both_right}
-use Rattle.sq_query.specs.Key.{IsComparedWith, IsNamedBy, StandsOn}
+use Rattle.sq_query.specs.Key.{HasOther, IsComparedWith, IsFalseUnless, IsNamedBy, Stands, StandsOn}
 use Rattle.sq_query.specs.Row.{outside}
 use Rattle.sq_query.proofs.KeyLacked.{IsTestOn, all_also, first_false, lacked, test_answers, test_false}
 use Rattle.sq_query.proofs.KeyNames.{firsts_name}
@@ -156,19 +156,40 @@ module _ (tables : TablePlace → Outcome (List Row)) (columns : TableKinds) (pa
         (λ x w q. test_answers tables columns parameters values caller row table fits given (test_of [] x) w q)
         (take count tests) (all_first (λ x. IsOn (test_of [] x)) count tests all_well) firsts_quiet
 
-    pub left_out : ((n : ℕ) (x : Value) → Contains key n → well_formed (slice_get row n) ≡ Ok x → is_null_value x ≡ false) → pointwise is_same wanted (in_columns row key) ≡ false
-        → is_true (truth (by_place tables) (cond_of [] own) here) ≡ Ok false
-    left_out not_null lacks =
-        let found = lacked {R = IsComparedWith (take count tests) values caller} key wanted row k.compared lacks in
-        let c = found.3 in
+    -- on a row that has another value in a column that the key has
+    pub column_false : (n : ℕ) (v : Value) → IsComparedWith (take count tests) values caller n v → HasOther row n v → truth (by_place tables) (cond_of [] own) here ≡ Ok False
+    column_false n v c other =
         let quiet : is_quiet (test_of [] c.test) ≡ true = all_contained (λ x. is_quiet (test_of [] x) ≡ true) (take count tests) c.among.0 c.test firsts_quiet c.among.1 c.among.2 in
         let on : IsOn (test_of [] c.test) = all_contained (λ x. IsOn (test_of [] x)) (take count tests) c.among.0 c.test (all_first (λ x. IsOn (test_of [] x)) count tests all_well) c.among.1 c.among.2 in
-        let not_so : truth (by_place tables) (compare comparison.Equal (column (record { depth = 0; item = c.is.0; column = found.0 })) (expr_of [] c.expr)) here ≡ Ok False =
-        test_false tables columns parameters values caller row table fits given c.is.0 found.0 (expr_of [] c.expr) found.1
-        (both_right true (is_quiet_expr (expr_of [] c.expr)) (sym (ap is_quiet c.is.1) ∙ quiet)) (subst IsOn c.is.1 on) (c.has_value tables) c.known
-        (λ x there. not_null found.0 x found.2 there) found.4 in
+        let not_so : truth (by_place tables) (compare comparison.Equal (column (record { depth = 0; item = c.is.0; column = n })) (expr_of [] c.expr)) here ≡ Ok False =
+        test_false tables columns parameters values caller row table fits given c.is.0 n (expr_of [] c.expr) v
+        (both_right true (is_quiet_expr (expr_of [] c.expr)) (sym (ap is_quiet c.is.1) ∙ quiet)) (subst IsOn c.is.1 on) (c.has_value tables) c.known other.not_null other.differs in
         let all_false : all_truth (by_place tables) (conds (map (test_of []) tests)) here ≡ Ok False =
         all_is tables here tests
         ∙ first_false truth_here count tests c.among.0 c.test firsts_answer c.among.1 c.among.2 (ap (λ (x : PlacedCond). truth (by_place tables) x here) c.is.1 ∙ not_so) in
-        ap (λ (x : PlacedCond). is_true (truth (by_place tables) x here)) (term_tree own k.term k.only_term)
-        ∙ ap (λ (o : Outcome Truth). is_true (or_else o (Ok False))) all_false
+        ap (λ (x : PlacedCond). truth (by_place tables) x here) (term_tree own k.term k.only_term)
+        ∙ ap (λ (o : Outcome Truth). or_else o (Ok False)) all_false
+
+-- ---- a condition that names the rows of a table by the values of columns
+
+zip_weaker : {A B : Type 0} (P Q : A → B → Type 0) → ((x : A) (y : B) → P x y → Q x y) → (xs : List A) (ys : List B) → AllZip P xs ys → AllZip Q xs ys
+zip_weaker P Q so [] [] all = tt
+zip_weaker P Q so [] (y ∷ ys) all = absurd all
+zip_weaker P Q so (x ∷ xs) [] all = absurd all
+zip_weaker P Q so (x ∷ xs) (y ∷ ys) all = (so x y all.0, zip_weaker P Q so xs ys all.1)
+
+module _ (values : List Value) (caller : Name) where
+  -- so do the first tests of its only term
+  pub named_so : (own : BoundCond) (key : List ℕ) (wanted : List Value) → IsNamedBy key own values caller wanted → AllZip (IsFalseUnless values caller (cond_of [] own)) key wanted
+  named_so own key wanted k =
+      zip_weaker (IsComparedWith (take (length key) (out-BoundConj k.term).tests) values caller) (IsFalseUnless values caller (cond_of [] own))
+      (λ n v c tables columns parameters table row given stands fits other. column_false tables columns parameters values caller given table own key wanted k stands row fits n v c other) key wanted k.compared
+
+  -- it is false of each row that lacks the values
+  pub false_without : (c : PlacedCond) (key : List ℕ) (wanted : List Value) → AllZip (IsFalseUnless values caller c) key wanted
+      → (tables : TablePlace → Outcome (List Row)) (columns : TableKinds) (parameters : List Kind) (table : TablePlace) (row : Row) → IsRowOf parameters values → Stands columns parameters table c → Has (λ ks. IsRowOf ks row) (columns table)
+      → ((n : ℕ) (x : Value) → Contains key n → well_formed (slice_get row n) ≡ Ok x → is_null_value x ≡ false) → pointwise is_same wanted (in_columns row key) ≡ false
+      → truth (by_place tables) c (outside (row ∷ []) values caller) ≡ Ok False
+  false_without c key wanted all tables columns parameters table row given stands fits not_null lacks =
+      let found = lacked {R = IsFalseUnless values caller c} key wanted row all lacks in
+      found.3 tables columns parameters table row given stands fits (record { not_null = λ x there. not_null found.0 x found.2 there; differs = found.4 })

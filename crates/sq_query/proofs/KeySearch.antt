@@ -31,8 +31,7 @@ use Rattle.sq_query.specs.Row.{outside}
 use Rattle.sq_query.specs.Target.{is_true_of}
 use Rattle.sq_query.specs.declared.key.KnownKey.{KnownKey}
 use Rattle.sq_query.proofs.KeyColumns.{key_not_null, key_value, rows_have_values}
-use Rattle.sq_query.proofs.KeyOut as without
-use Rattle.sq_query.proofs.KeyOut.{all_both}
+use Rattle.sq_query.proofs.KeyOut.{all_both, false_without}
 use Rattle.sq_query.proofs.OnlyOne.{AtMostOne, at_most_one, distinct_at}
 
 -- ---- lists
@@ -83,9 +82,9 @@ module _ (tables : TablePlace → Outcome (List Row)) (columns : TableKinds) (pa
 
   left_out : (row : Row) → IsRowOf (base_kinds b) row → has_its_values b row ≡ true → pointwise is_same known.values (in_columns row own_columns) ≡ false
       → is_true (truth (by_place tables) (cond_of [] own) (outside (row ∷ []) values caller)) ≡ Ok false
-  left_out row is_row has_values =
-      without.left_out tables columns parameters values caller given (Base place) own own_columns known.values k.by_key stands row (subst (Has (λ ks. IsRowOf ks row)) (sym kinds_are) is_row)
-      (key_value b own_columns row (key_not_null bases keys place b known.key keys_are at k.key) has_values)
+  left_out row is_row has_values lacks =
+      ap is_true (false_without values caller (cond_of [] own) own_columns known.values k.named tables columns parameters (Base place) row given stands (subst (Has (λ ks. IsRowOf ks row)) (sym kinds_are) is_row)
+      (key_value b own_columns row (key_not_null bases keys place b known.key keys_are at k.key) has_values) lacks)
 
   -- ---- over all rows
 

@@ -42,7 +42,7 @@ use Rattle.sq_query.specs.ValueScan.{may_have}
 use Rattle.sq_query.specs.declared.needed.Needed.{Needed}
 use Rattle.sq_query.specs.declared.view.Tables.{Tables}
 use Rattle.sq_query.proofs.Added.{none_known}
-use Rattle.sq_query.proofs.KeyOut as without
+use Rattle.sq_query.proofs.KeyOut.{false_without, named_so}
 use Rattle.sq_query.proofs.KeyTests.{if_some, in_row}
 use Rattle.sq_query.proofs.NeededViews.{reads_known}
 use Rattle.sq_query.proofs.Searched.{line_test, only_read, read_of_search, same_over_few, with_own}
@@ -193,9 +193,10 @@ module _ (tables : TablePlace → Outcome (List Row)) (columns : TableKinds) (ca
     row_out row fits lacks =
         let cells = in_columns row shown in
         let known_there = null_in_none shown row (neither_right (pointwise is_same wanted cells) (list_any is_null cells) lacks) in
-        without.left_out tables columns parameters values caller given first own shown wanted named stands row fits
+        ap is_true
+        (false_without values caller (cond_of [] own) shown wanted (named_so values caller own shown wanted named) tables columns parameters first row given stands fits
         (λ n x among found. subst (λ (v : Value). is_null v ≡ false) (in_row row n x found) (known_there n among))
-        (neither_left (pointwise is_same wanted cells) (list_any is_null cells) lacks)
+        (neither_left (pointwise is_same wanted cells) (list_any is_null cells) lacks))
 
     all_out : AllByRecursion (λ row. may_have_it row ≡ false → test row ≡ Ok false) here.all
     all_out = all_weaker IsOfFirst (λ row. may_have_it row ≡ false → test row ≡ Ok false) row_out here.all of_first

@@ -1,20 +1,24 @@
 -- The key by which a condition names one row of a base table (ISO/IEC 9075:1992, 7.6, 13.7 and 13.10; own rule).
-use Rattle.std.specs.Prelude.{◌≡◌, ◌<◌, ℕ, length, take, true, false, List, [], ◌∷◌, Some, Ok}
+use Rattle.std.specs.Prelude.{◌≡◌, ◌<◌, ℕ, length, slice_get, slice_index_or, take, true, false, List, [], ◌∷◌, Some, Ok}
 use Rattle.std.specs.List.{AllZip, Contains}
 use Rattle.sq_lex.specs.declared.name.Name.{Name}
 use Rattle.sq_value.specs.declared.domain.Kind.{Kind}
+use Rattle.sq_value.specs.Comparison.{is_same}
+use Rattle.sq_value.specs.declared.truth.Truth.TheVariants.{False}
 use Rattle.sq_value.specs.declared.value.Value.{Value}
+use Rattle.sq_value.specs.declared.value.Value.TheVariants.{Null}
 use Rattle.sq_value.specs.SetFunctions.{is_null}
 use Rattle.sq_store.specs.Content.{Content}
 use Rattle.sq_store.specs.Keys.{Keys, keys_at, key_at}
 use Rattle.sq_tree.specs.declared.cond.Comparison.TheVariants.{Equal}
-use Rattle.sq_meaning.specs.Status.{Outcome}
+use Rattle.sq_meaning.specs.Status.{Outcome, well_formed}
 use Rattle.sq_meaning.specs.Syntax.{column, compare}
 use Rattle.sq_meaning.specs.Environment.{Row}
 use Rattle.sq_meaning.specs.Expression as meaning
 use Rattle.sq_meaning.specs.Placed.{by_place}
-use Rattle.sq_meaning.specs.WellFormed.{HasValue, IsDeclaredAt, WellFormedCond, kinds_by_place, of_lines}
-use Rattle.sq_bound.specs.Condition.{cond_of, test_of}
+use Rattle.sq_meaning.specs.Query.{truth}
+use Rattle.sq_meaning.specs.WellFormed.{Has, HasValue, IsRowOf, IsDeclaredAt, WellFormedCond, kinds_by_place, of_lines}
+use Rattle.sq_bound.specs.Condition.{PlacedCond, cond_of, test_of}
 use Rattle.sq_bound.specs.Expression.{expr_of}
 use Rattle.sq_bound.specs.Keyed.{names_key}
 use Rattle.sq_bound.specs.WellFormed.{Levels, TableKinds}
@@ -75,23 +79,47 @@ pub record IsNamedBy (columns : List ℕ) (own : BoundCond) (parameters : List V
   pub compared : AllZip (IsComparedWith (take (length columns) (out-BoundConj term).tests) parameters user)
       columns values
 
--- a key of the base table at a place by which a condition on its rows names one, and the values of its columns
-pub record IsKeyOn (place : ℕ) (own : BoundCond) (content : Content) (keys : List Keys)
-    (parameters : List Value) (user : Name) (known : KnownKey) : Type 0 where
-  pub table : place < length content
-  pub key : known.key < length (keys_at keys place)
-  pub by_key : IsNamedBy (key_at keys place known.key) own parameters user known.values
-
 -- where a row of a table alone is in scope
 abbrev pub on_rows_of : TablePlace → Levels
 on_rows_of t = of_lines (t ∷ []) ∷ []
 
 -- a condition that may stand on the rows of a table, whatever rows the tables have
-abbrev pub StandsOn : TableKinds → List Kind → TablePlace → BoundCond → Type 0
-StandsOn columns parameters t own =
+abbrev pub Stands : TableKinds → List Kind → TablePlace → PlacedCond → Type 0
+Stands columns parameters t c =
     (rows_of : TablePlace → Outcome (List Row))
     → WellFormedCond (by_place rows_of) (kinds_by_place columns parameters) (IsDeclaredAt parameters)
-    (on_rows_of t) (cond_of [] own)
+    (on_rows_of t) c
+
+abbrev pub StandsOn : TableKinds → List Kind → TablePlace → BoundCond → Type 0
+StandsOn columns parameters t own = Stands columns parameters t (cond_of [] own)
+
+-- a row has another value than this in a column, and not null
+pub record HasOther (row : Row) (n : ℕ) (v : Value) : Type 0 where
+  pub not_null : (x : Value) → well_formed (slice_get row n) ≡ Ok x → is_null x ≡ false
+  pub differs : is_same v (slice_index_or row n Null) ≡ false
+
+-- A condition names the rows of its table by a value of a column: it is false of each row that has another value there, and does not
+-- end with a status on it, whatever tests stand behind.
+abbrev pub IsFalseUnless : List Value → Name → PlacedCond → ℕ → Value → Type 0
+IsFalseUnless parameters user c n v =
+    (tables : TablePlace → Outcome (List Row)) (columns : TableKinds) (kinds : List Kind) (t : TablePlace)
+    (row : Row)
+    → IsRowOf kinds parameters → Stands columns kinds t c → Has (λ ks. IsRowOf ks row) (columns t)
+    → HasOther row n v → truth (by_place tables) c (outside (row ∷ []) parameters user) ≡ Ok False
+
+-- an expression has this value, not null, whatever row there is
+abbrev pub IsKnown : List Value → Name → BoundExpr → Value → Type 0
+IsKnown parameters user e v =
+    ((tables : TablePlace → Outcome (List Row))
+    → meaning.value (by_place tables) (expr_of [] e) (outside [] parameters user) ≡ Ok v)
+    × (is_null v ≡ false)
+
+-- a key of the base table at a place by whose columns a condition on its rows names them, and the values of the columns
+pub record IsKeyOn (place : ℕ) (own : BoundCond) (content : Content) (keys : List Keys)
+    (parameters : List Value) (user : Name) (known : KnownKey) : Type 0 where
+  pub table : place < length content
+  pub key : known.key < length (keys_at keys place)
+  pub named : AllZip (IsFalseUnless parameters user (cond_of [] own)) (key_at keys place known.key) known.values
 
 -- the key that is noted for a target: by it the target's own condition names a row
 pub record IsKeyOf (t : Target) (content : Content) (keys : List Keys) (parameters : List Value) (user : Name)

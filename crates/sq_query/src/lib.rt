@@ -13,6 +13,7 @@ mod item_key;
 mod items;
 mod key;
 mod meant;
+mod named;
 mod needed;
 mod order;
 mod plain_view;

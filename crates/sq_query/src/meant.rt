@@ -20,7 +20,8 @@ ghost use Rattle.sq_query.specs.Table.{numbered_in, numbered_row, stored_numbere
 ghost use Rattle.sq_query.specs.Target.{AreNumbersOf, AreRowsThere, HasTargetRows, IsChosenAsMeant, conditions_of, is_true_of, numbers_chosen, numbers_in};
 
 use crate::inputs::Inputs;
-use crate::key::{KnownKey, known_key, shortest_known_key};
+use crate::key::{KnownKey, known_key};
+use crate::named::key_of_condition;
 use crate::scan::rows_by_scan;
 use crate::target::meets_target;
 use sq_bound::{Names, Target};
@@ -157,7 +158,7 @@ pub fn key_of<S: Store>(
 }
 
 /// The key by which a target names a row of the base table, with its values, where no other row needs to be looked at: the one that is
-/// noted for it or, where views are between or the condition has a subquery, the shortest.
+/// noted for it or, if none is, one that its condition names.
 fn key_under<S: Store>(
     target: &Target,
     store: &S,
@@ -179,8 +180,8 @@ fn key_under<S: Store>(
     }
 }
 
-/// The shortest key by which a target's own condition names a row of the base table, with its values: `None` if the condition of a
-/// view between may end with a status on another row.
+/// A key by which a target's own condition names a row of the base table, with its values: `None` if the condition of a view between may
+/// end with a status on another row.
 fn key_through_views<S: Store>(
     target: &Target,
     store: &S,
@@ -200,7 +201,7 @@ fn key_through_views<S: Store>(
         return Ok(None);
     };
     if target.leaf.get().is_quiet {
-        shortest_known_key(target.base, own, store, call)
+        key_of_condition(target.base, own, store, call)
     } else {
         Ok(None)
     }

@@ -6,7 +6,7 @@ use Rattle.sq_bound.specs.declared.condition.BoundCond.{out-BoundCond}
 use Rattle.sq_bound.specs.declared.condition.BoundTest.{BoundTest}
 use Rattle.sq_query.specs.Key.{AreFirstTests}
 use Rattle.sq_query.specs.Keyed.{AreKnownEqual}
-use Rattle.sq_query.proofs.KeyNames.{key_on}
+use Rattle.sq_query.proofs.KeysOn.{key_on}
 use Rattle.sq_query.proofs.KnownKeys.{known_if}
 use Rattle.sq_query.proofs.key.key_with_values.Goals as goal
 

@@ -11,20 +11,20 @@ returns-then-get-clause-known g c =
     let store = c.args.store.now in
     let call = c.args.call.now in
     let quiet : c.args.target.now.leaf.is_quiet ≡ true = sym (ap (λ (l : Leaf). l.is_quiet) c.get.ensures) ∙ c.if-get.true in
-    views_under c.args.target.now (g.S.Store.content_now store) (g.S.Store.key_columns store) call.parameters.now call.user c.in-Some.own c.shortest_known_key.result c.in-Some.is quiet
-    c.shortest_known_key.ensures.known
+    views_under c.args.target.now (g.S.Store.content_now store) (g.S.Store.key_columns store) call.parameters.now call.user c.in-Some.own c.key_of_condition.result c.in-Some.is quiet
+    c.key_of_condition.ensures.known
 
 pub returns-then-get-clause-found : goal.returns-then-get-clause-found
 returns-then-get-clause-found g c = λ quiet.
     let t = c.args.target.now in
     let call = c.args.call.now in
     let keys = keys_at (g.S.Store.key_columns c.args.store.now) t.base in
-    known_if c.shortest_known_key.result (IsKeyedBy keys c.in-Some.own call.parameters.now call.user) (IsKeyedUnder t call.parameters.now call.user)
-    (known_own t call.parameters.now call.user c.in-Some.own keys c.in-Some.is c.requires.keys) c.shortest_known_key.ensures.found
+    known_if c.key_of_condition.result (IsKeyedBy keys c.in-Some.own call.parameters.now call.user) (IsKeyedUnder t call.parameters.now call.user)
+    (known_own t call.parameters.now call.user c.in-Some.own keys c.in-Some.is c.requires.keys) c.key_of_condition.ensures.found
 
 pub returns-then-get-clause-memory : goal.returns-then-get-clause-memory
 returns-then-get-clause-memory g c = λ columns parameters well given.
-    c.shortest_known_key.ensures.memory columns parameters (own_on_base columns parameters c.args.target.now c.in-Some.own well c.in-Some.is) given
+    c.key_of_condition.ensures.memory columns parameters (own_on_base columns parameters c.args.target.now c.in-Some.own well c.in-Some.is) given
 
 pub returns-else-get-clause-found : goal.returns-else-get-clause-found
 returns-else-get-clause-found g c = λ quiet keyed.
