@@ -159,6 +159,7 @@ granted_told held columns (privileges.Actions actions) =
     (refused_if fault.PrivilegeMissing (not (list_all held (flat_map (action_privileges columns) (listed actions))))) (λ u. flat_map (action_privileges columns) (listed actions))
     (if_told fault.PrivilegeMissing (not (list_all held (flat_map (action_privileges columns) (listed actions)))) (not (list_all held (flat_map (action_privileges columns) (listed actions)))) refl)
     (λ u e. record { all = not-false (list_all held (flat_map (action_privileges columns) (listed actions))) e; named = λ p on is. actions_name columns p on (listed actions) })
+
 -- what is named is covered and held
 pub granted_is : (held : Privilege → Bool) (columns : List Name) (written : Privileges) (ps : List Privilege) → AreGranted held columns written ps → (p : Privilege) → (held p ≡ true → is_on_column columns p ≡ true) → is_named p ps ≡ (covers written p && held p)
 granted_is held columns written ps are p on = by (held p) refl

@@ -102,6 +102,7 @@ module _ (grantable : Bool) (who : Name) (t : TableName) (p : Privilege) where
   given_with_grants grants [] = sym (or_false (given grants))
   given_with_grants grants (g ∷ new) =
       given_with_grants (with_grant grants g) new ∙ ap (λ b. b || given new) (given_with_grant grants g) ∙ or_assoc (given grants) (gives grantable who t p g) (given new)
+
   -- ---- to the user by name, or to PUBLIC
 
   abbrev to_holder : Option Name → Grant

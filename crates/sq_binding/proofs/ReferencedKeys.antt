@@ -205,6 +205,7 @@ all_among_more [] more e name = refl
 all_among_more (n ∷ names) more e name =
     let parts = and_parts (is_among more n) (list_all (is_among more) names) e in
     λ i. or_right (same_name n name) (is_among more n) parts.0 i && all_among_more names more parts.1 name i
+
 all_among_itself : (names : List Name) → list_all (is_among names) names ≡ true
 all_among_itself [] = refl
 all_among_itself (n ∷ names) = λ i. (ap (λ b. b || is_among names n) (name_itself n)) i && all_among_more names names (all_among_itself names) n i

@@ -34,6 +34,7 @@ once_more (m ∷ names) n once new =
     or_from (list_any (same_name m) (names ++ n ∷ [])) (has_name_twice (names ++ n ∷ []))
     (list_any-append (same_name m) names (n ∷ []) ∙ or_from (list_any (same_name m) names) (same_name m n || false) first.0 (or_from (same_name m n) false (nat_list_eq_equiv.symm m n ∙ later.0) refl))
     (once_more names n first.1 later.1)
+
 -- one that is there
 pub there_twice : (names more : List Name) (n : Name) → is_among names n ≡ true → has_name_twice (names ++ n ∷ more) ≡ true
 there_twice [] more n h = absurd cc

@@ -99,6 +99,7 @@ referred_within bases t lost refer base = all_from (λ key. nat_lt key (length t
         let number : r.1.key ≡ key = eqb-true r.1.key key two.1 in
         let known : refers bases r.1 ≡ true = all_in (refers bases) b.1.references r.1 (all_in (λ a. list_all (refers bases) a.references) bases b.1 refer (b.0, b.2, b.3)) (r.0, r.2, r.3) in
         sym (λ i. nat_lt (number i) (length (keys i))) ∙ ap (λ (p : ℕ). nat_lt r.1.key (length (keys_at (keys_of_bases bases) p))) (sym table) ∙ known
+
 -- ---- a row that is not there after changes was under a number of one of them
 
 pub stays_or_goes : (changes : List Change) (t : Table) (m : Numbered) → Contains t.rows m → Contains (changed_by t changes).rows m ⊎ ((change : Change) × Contains changes change × (number_changed change ≡ Some m.number))
@@ -191,6 +192,7 @@ nulls_same (v ∷ vs) (w ∷ ws) h =
     let first : is_null v ≡ is_null w = null_same v w two.0 in
     let rest : has_null vs ≡ has_null ws = nulls_same vs ws two.1 in
     (λ i. first i || rest i)
+
 -- a row is found by values that are the same
 pub found_same : (t : Table) (columns : List ℕ) (vs ws : List Value) → pointwise is_same vs ws ≡ true → with_key t columns vs ≡ with_key t columns ws
 found_same t columns vs ws h = λ i. find (λ r. (lists_equiv same_equiv).congr vs ws (in_columns r.row columns) h i) t.rows
@@ -247,6 +249,7 @@ none_lost bases content table lost none =
     ap (λ (ls : List LostKey). are_free bases content table ls) none
     ∙ each_meets (table_free (keys_of_bases bases) content table [])
     (λ p. each_meets (free_by (keys_of_bases bases) content table [] p.0) (λ r. or_true (not (nat_eq r.table table))) p.1.references) (enumerate_from 0 bases)
+
 -- ---- the values of one key more
 
 module _ (keys : Keys) (row : Row) (key : ℕ) (found : Option Row) (is : found ≡ values_in row (slice_index_or keys key [])) where

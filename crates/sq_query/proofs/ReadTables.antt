@@ -178,6 +178,7 @@ module _ (content : Content) where
       let here : table_there content p ≡ Ok (table_at content p) = h p (ap (λ b. b || list_any (is p) ps) (eq-eqb p p refl)) in
       let later : each (stored_base content) ps ≡ Ok (map stored_pair ps) = each_stored ps (λ n among. h n (or_right (nat_eq p n) (list_any (is n) ps) among)) in
       (λ i. and_then (stored_by p (here i)) (λ y. and_then (later i) (λ ys. Ok (y ∷ ys))))
+
   pair_place : (b : BaseRows) (q : ℕ) → base_seen b ≡ stored_pair q → b.place ≡ q
   pair_place b q e = ap (λ (x : ℕ × List Row). x.0) e
 
