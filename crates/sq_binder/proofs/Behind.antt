@@ -1,13 +1,14 @@
 -- Parts of a query one behind another: what is made of several parts, and lists of parts.
-use Rattle.std.proofs.Common.{◌≡◌, ℕ, Bool, true, false, ◌||◌, List, [], ◌∷◌, max, Ok, Err, refl, sym, ap, ◌∙◌, arith}
+use Rattle.std.proofs.Common.{◌≡◌, ℕ, Bool, true, false, List, [], ◌∷◌, max, Ok, Err, refl, sym, ap, ◌∙◌, arith}
 use Rattle.std.proofs.lemmas.List.{append-nil}
+use Rattle.sq_value.proofs.Truths.{or_true, or_false}
 use Rattle.sq_meaning.specs.declared.fault.BindingFault.{BindingFault}
 use Rattle.sq_binding.specs.Findings.{Findings, none}
 use Rattle.sq_binding.specs.Findings as value
 use Rattle.sq_binding.specs.Found.{Binding, Counts, Found, ◌>>=◌, after, each, has_found, must, pure, then_joined, with_next}
 use Rattle.sq_binding.specs.Outcome.{Outcome, and_then}
 use Rattle.sq_binding.specs.QueryFindings.{QueryFindings, a_status, both}
-use Rattle.sq_binding.proofs.Lists.{all_bound, before_rest, both_alone, next_bound, or_nothing}
+use Rattle.sq_binding.proofs.Lists.{all_bound, before_rest, both_alone, next_bound}
 use Rattle.sq_binder.specs.Found.{failing, paired, pairs}
 use Rattle.sq_binder.proofs.Steps.{stepped, stepped_fault}
 
@@ -24,7 +25,7 @@ pub alone : {A B : Type 0} (p : B) (counts : Counts) (x : Found A) → then_join
 alone p counts x = λ i. Ok (record {
   part = p;
   calls = append-nil x.calls i;
-  calls_can_fail = or_nothing x.calls_can_fail i;
+  calls_can_fail = or_false x.calls_can_fail i;
   findings = both_alone x.findings i;
   subqueries = x.subqueries;
 })
@@ -99,17 +100,13 @@ pub with_status : {A B : Type 0} (p : B) (counts : Counts) (x : Found A) → the
 with_status p counts x = λ i. Ok (record {
   part = p;
   calls = append-nil x.calls i;
-  calls_can_fail = or_nothing x.calls_can_fail i;
+  calls_can_fail = or_false x.calls_can_fail i;
   findings = both x.findings (both_alone a_status i);
   subqueries = x.subqueries;
 })
 
 max_none : (n : ℕ) → max n 0 ≡ n
 max_none n = omega arith
-
-or_true : (a : Bool) → (a || true) ≡ true
-or_true true = refl
-or_true false = refl
 
 -- what is found where a status may be answered
 pub with_a_status : (f : QueryFindings) → both f a_status ≡ record f { values = value.failing f.values }
@@ -118,14 +115,14 @@ with_a_status f = λ i. record {
     items = max_none f.values.items i;
     outer_items = max_none f.values.outer_items i;
     reach = max_none f.values.reach i;
-    reads_outermost = or_nothing f.values.reads_outermost i;
+    reads_outermost = or_false f.values.reads_outermost i;
     can_fail = or_true f.values.can_fail i;
-    has_ungrouped = or_nothing f.values.has_ungrouped i;
-    has_user = or_nothing f.values.has_user i;
+    has_ungrouped = or_false f.values.has_ungrouped i;
+    has_user = or_false f.values.has_user i;
   };
-  has_subquery = or_nothing f.has_subquery i;
-  lacks_privilege = or_nothing f.lacks_privilege i;
-  lacks_grant_option = or_nothing f.lacks_grant_option i;
+  has_subquery = or_false f.has_subquery i;
+  lacks_privilege = or_false f.lacks_privilege i;
+  lacks_grant_option = or_false f.lacks_grant_option i;
 }
 
 -- ---- lists

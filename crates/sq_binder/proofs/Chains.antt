@@ -1,15 +1,12 @@
 -- Parts one behind another: whichever two of three are taken together, and where one of them brings nothing along.
-use Rattle.std.proofs.Common.{◌≡◌, ◌+◌, add-zero, Bool, true, false, ◌||◌, ◌++◌, length, Ok, Err, refl, ap, append_assoc, length-append, arith, ◌∙◌}
+use Rattle.std.proofs.Common.{◌≡◌, ◌+◌, add-zero, true, ◌++◌, length, Ok, Err, refl, ap, append_assoc, length-append, arith, ◌∙◌}
+use Rattle.sq_value.proofs.Truths.{or_assoc}
 use Rattle.sq_meaning.specs.declared.fault.BindingFault.{BindingFault}
 use Rattle.sq_binding.specs.Found.{Binding, Counts, Found, ◌>>=◌, after, joined, must, outcome, pure, then_joined}
 use Rattle.sq_binding.specs.Outcome.{Outcome, and_then}
 use Rattle.sq_binding.specs.QueryFindings.{nothing}
 use Rattle.sq_binding.proofs.Lists.{both_turn}
 use Rattle.sq_binding.proofs.Turns.{both_first, only}
-
-or_turn : (a b c : Bool) → ((a || b) || c) ≡ (a || (b || c))
-or_turn true b c = refl
-or_turn false b c = refl
 
 module _ {A B C : Type 0} (b : Binding A) (f : A → Binding B) (k : B → Binding C) (counts : Counts) where
   after_both : (x : Found A) (y : Found B) → after counts (joined x y) ≡ after (after counts x) y
@@ -21,7 +18,7 @@ module _ {A B C : Type 0} (b : Binding A) (f : A → Binding B) (k : B → Bindi
   joined_turn x y z = λ i. record {
     part = z.part;
     calls = append_assoc x.calls y.calls z.calls i;
-    calls_can_fail = or_turn x.calls_can_fail y.calls_can_fail z.calls_can_fail i;
+    calls_can_fail = or_assoc x.calls_can_fail y.calls_can_fail z.calls_can_fail i;
     findings = both_turn x.findings y.findings z.findings i;
     subqueries = z.subqueries;
   }

@@ -1,8 +1,9 @@
 -- Items of FROM: their columns, and whether two are exposed by one name.
-use Rattle.std.proofs.Common.{◌≡◌, ℕ, suc, ◌+◌, ◌-◌, ◌<◌, ◌≤◌, Bool, true, false, ◌||◌, List, [], ◌∷◌, ◌++◌, length, length-take-le, take, take_all, drop, map, get_or, Option, None, Some, refl, sym, ap, ◌∙◌, arith, add-zero, zero-add}
+use Rattle.std.proofs.Common.{◌≡◌, ℕ, suc, ◌+◌, ◌-◌, ◌<◌, ◌≤◌, Bool, ◌||◌, List, [], ◌∷◌, ◌++◌, length, length-take-le, take, take_all, drop, map, get_or, Option, None, Some, refl, sym, ap, ◌∙◌, arith, add-zero, zero-add}
 use Rattle.std.proofs.lemmas.List.{length-map, map-append, take_more}
 use Rattle.std.specs.List.{cons_option, enumerate_from, filter_map, list_any}
 use Rattle.std.specs.Prelude.{filter}
+use Rattle.sq_value.proofs.Truths.{or_assoc, or_swap}
 use Rattle.sq_lex.specs.declared.name.Name.{Name}
 use Rattle.sq_meaning.specs.Environment.{TableName, TableReference, same_name, same_table}
 use Rattle.sq_bound.specs.declared.names.Column.{Column}
@@ -40,24 +41,15 @@ module _ (t : TableName) where
   any_tables [] = refl
   any_tables (s ∷ rs) = tables_at rs (list_any (clashes (record { table = t; correlation = None })) rs) (any_tables rs) s.correlation s.table
 
-or_left : (a b c : Bool) → ((a || b) || c) ≡ (a || (b || c))
-or_left true b c = refl
-or_left false b c = refl
-
-or_over : (a b c : Bool) → (b || (a || c)) ≡ (a || (b || c))
-or_over true true c = refl
-or_over true false c = refl
-or_over false b c = refl
-
 twice_at : (t : TableName) (o : Option Name) (rs : List TableReference) → let r : TableReference = record { table = t; correlation = o } in has_item_twice (r ∷ rs) ≡ (list_any (clashes r) rs || has_item_twice rs)
 twice_at t (Some m) rs =
     let names = has_twice same_name (correlations rs) in
     let tables = has_twice same_table (uncorrelated rs) in
-    or_left (list_any (same_name m) (correlations rs)) names tables ∙ ap (λ (b : Bool). b || (names || tables)) (any_names t m rs)
+    or_assoc (list_any (same_name m) (correlations rs)) names tables ∙ ap (λ (b : Bool). b || (names || tables)) (any_names t m rs)
 twice_at t None rs =
     let names = has_twice same_name (correlations rs) in
     let tables = has_twice same_table (uncorrelated rs) in
-    or_over (list_any (same_table t) (uncorrelated rs)) names tables ∙ ap (λ (b : Bool). b || (names || tables)) (any_tables t rs)
+    or_swap names (list_any (same_table t) (uncorrelated rs)) tables ∙ ap (λ (b : Bool). b || (names || tables)) (any_tables t rs)
 
 -- one of them is exposed by the name of a later one, or two later ones are by one name
 pub twice_step : (r : TableReference) (rs : List TableReference) → has_item_twice (r ∷ rs) ≡ (list_any (clashes r) rs || has_item_twice rs)

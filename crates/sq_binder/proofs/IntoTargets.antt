@@ -7,6 +7,7 @@ use Rattle.std.proofs.lemmas.List.Folds.{list_any-append}
 use Rattle.std.proofs.lemmas.Slice.Zip.{get_or-zip, length-zip}
 use Rattle.std.specs.List.{list_any, zip}
 use Rattle.std.specs.Prelude.{nat_eq, option_to_list, ◌==◌}
+use Rattle.sq_value.proofs.Truths.{or_false}
 use Rattle.sq_value.specs.declared.domain.Kind.{Kind}
 use Rattle.sq_tree.specs.declared.names.Parameter.{Parameter}
 use Rattle.sq_meaning.specs.Placed.{PlacedParameter}
@@ -143,13 +144,9 @@ set_among p [] = refl
 set_among p (o ∷ os) =
     list_any-append (λ set. nat_eq set p) (set_by (output_seen o)) (all_set (map output_seen os)) ∙ ap (λ b. list_any (λ set. nat_eq set p) (set_by (output_seen o)) || b) (set_among p os)
 
-or_none : (a : Bool) → (a || false) ≡ a
-or_none true = refl
-or_none false = refl
-
 again_split : (os : List Output) (p : ℕ) (indicator : Option ℕ) → has_twice nat_eq (all_set (map output_seen os)) ≡ false
     → has_twice nat_eq (all_set (map output_seen os) ++ p ∷ option_to_list indicator) ≡ (is_set_in os p || indicator_again os p indicator)
-again_split os p None once = once_more nat_eq (all_set (map output_seen os)) p once ∙ set_among p os ∙ sym (or_none (is_set_in os p))
+again_split os p None once = once_more nat_eq (all_set (map output_seen os)) p once ∙ set_among p os ∙ sym (or_false (is_set_in os p))
 again_split os p (Some i) once = twice_more nat_eq (all_set (map output_seen os)) p i once ∙ (λ j. set_among p os j || (nat_eq p i || set_among i os j))
 
 pub again_is : (os : List Output) (o : Output) → has_twice nat_eq (all_set (map output_seen os)) ≡ false → is_set_again os o ≡ has_twice nat_eq (all_set (map output_seen os) ++ set_by (output_seen o))

@@ -5,6 +5,7 @@ use Rattle.std.proofs.lemmas.List.{drop_all, drop_more}
 use Rattle.std.proofs.lemmas.Simd.{map-map}
 use Rattle.std.specs.List.{list_all, zip}
 use Rattle.std.specs.Prelude.{cond, find, nat_lt}
+use Rattle.sq_value.proofs.Truths.{both_left, both_right}
 use Rattle.sq_lex.specs.declared.name.Name.{Name}
 use Rattle.sq_meaning.specs.Environment.{same_name}
 use Rattle.sq_meaning.specs.Tables.{ColumnDescriptor}
@@ -23,14 +24,6 @@ use Rattle.sq_binder.specs.declared.changeable.ChangedTable.{ChangedTable}
 use Rattle.sq_binding.proofs.Inserts.{found_holds}
 use Rattle.sq_binder.specs.Receiver.{AreWithin, named_once, once, receiver_at, receiver_seen}
 use Rattle.sq_binder.specs.declared.receiver.Receiver.{Receiver}
-
-and_left : (a b : Bool) → (a && b) ≡ true → a ≡ true
-and_left true b h = λ i. true
-and_left false b h = h
-
-and_right : (a b : Bool) → (a && b) ≡ true → b ≡ true
-and_right true b h = h
-and_right false b h = cc
 
 with_rest : (a b c : Bool) → (b ≡ true → c ≡ true) → (a && b) ≡ true → (a && c) ≡ true
 with_rest true b c f h = f h
@@ -55,7 +48,7 @@ module _ (n : ℕ) where
   receivers_within : (columns : List binding.ItemColumn) → list_all within columns ≡ true → AreWithin n (map as_receiver columns)
   receivers_within [] h = tt
   receivers_within (c ∷ columns) h =
-      (is_below c.position n (and_left (within c) (list_all within columns) h), receivers_within columns (and_right (within c) (list_all within columns) h))
+      (is_below c.position n (both_left (within c) (list_all within columns) h), receivers_within columns (both_right (within c) (list_all within columns) h))
 
 pub table_within : (t : ChangedTable) → AreWithin (length t.under.leaf.now.table.columns) (change.receivers_of (changed_of t))
 table_within t =

@@ -2,27 +2,15 @@
 use Rattle.std.proofs.Common.{◌≡◌, Bool, true, false, ◌||◌, List, [], ◌∷◌, ◌++◌, refl, sym, ap, append_assoc, ◌∙◌}
 use Rattle.std.proofs.lemmas.List.Folds.{list_any-append}
 use Rattle.std.specs.List.{list_any}
+use Rattle.sq_value.proofs.Truths.{or_false}
 use Rattle.sq_meaning.specs.Words.{has_twice}
-
-or_turn : (a b c : Bool) → ((a || b) || c) ≡ (a || (b || c))
-or_turn true b c = refl
-or_turn false b c = refl
-
-or_over : (a b c : Bool) → (a || (b || c)) ≡ (b || (a || c))
-or_over true true c = refl
-or_over true false c = refl
-or_over false b c = refl
-
-or_none : (a : Bool) → (a || false) ≡ a
-or_none true = refl
-or_none false = refl
 
 module _ {A : Type 0} (same : A → A → Bool) where
   one_behind : (xs : List A) (y : A) → has_twice same (xs ++ y ∷ []) ≡ (list_any (λ x. same x y) xs || has_twice same xs)
   one_behind [] y = refl
   one_behind (x ∷ xs) y =
       (λ i. list_any-append (same x) xs (y ∷ []) i || one_behind xs y i)
-      ∙ ap (λ b. (list_any (same x) xs || b) || (list_any (λ x. same x y) xs || has_twice same xs)) (or_none (same x y))
+      ∙ ap (λ b. (list_any (same x) xs || b) || (list_any (λ x. same x y) xs || has_twice same xs)) (or_false (same x y))
       ∙ turned (list_any (same x) xs) (same x y) (list_any (λ x. same x y) xs) (has_twice same xs)
     where
       turned : (a b c d : Bool) → ((a || b) || (c || d)) ≡ ((b || c) || (a || d))
@@ -34,7 +22,7 @@ module _ {A : Type 0} (same : A → A → Bool) where
 
   -- a further element, where none is there twice
   pub once_more : (xs : List A) (y : A) → has_twice same xs ≡ false → has_twice same (xs ++ y ∷ []) ≡ list_any (λ x. same x y) xs
-  once_more xs y once = one_behind xs y ∙ ap (λ b. list_any (λ x. same x y) xs || b) once ∙ or_none (list_any (λ x. same x y) xs)
+  once_more xs y once = one_behind xs y ∙ ap (λ b. list_any (λ x. same x y) xs || b) once ∙ or_false (list_any (λ x. same x y) xs)
 
   -- two more elements
   pub twice_more : (xs : List A) (y z : A) → has_twice same xs ≡ false → has_twice same (xs ++ y ∷ z ∷ []) ≡ (list_any (λ x. same x y) xs || (same y z || list_any (λ x. same x z) xs))

@@ -1,9 +1,10 @@
 -- Query specifications over one table that may be changed: their table, and the columns that they show.
-use Rattle.std.proofs.Common.{◌≡◌, ℕ, ◌+◌, ◌<◌, ◌≤◌, Bool, true, false, List, [], ◌∷◌, ◌++◌, length, map, get_or, drop, Option, None, Some, refl, sym, ap, ◌∙◌, append-nil}
+use Rattle.std.proofs.Common.{◌≡◌, ℕ, ◌+◌, ◌<◌, ◌≤◌, Bool, false, List, [], ◌∷◌, ◌++◌, length, map, get_or, drop, Option, None, Some, refl, sym, ap, ◌∙◌, append-nil}
 use Rattle.std.proofs.lemmas.List.{append_assoc, drop_all, drop_more}
 use Rattle.std.specs.Borrow.{Bor}
 use Rattle.std.specs.Option.{is_some, option_and_then, option_copied, option_map}
 use Rattle.std.specs.Prelude.{fold, not, ◌&&◌}
+use Rattle.sq_value.proofs.Truths.{and_true, and_false}
 use Rattle.sq_lex.specs.declared.name.Name.{Name}
 use Rattle.sq_tree.specs.declared.cond.Cond.{Cond}
 use Rattle.sq_tree.specs.declared.cond.QuerySpecification.{QuerySpecification, out-QuerySpecification}
@@ -48,14 +49,6 @@ one_alone f first rest none = ap (λ l. only_one (map f (first ∷ l))) (sym non
 pub one_of_several : {A : Type 0} (f : A → TableReference) (first : A) (rest : List A) → (rest ≡ [] → ⊥) → None ≡ only_one (map f (first ∷ rest))
 one_of_several f first [] some = absurd (some refl)
 one_of_several f first (r ∷ rest) some = refl
-
-and_true : (b : Bool) → (b && true) ≡ b
-and_true true = refl
-and_true false = refl
-
-and_false : (b : Bool) → (b && false) ≡ false
-and_false true = refl
-and_false false = refl
 
 -- a WHERE clause that is lent
 pub clause_lent : (own : Name) (o : Option (Bor Cond)) (c : Option Cond) → option_copied o ≡ c → clause (option_map (λ (x : Bor Cond). cond_of own x.now) o) ≡ clause (option_map (cond_of own) c)

@@ -3,6 +3,8 @@
 use Rattle.std.proofs.Common.{◌≡◌, ℕ, zero, suc, Bool, true, false, ◌||◌, List, [], ◌∷◌, Some, Ok, Err, refl, sym, ap, subst, ◌∙◌}
 use Rattle.std.specs.List.{list_any}
 use Rattle.std.specs.Prelude.{is_ok, not, slice_get}
+use Rattle.std.proofs.lemmas.Bool.{false≢true}
+use Rattle.sq_value.proofs.Truths.{or_true}
 use Rattle.sq_meaning.specs.Spelled.{Named}
 use Rattle.sq_meaning.specs.Syntax.{Select}
 use Rattle.sq_meaning.specs.Binding.{Judged, breaks, has_fault, has_syntax_fault, syntax_faults}
@@ -20,7 +22,6 @@ use Rattle.sq_binding.proofs.CondFaults.{SelectSpellsNoNull, select_faults}
 use Rattle.sq_binding.proofs.FromFaults.{NamesFit}
 use Rattle.sq_binding.proofs.Judged.{IfJudged}
 use Rattle.sq_binding.proofs.PredicateFaults.{IsShown, surrounded}
-use Rattle.sq_binding.proofs.Sites.{no_truth, or_true}
 
 any_there : {A : Type 0} (test : A → Bool) (xs : List A) (n : ℕ) (x : A) → slice_get xs n ≡ Some x → test x ≡ true → list_any test xs ≡ true
 any_there test [] n x e t = cc
@@ -64,7 +65,7 @@ syntax_fault j sites fault.NotUpdatable h g = any_there (has_fault j sites) synt
 syntax_fault j sites fault.ColumnTwice h g = any_there (has_fault j sites) syntax_faults 13 fault.ColumnTwice refl h
 syntax_fault j sites fault.UnknownCursor h g = any_there (has_fault j sites) syntax_faults 14 fault.UnknownCursor refl h
 syntax_fault j sites fault.BadOrientation h g = any_there (has_fault j sites) syntax_faults 15 fault.BadOrientation refl h
-syntax_fault j sites fault.PrivilegeMissing h g = absurd (no_truth (sym (held_everywhere j sites) ∙ g))
+syntax_fault j sites fault.PrivilegeMissing h g = absurd (false≢true (sym (held_everywhere j sites) ∙ g))
 
 module _ (names : NamedTables) (j : Judged) (fit : NamesFit names j) where
   -- what is refused has a syntax fault
@@ -78,7 +79,7 @@ module _ (names : NamedTables) (j : Judged) (fit : NamesFit names j) where
     where
       there : (o : Outcome (Found NumberedSelect)) → select_bound (surrounded names j [] false) q counts ≡ o → (x : Found NumberedSelect) × (select_bound (surrounded names j [] false) q counts ≡ Ok x)
       there (Ok x) is = (x, is)
-      there (Err f) is = absurd (no_truth (sym sound ∙ refused_has_fault q null counts f is))
+      there (Err f) is = absurd (false≢true (sym sound ∙ refused_has_fault q null counts f is))
 
   -- what is bound has none
   pub bound_is_sound : (q : Select Named) → SelectSpellsNoNull q → (counts : Counts) (x : Found NumberedSelect) → select_bound (surrounded names j [] false) q counts ≡ Ok x → has_syntax_fault j (select_sites j.known outside q) ≡ false

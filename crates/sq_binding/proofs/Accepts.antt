@@ -2,6 +2,7 @@
 -- missing privilege is answered where no rule of syntax is broken (ISO/IEC 9075:1992, 4.26).
 use Rattle.std.proofs.Common.{◌≡◌, Bool, true, false, not, ◌||◌, List, Ok, Err, refl, sym, subst, ◌∙◌}
 use Rattle.std.specs.Prelude.{is_ok, if◌then◌else◌}
+use Rattle.std.proofs.lemmas.Bool.{false≢true}
 use Rattle.sq_meaning.specs.Binding.{Judged, has_fault, has_syntax_fault, is_well_formed, lacks_privilege}
 use Rattle.sq_meaning.specs.Site.{Site}
 use Rattle.sq_meaning.specs.declared.fault.BindingFault.{BindingFault}
@@ -11,7 +12,6 @@ use Rattle.sq_binding.specs.Outcome.{Outcome, and_then}
 use Rattle.sq_binding.specs.Whole.{at_first, permitted, whole}
 use Rattle.sq_binding.proofs.Accepted.{all_held, held_everywhere, syntax_fault}
 use Rattle.sq_binding.proofs.Clean.{Clean}
-use Rattle.sq_binding.proofs.Sites.{no_truth}
 use Rattle.sq_binding.proofs.Told.{Told}
 
 -- a fault that is answered is there; a missing privilege, where no rule of syntax is broken
@@ -44,7 +44,7 @@ module _ (j : Judged) (sites : List Site) where
   fault_accepts f h g = (
     h,
     not_sound (has_syntax_fault j sites) (lacks_privilege j sites) (syntax_fault j sites f h g),
-    λ missing. absurd (no_truth (sym (held_everywhere j sites) ∙ subst (λ f. has_fault (all_held j) sites f ≡ true) missing g)),
+    λ missing. absurd (false≢true (sym (held_everywhere j sites) ∙ subst (λ f. has_fault (all_held j) sites f ≡ true) missing g)),
   )
 
   told_accepts : {A : Type 0} (o : Outcome A) → Told j sites o → Told (all_held j) sites o → lacks_privilege j sites ≡ false → Accepts j sites o

@@ -3,6 +3,7 @@
 use Rattle.std.proofs.Common.{◌≡◌, ℕ, ◌+◌, Bool, true, false, ◌||◌, List, [], ◌∷◌, length, Option, Some, None, Ok, Err, refl, sym, ap, subst, ◌∙◌}
 use Rattle.std.specs.List.{AllZip}
 use Rattle.std.specs.Prelude.{⊤, if◌then◌else◌, nat_eq}
+use Rattle.std.proofs.lemmas.Bool.{or_left, or_right}
 use Rattle.sq_value.specs.declared.domain.Kind.{Kind}
 use Rattle.sq_meaning.specs.Environment.{Place}
 use Rattle.sq_meaning.specs.Spelled.{Named}
@@ -131,14 +132,6 @@ abbrev pub LikeClause : NumberedClause → NumberedClause → Type 0
 LikeClause x y = is_bound x ≡ is_bound y
 
 -- ---- all of them, one by the other
-
-or_left : (a b : Bool) → a ≡ true → (a || b) ≡ true
-or_left true b e = refl
-or_left false b e = cc
-
-or_right : (a b : Bool) → b ≡ true → (a || b) ≡ true
-or_right true b e = refl
-or_right false b e = e
 
 module _ (parameters : List Declared) where
   abbrev at : NamedTables → List Scope → Bool → Surroundings

@@ -5,6 +5,8 @@ use Rattle.std.proofs.lemmas.Simd.{map-map}
 use Rattle.std.specs.List.{AllZip, cons_option, filter_map, list_all, list_any, zip}
 use Rattle.std.specs.Option.{option_and_then, option_map}
 use Rattle.std.specs.Prelude.{◌==◌, if◌then◌else◌, is_some, slice_get}
+use Rattle.std.proofs.lemmas.Bool.{or_parts}
+use Rattle.sq_value.proofs.Truths.{and_without}
 use Rattle.sq_lex.specs.declared.name.Name.{Name}
 use Rattle.sq_value.specs.Domain.{kind_of}
 use Rattle.sq_tree.specs.declared.schema.ColumnDefinition.{ColumnDefinition}
@@ -27,7 +29,7 @@ use Rattle.sq_binding.specs.ElementOutcome.{Outcome, and_then, or_fault}
 use Rattle.sq_binding.specs.Reference.{BoundReference, FoundReference, ReferencedKey, ReferencedTable, are_paired, as_referenced, bound_reference, has_bad_list, may_reference, names_at, names_in, paired_reference, reference_to, referenced_key, referenced_table}
 use Rattle.sq_binding.proofs.Answers.{Tells, tells_at}
 use Rattle.sq_binding.proofs.KnownTables.{AreListed, IsBaseOf, IsColumnOf, Known}
-use Rattle.sq_binding.proofs.Names.{IsPlaced, as_long, none_of, position_there, table_itself}
+use Rattle.sq_binding.proofs.Names.{IsPlaced, as_long, position_there, table_itself}
 use Rattle.sq_binding.proofs.ReferencedKeys.{IfKey, IsKindOf, IsKeyOf, IsTarget, all_paired, key_found, names_placed}
 use Rattle.sq_binding.proofs.References.{IsEarlier, IsFound}
 use Rattle.sq_binding.proofs.SameParameters.{name_itself}
@@ -87,13 +89,7 @@ module _ (before : Elements) (c : Catalog) (known : (name : TableName) → Known
   -- ---- privileges
 
   no_gift : (grantable : Bool) (name : TableName) (p : Privilege) → same_table own name ≡ false → table_gives user t grantable user name p ≡ false
-  no_gift grantable name p is = by (same_name user user) (same_table own name) (is_on_column (table_columns t) p) is
-    where
-      by : (a b d : Bool) → b ≡ false → (a && b && d) ≡ false
-      by true true d e = cc
-      by true false d e = refl
-      by false b d e = refl
-
+  no_gift grantable name p is = and_without (same_name user user) (same_table own name) (is_on_column (table_columns t) p) is
   own_held : (name : TableName) → own ≡ name → (wanted : List Name) (ns : List ℕ) → AllZip (IsPlaced (table_columns t)) wanted ns → list_all (λ column. chain elements false user name (Privilege.references column)) wanted ≡ true
   own_held name is [] [] h = refl
   own_held name is [] (n ∷ ns) h = absurd h
@@ -139,7 +135,7 @@ module _ (before : Elements) (c : Catalog) (known : (name : TableName) → Known
         (there : refusal.referenced_table elements user r.references ≡ Some definition) (listed_are : AreListed (table_columns definition) r.references.columns f.columns_listed)
         (permitted : (wanted : List Name) (ns : List ℕ) → AllZip (IsPlaced (table_columns definition)) wanted ns → may_reference c user f.earlier wanted ≡ list_all (may_reference_column elements user r.references) wanted) where
       abbrev parts : (is_bad_list f.columns ≡ false) × (is_some_and is_bad_list f.columns_listed ≡ false)
-      parts = none_of (is_bad_list f.columns) (is_some_and is_bad_list f.columns_listed) good
+      parts = or_parts (is_bad_list f.columns) (is_some_and is_bad_list f.columns_listed) good
 
       abbrev IfKeyOf : Option ReferencedKey → Type 0
       IfKeyOf = IfKey definition target target_is r.references

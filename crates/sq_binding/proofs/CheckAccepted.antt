@@ -4,6 +4,8 @@ use Rattle.std.specs.List.{list_any}
 use Rattle.std.specs.Option.{option_map}
 use Rattle.std.specs.Prelude.{if◌then◌else◌, is_ok, Result}
 use Rattle.std.specs.Result.{result_ok}
+use Rattle.std.proofs.lemmas.Bool.{false≢true}
+use Rattle.sq_value.proofs.Truths.{or_false, or_true}
 use Rattle.sq_meaning.specs.Environment.{TableName, TableReference}
 use Rattle.sq_meaning.specs.Spelled.{Named}
 use Rattle.sq_meaning.specs.Status as status
@@ -32,9 +34,7 @@ use Rattle.sq_binding.proofs.CleanSelect.{tight_lines}
 use Rattle.sq_binding.proofs.CondFaults.{CondSpellsNoNull, cond_faults}
 use Rattle.sq_binding.proofs.FromFaults.{NamesFit}
 use Rattle.sq_binding.proofs.LeafScopes.{alone, both_told, own, own_items, own_over}
-use Rattle.sq_binding.proofs.Seen.{or_none}
 use Rattle.sq_binding.proofs.SelectFaults.{groups_of_lines}
-use Rattle.sq_binding.proofs.Sites.{no_truth, or_true}
 use Rattle.sq_binding.proofs.Subqueries.{cond_finds}
 use Rattle.sq_binding.proofs.Tells.{Tells, judged_tells}
 use Rattle.sq_binding.proofs.Told.{Told}
@@ -85,7 +85,7 @@ module _ (j : Judged) (no_parameters : j.known.parameters ≡ []) (t : TableName
   pub seen_told : (c : Cond Named) → CondSpellsNoNull c → has_subquery c ≡ false → Told j (sites c) (cond_bound seen c at_first)
   seen_told c null none =
       both_told j (sites c) (LikePart Anything) (cond_bound here c at_first) (cond_bound seen c at_first)
-      (cond_alike j.known.parameters c names (λ t. None) (λ some. absurd (no_truth (sym none ∙ some))) (alone (item_over r (meant d)).item ∷ []) (alone (item_over r (meant d)).item ∷ []) (scope_same (alone (item_over r (meant d)).item), tt) false at_first)
+      (cond_alike j.known.parameters c names (λ t. None) (λ some. absurd (false≢true (sym none ∙ some))) (alone (item_over r (meant d)).item ∷ []) (alone (item_over r (meant d)).item ∷ []) (scope_same (alone (item_over r (meant d)).item), tt) false at_first)
       (own_tells c null at_first)
 
 module _ (j : Judged) (no_parameters : j.known.parameters ≡ []) (t : TableName) (d : TableDescriptor) (known : descriptor_of j.known.tables t ≡ Ok d) where
@@ -121,7 +121,7 @@ module _ (j : Judged) (no_parameters : j.known.parameters ≡ []) (t : TableName
   without_subquery c null none (Err f) is =
       ap not (sym (ap (λ b. b || is_refused c) (syntax_fault j (S c) f (subst (Told j (S c)) is (seen_told j no_parameters t d known c null none)) (subst (Told (all_held j) (S c)) is (seen_told (all_held j) no_parameters t d known c null none)))))
   without_subquery c null none (Ok x) is =
-      kept_if x (is_refused c) false (cond_user j.known (beside_table t) beside refl c none at_first x is) (cond_finds c beside at_first x is ∙ none) ∙ ap not (or_none (is_refused c))
+      kept_if x (is_refused c) false (cond_user j.known (beside_table t) beside refl c none at_first x is) (cond_finds c beside at_first x is ∙ none) ∙ ap not (or_false (is_refused c))
       ∙ ap not (sym (ap (λ b. b || is_refused c) (clean_is_sound j (S c) (subst (Told (all_held j) (S c)) is (seen_told (all_held j) no_parameters t d known c null none) (λ t p. refl)))))
 
   either_way : (c : Cond Named) → CondSpellsNoNull c → (b : Bool) → has_subquery c ≡ b → Exactly c (cond_bound beside c at_first)

@@ -2,6 +2,7 @@
 use Rattle.std.proofs.Common.{◌≡◌, ℕ, true, false, not, ◌||◌, List, [], ◌∷◌, ◌++◌, length, Option, Ok, Err, refl, ap}
 use Rattle.std.specs.List.{AllByRecursion, flat_map}
 use Rattle.std.specs.Prelude.{◌==◌, nat_lt}
+use Rattle.std.proofs.lemmas.Bool.{or_parts}
 use Rattle.sq_value.specs.declared.domain.Kind.{Kind}
 use Rattle.sq_tree.specs.declared.expr.TimesSign.{TimesSign}
 use Rattle.sq_tree.specs.declared.names.ColumnReference.{ColumnReference}
@@ -17,7 +18,6 @@ use Rattle.sq_meaning.specs.Site.{Around, Site}
 use Rattle.sq_meaning.specs.declared.fault.BindingFault.{BindingFault}
 use Rattle.sq_meaning.specs.declared.fault.BindingFault.TheVariants as fault
 use Rattle.sq_binding.specs.Outcome.{Outcome, and_then}
-use Rattle.sq_binding.proofs.Sites.{neither}
 
 abbrev pub AllHeld : Judged → Type 0
 AllHeld j = (t : TableName) (p : Privilege) → j.holds t p ≡ true
@@ -37,15 +37,15 @@ clean_more j s sites h g f = λ i. h f i || g f i
 pub clean_both : (j : Judged) (xs ys : List Site) → Clean j xs → Clean j ys → Clean j (xs ++ ys)
 clean_both j [] ys h g f = g f
 clean_both j (x ∷ xs) ys h g f =
-    let parts = neither (breaks j f x) (has_fault j xs f) (h f) in
-    (λ i. parts.0 i || clean_both j xs ys (λ f. (neither (breaks j f x) (has_fault j xs f) (h f)).1) g f i)
+    let parts = or_parts (breaks j f x) (has_fault j xs f) (h f) in
+    (λ i. parts.0 i || clean_both j xs ys (λ f. (or_parts (breaks j f x) (has_fault j xs f) (h f)).1) g f i)
 
 -- the rest of clean sites
 pub clean_rest : (j : Judged) (s : Site) (sites : List Site) → Clean j (s ∷ sites) → Clean j sites
-clean_rest j s sites h f = (neither (breaks j f s) (has_fault j sites f) (h f)).1
+clean_rest j s sites h f = (or_parts (breaks j f s) (has_fault j sites f) (h f)).1
 
 pub clean_first : (j : Judged) (s : Site) (sites : List Site) → Clean j (s ∷ sites) → CleanSite j s
-clean_first j s sites h f = (neither (breaks j f s) (has_fault j sites f) (h f)).0
+clean_first j s sites h f = (or_parts (breaks j f s) (has_fault j sites f) (h f)).0
 
 pub clean_each : {A : Type 0} (j : Judged) (sites_of : A → List Site) (xs : List A) → AllByRecursion (λ x. Clean j (sites_of x)) xs → Clean j (flat_map sites_of xs)
 clean_each j sites_of [] h = no_site j

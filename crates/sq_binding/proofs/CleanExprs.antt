@@ -6,6 +6,7 @@ use Rattle.std.specs.List.{AllZip, list_any}
 use Rattle.std.specs.Option.{option_map, option_and_then}
 use Rattle.std.specs.Prelude.{filter_map, is_err, is_none, nat_eq, nat_lt, option_to_list, slice_get, if◌then◌else◌}
 use Rattle.std.specs.Result.{result_ok}
+use Rattle.std.proofs.lemmas.Bool.{or_parts}
 use Rattle.sq_value.specs.declared.domain.Domain.{Domain}
 use Rattle.sq_value.specs.declared.domain.Kind.{Kind}
 use Rattle.sq_value.specs.declared.domain.Kind.TheVariants.{Chars, Num, Vary}
@@ -33,7 +34,6 @@ use Rattle.sq_binding.proofs.Cases.{Cases, it_holds}
 use Rattle.sq_binding.proofs.Clean.{Clean, called_clean, clean_both, clean_more, no_site, number_clean, parameter_clean, read_clean, scale_clean, steps_of, user_clean}
 use Rattle.sq_binding.proofs.FoundKinds.{kind_found, meant_there, outer_both, standing}
 use Rattle.sq_binding.proofs.Known.{IfNamed, IsOver, parameter_found}
-use Rattle.sq_binding.proofs.Sites.{neither}
 
 -- ---- grouping columns
 
@@ -201,7 +201,7 @@ module _ (j : Judged) (scopes : List Scope) (queries : List EnclosingQuery) (ove
     operand_kinds op x y z is =
         let steps = steps_of (kind_operated op x.kind y.kind) (λ k. Ok (operands op x y k)) z is in
         let tested = if_ok (is_text x.kind || is_text y.kind) fault.KindMismatch (or_fault fault.LimitExceeded (result_ok (operated_kind op x.kind y.kind))) steps.step steps.first in
-        let texts = neither (is_text x.kind) (is_text y.kind) tested.0 in
+        let texts = or_parts (is_text x.kind) (is_text y.kind) tested.0 in
         let second = steps.second in
         let same : operands op x y steps.step ≡ z = cc in
         (steps.step, texts.0, texts.1, kind_there fault.LimitExceeded (operated_kind op x.kind y.kind) steps.step tested.1, same)
@@ -236,7 +236,7 @@ module _ (j : Judged) (scopes : List Scope) (queries : List EnclosingQuery) (ove
         → Clean j (expr_sites j.known (standing queries false true) e) → Clean j (expr_sites j.known (standing queries allowed inside) (set_function f distinct e))
     function_clean allowed inside n f distinct e y x is so h =
         let tested = if_ok (not allowed || nat_lt 0 y.findings.reach) fault.MisplacedSetFunction (and_then (kind_of_call f y.kind) (λ k. Ok (function_call n f distinct y k))) x so in
-        let placed = neither (not allowed) (nat_lt 0 y.findings.reach) tested.0 in
+        let placed = or_parts (not allowed) (nat_lt 0 y.findings.reach) tested.0 in
         let called = steps_of (kind_of_call f y.kind) (λ k. Ok (function_call n f distinct y k)) x tested.1 in
         clean_more j (Site.function_called (standing queries allowed inside) (Some e)) (summed_sites f (kind_here j.known (standing queries allowed inside) e) ++ expr_sites j.known (standing queries false true) e)
         (called_clean j (standing queries allowed inside) (Some e) (λ i. placed.0 i || own_found false true e 0 y is (standing queries allowed inside) refl placed.1 i))

@@ -2,6 +2,7 @@
 use Rattle.std.proofs.Common.{◌≡◌, ℕ, zero, suc, Bool, true, false, not, ◌||◌, List, [], ◌∷◌, ◌++◌, length, map, Some, None, Ok, Err, refl, sym, ap, subst, ◌∙◌}
 use Rattle.std.specs.List.{AllZip, flat_map, list_any}
 use Rattle.std.specs.Prelude.{⊤, is_ok, nat_lt, if◌then◌else◌}
+use Rattle.std.proofs.lemmas.Bool.{not-true}
 use Rattle.sq_tree.specs.declared.names.ColumnReference.{ColumnReference}
 use Rattle.sq_meaning.specs.Environment.{Place, TableReference}
 use Rattle.sq_meaning.specs.Expression.{set_functions}
@@ -32,7 +33,6 @@ use Rattle.sq_binding.proofs.FromFaults.{AreItems, NamesFit, one_each, star_coun
 use Rattle.sq_binding.proofs.Known.{GroupsAt, IsOver}
 use Rattle.sq_binding.proofs.PredicateFaults.{surrounded}
 use Rattle.sq_binding.proofs.SelectFaults.{PlaceIs, groups_further, groups_over, lines_over, over_groups, over_lines, places_at}
-use Rattle.sq_binding.proofs.Sites.{is_false}
 use Rattle.sq_binding.proofs.Judged.{some_either, some_left, some_right}
 
 pub at_most_ok : {A : Type 0} (t : Bool) (b : Binding A) (counts : Counts) (z : Found A) → (if t then refused fault.LimitExceeded else b) counts ≡ Ok z → (t ≡ false) × (b counts ≡ Ok z)
@@ -74,7 +74,7 @@ module _ (names : NamedTables) (j : Judged) (fit : NamesFit names j) (held : All
       let limited = at_most_ok (nat_lt 16 (length from)) (each (item_bound names) from >>= λ items. must (not (has_item_twice from)) fault.AmbiguousName >> pure items) counts z is in
       let s = after_of (each (item_bound names) from) (λ items. must (not (has_item_twice from)) fault.AmbiguousName >> pure items) counts z limited.1 in
       let tested = after_of (must (not (has_item_twice from)) fault.AmbiguousName) (λ _. pure s.first.part) _ s.second s.is_second in
-      let once : has_item_twice from ≡ false = is_false (has_item_twice from) (must_true j Free (not (has_item_twice from)) fault.AmbiguousName _ tested.first tested.is_first) in
+      let once : has_item_twice from ≡ false = not-true (has_item_twice from) (must_true j Free (not (has_item_twice from)) fault.AmbiguousName _ tested.first tested.is_first) in
       clean_both j (map Site.table_read from) (Site.from_whole from ∷ [])
       (subst (Clean j) (one_each Site.table_read from)
       (only_first j Free (flat_map (λ r. Site.table_read r ∷ []) from) (each (item_bound names) from) (λ items. must (not (has_item_twice from)) fault.AmbiguousName >> pure items)

@@ -4,6 +4,7 @@ use Rattle.std.proofs.lemmas.List.Elements.{filter_map-append}
 use Rattle.std.proofs.lemmas.List.Folds.{list_any-append}
 use Rattle.std.specs.List.{AllZip, filter_map, flat_map, list_any}
 use Rattle.std.specs.Prelude.{nat_eq, nat_lt, slice_get}
+use Rattle.sq_value.proofs.Truths.{or_assoc_left, or_comm, or_swap}
 use Rattle.sq_lex.specs.declared.name.Name.{Name}
 use Rattle.sq_tree.specs.declared.cond.Cond.{Cond}
 use Rattle.sq_tree.specs.declared.schema.ColumnConstraint.{ColumnConstraint}
@@ -25,21 +26,6 @@ use Rattle.sq_binding.proofs.Names.{IsPlaced, among_apart, as_long, twice_placed
 
 -- ---- keys, and then references
 
-pub or_assoc : (a b c : Bool) → (a || (b || c)) ≡ ((a || b) || c)
-or_assoc true b c = refl
-or_assoc false b c = refl
-
-pub or_later : (a b : Bool) → (a || b) ≡ (b || a)
-or_later true true = refl
-or_later true false = refl
-or_later false true = refl
-or_later false false = refl
-
-or_swap : (a b c : Bool) → (a || (b || c)) ≡ (b || (a || c))
-or_swap true true c = refl
-or_swap true false c = refl
-or_swap false b c = refl
-
 -- a rule that asks of a constraint what these ask of keys and of references
 module _ (test : Constraint → Bool) (on_key : List Name → Bool) (on_reference : Reference → Bool) (not_null : (n : Name) → test (Constraint.not_null n) ≡ false) (unique : (ns : List Name) → test (Constraint.unique ns) ≡ on_key ns)
     (primary : (ns : List Name) → test (Constraint.primary_key ns) ≡ on_key ns) (referential : (ns : List Name) (r : References) → test (Constraint.referential ns r) ≡ on_reference (record { columns = ns; references = r }))
@@ -53,8 +39,8 @@ module _ (test : Constraint → Bool) (on_key : List Name → Bool) (on_referenc
   pub each_constraint : (ks : List Constraint) → list_any test ks ≡ (keys_any ks || references_any ks)
   each_constraint [] = refl
   each_constraint (Constraint.not_null n ∷ ks) = λ i. not_null n i || each_constraint ks i
-  each_constraint (Constraint.unique ns ∷ ks) = (λ i. unique ns i || each_constraint ks i) ∙ or_assoc (on_key ns) (keys_any ks) (references_any ks)
-  each_constraint (Constraint.primary_key ns ∷ ks) = (λ i. primary ns i || each_constraint ks i) ∙ or_assoc (on_key ns) (keys_any ks) (references_any ks)
+  each_constraint (Constraint.unique ns ∷ ks) = (λ i. unique ns i || each_constraint ks i) ∙ or_assoc_left (on_key ns) (keys_any ks) (references_any ks)
+  each_constraint (Constraint.primary_key ns ∷ ks) = (λ i. primary ns i || each_constraint ks i) ∙ or_assoc_left (on_key ns) (keys_any ks) (references_any ks)
   each_constraint (Constraint.referential ns r ∷ ks) = (λ i. referential ns r i || each_constraint ks i) ∙ or_swap (on_reference (record { columns = ns; references = r })) (keys_any ks) (references_any ks)
   each_constraint (Constraint.check c ∷ ks) = λ i. check c i || each_constraint ks i
 
@@ -127,7 +113,7 @@ module _ (t : TableDefinition) (apart : has_name_twice (table_columns t) ≡ fal
 -- ---- lists of columns
 
 pub list_bad : (names wanted : List Name) (ns : List ℕ) → AllZip (IsPlaced names) wanted ns → rules.is_bad_list wanted ≡ is_bad_list ns
-list_bad names wanted ns h = (λ i. twice_placed names wanted ns h i || nat_lt most_key_columns (as_long (IsPlaced names) wanted ns h i)) ∙ or_later (has_twice nat_eq ns) (nat_lt most_key_columns (length ns))
+list_bad names wanted ns h = (λ i. twice_placed names wanted ns h i || nat_lt most_key_columns (as_long (IsPlaced names) wanted ns h i)) ∙ or_comm (has_twice nat_eq ns) (nat_lt most_key_columns (length ns))
 
 pub lists_bad : (names : List Name) (keys : List (List Name)) (positions : List (List ℕ)) → AllZip (AllZip (IsPlaced names)) keys positions → list_any rules.is_bad_list keys ≡ list_any is_bad_list positions
 lists_bad names = any_zip (AllZip (IsPlaced names)) rules.is_bad_list is_bad_list (λ wanted ns h. list_bad names wanted ns h)

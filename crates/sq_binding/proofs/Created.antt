@@ -6,6 +6,8 @@ use Rattle.std.proofs.lemmas.List.Sums.{sum_by-cons}
 use Rattle.std.specs.List.{AllZip, enumerate_from, list_any}
 use Rattle.std.specs.Option.{option_map, option_or}
 use Rattle.std.specs.Prelude.{find, unwrap_or, if◌then◌else◌, nat_lt}
+use Rattle.std.proofs.lemmas.Bool.{false≢true, not-false}
+use Rattle.sq_value.proofs.Truths.{and_without, or_without}
 use Rattle.sq_lex.specs.declared.name.Name.{Name}
 use Rattle.sq_value.specs.Domain.{kind_of}
 use Rattle.sq_value.specs.declared.domain.Domain.{Domain}
@@ -32,7 +34,7 @@ use Rattle.sq_binding.specs.Reference.{BoundReference, FoundReference, Reference
 use Rattle.sq_binding.specs.Table.{most_tables, with_base}
 use Rattle.sq_binding.proofs.BoundReferences.{base_names, entry_names, other_named, own_named}
 use Rattle.sq_binding.proofs.KnownTables.{AreListed, IsBaseTable, IsTargetAs, IsCatalogOf, IsColumnOf, IsMadeOf, IsReferenceTo, Known, there_is_made}
-use Rattle.sq_binding.proofs.Names.{as_long, no_truth, table_itself, table_same}
+use Rattle.sq_binding.proofs.Names.{as_long, table_itself, table_same}
 use Rattle.sq_binding.proofs.Made.{IsTo, StillNamed, made_with_base, reference_is_to, reference_made, zip_weaker}
 use Rattle.sq_binding.proofs.References.{IsEarlier, IsFound}
 use Rattle.sq_binding.proofs.Tables.{IsMade, IsMadeAs}
@@ -153,19 +155,14 @@ same_places xs ys e = places_alike 0 xs ys e
 -- ---- a new name in the user's schema
 
 pub is_owned : (user : Name) (name : TableName) → not (same_user user name) ≡ false → same_user user name ≡ true
-is_owned user name e = by (same_user user name) e
-  where
-    by : (b : Bool) → not b ≡ false → b ≡ true
-    by true e = refl
-    by false e = cc
-
+is_owned user name e = not-false (same_user user name) e
 module _ (users : List Name) (before : Elements) (c : Catalog) (of : IsCatalogOf users before c) (user : Name) (name : TableName) (untaken : is_made_again before user name ≡ false) (in_schema : not (same_user user name) ≡ false) where
   pub is_unmade : is_made before name ≡ false
   is_unmade = ap (λ b. b && is_made before name) (sym (is_owned user name in_schema)) ∙ untaken
 
   absent : (e : Option Entry) → Known before name e → e ≡ None
   absent None h = refl
-  absent (Some e) h = absurd (no_truth (sym is_unmade ∙ sym (there_is_made before name (Some e) h)))
+  absent (Some e) h = absurd (false≢true (sym is_unmade ∙ sym (there_is_made before name (Some e) h)))
 
   pub is_new : entry c name ≡ None
   is_new = absent (entry c name) (of.known name)
@@ -232,16 +229,12 @@ module _ (users : List Name) (before : Elements) (c : Catalog) (of : IsCatalogOf
 
   -- ---- privileges
 
-  or_no : (a b : Bool) → b ≡ false → (a || b) ≡ a
-  or_no true b e = refl
-  or_no false b e = e
-
   held_here : (grantable : Bool) (who : Name) (name : TableName) (p : Privilege) → same_table own name ≡ true → may_on c grantable who name p (Entry.base b) ≡ chain elements grantable who name p
   held_here grantable who name p is =
-      or_no (same_name name.user who && is_on_column (entry_column_names (Entry.base b)) p) (list_any (gives grantable who name p) c.grants) (of.granted name (subst (λ n. entry c n ≡ None) (table_same own name is) new) grantable who p)
+      or_without (same_name name.user who && is_on_column (entry_column_names (Entry.base b)) p) (list_any (gives grantable who name p) c.grants) (of.granted name (subst (λ n. entry c n ≡ None) (table_same own name is) new) grantable who p)
       ∙ between (same_name name.user who) (is_on_column (entry_column_names (Entry.base b)) p)
       ∙ (λ i. same_name (owner_is i) who && sym is i && is_on_column (names_are i) p)
-      ∙ sym (or_no (table_gives user t grantable who name p) (chain before grantable who name p) none_before)
+      ∙ sym (or_without (table_gives user t grantable who name p) (chain before grantable who name p) none_before)
     where
       between : (x y : Bool) → (x && y) ≡ (x && true && y)
       between true y = refl
@@ -257,12 +250,8 @@ module _ (users : List Name) (before : Elements) (c : Catalog) (of : IsCatalogOf
       none_before = sym (of.held grantable who name p) ∙ ap (is_some_and (may_on c grantable who name p)) (subst (λ n. entry c n ≡ None) (table_same own name is) new)
 
   other_gift : (grantable : Bool) (who : Name) (name : TableName) (p : Privilege) → same_table own name ≡ false → table_gives user t grantable who name p ≡ false
-  other_gift grantable who name p is = by (same_name user who) (same_table own name) (is_on_column (table_columns t) p) is
-    where
-      by : (a b d : Bool) → b ≡ false → (a && b && d) ≡ false
-      by true true d e = cc
-      by true false d e = refl
-      by false b d e = refl
+  other_gift grantable who name p is =
+      and_without (same_name user who) (same_table own name) (is_on_column (table_columns t) p) is
 
   held_now : (grantable : Bool) (who : Name) (name : TableName) (p : Privilege) → may (with_base c b) grantable who name p ≡ chain elements grantable who name p
   held_now grantable who name p = ap (is_some_and (may_on c grantable who name p)) (entry_is name) ∙ by (same_table own name) refl
@@ -284,8 +273,8 @@ module _ (users : List Name) (before : Elements) (c : Catalog) (of : IsCatalogOf
     where
       owner_only : (a d g : Bool) → g ≡ false → (a && d || g) ≡ true → d ≡ true
       owner_only true true g none e = refl
-      owner_only true false g none e = absurd (no_truth (sym none ∙ e))
-      owner_only false d g none e = absurd (no_truth (sym none ∙ e))
+      owner_only true false g none e = absurd (false≢true (sym none ∙ e))
+      owner_only false d g none e = absurd (false≢true (sym none ∙ e))
 
       by : (same : Bool) → same_table own name ≡ same → (if same then Some (Entry.base b) else entry c name) ≡ Some e → is_some_and (may_on c grantable who name p) (if same then Some (Entry.base b) else entry c name) ≡ true → is_on_column (entry_column_names e) p ≡ true
       by false is at may_it = of.on_columns grantable who name p e at may_it

@@ -5,6 +5,7 @@ use Rattle.std.proofs.lemmas.List.{append-nil}
 use Rattle.std.specs.List.{list_any}
 use Rattle.std.specs.Option.{option_and_then, option_map}
 use Rattle.std.specs.Prelude.{⊤, if◌then◌else◌, is_none}
+use Rattle.std.proofs.lemmas.Bool.{false≢true}
 use Rattle.sq_lex.specs.declared.name.Name.{Name}
 use Rattle.sq_tree.specs.declared.list.CommaList.{CommaList}
 use Rattle.sq_tree.specs.declared.«module».Cursor.{Cursor}
@@ -46,7 +47,6 @@ use Rattle.sq_binding.proofs.Privileges.{Anywhere, ReadsFit, is_missing, lacking
 use Rattle.sq_binding.proofs.QueryFaults.{of_filter}
 use Rattle.sq_binding.proofs.ResultNames.{names_in, query_named}
 use Rattle.sq_binding.proofs.Seen.{any_both, last_seen, outcome_seen, then_seen}
-use Rattle.sq_binding.proofs.Sites.{no_truth}
 use Rattle.sq_binding.proofs.Tells.{Tells, judged_tells, made_tells, outcome_tells, then_tells}
 use Rattle.sq_binding.proofs.Told.{Told}
 use Rattle.sq_binding.proofs.UnionFaults.{IsQuery, QuerySpellsNoNull, query_faults}
@@ -132,7 +132,7 @@ module _ (names : UserNames) (j : Judged) (fits : UserFits names j) where
         filtered (select distinct list from filter by having) null clean one =
             told_is_bound (sites_on names.tables (all_held j) fits.tables r t there filter) (condition_bound here (table_over r t u) filter counts)
             (condition_tells names.tables (all_held j) fits.tables r t there u (fits.wide r.table t u there under) filter null.1 counts)
-            (λ f h. no_truth (sym (clean f) ∙ of_filter (all_held j) [] list from filter by having f (subst (λ from. has_fault (all_held j) (clause_sites j.known (standing (plain_query from ∷ []) false false) filter) f ≡ true) (sym one) h)))
+            (λ f h. false≢true (sym (clean f) ∙ of_filter (all_held j) [] list from filter by having f (subst (λ from. has_fault (all_held j) (clause_sites j.known (standing (plain_query from ∷ []) false false) filter) f ≡ true) (sym one) h)))
 
     over_one : (from : List TableReference) → from_of q ≡ from → (plain : Bool) → IsBound (updatable_over here q s (if plain then option_and_then (may_be_changed names) (only_one from) else None) counts)
     over_one from e false = tt

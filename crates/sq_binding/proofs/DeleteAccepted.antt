@@ -1,7 +1,8 @@
 -- DELETE is bound exactly where the rules find no fault in it (ISO/IEC 9075:1992, 13.6 and 13.7).
-use Rattle.std.proofs.Common.{◌≡◌, Bool, true, false, not, ◌||◌, List, [], ◌∷◌, Option, Some, None, refl, sym, ap, ◌∙◌}
+use Rattle.std.proofs.Common.{false, not, List, [], ◌∷◌, Option, Some, None, refl, sym, ap, ◌∙◌}
 use Rattle.std.specs.List.{list_any}
 use Rattle.std.specs.Prelude.{⊤}
+use Rattle.sq_value.proofs.Truths.{or_false, or_turned}
 use Rattle.sq_lex.specs.declared.name.Name.{Name}
 use Rattle.sq_tree.specs.declared.statement.Delete.{Delete}
 use Rattle.sq_meaning.specs.Environment.{TableName}
@@ -29,7 +30,7 @@ use Rattle.sq_binding.proofs.PredicateFaults.{surrounded}
 use Rattle.sq_binding.proofs.Privileges.{Anywhere, LacksIf, ReadsFit, is_missing, lacking, privileges_seen}
 use Rattle.sq_binding.proofs.RowsSeen.{around_it, reading_lacks, rows_seen}
 use Rattle.sq_binding.proofs.RowsTold.{PositionsFit, WhereSpellsNoNull, reading_tells, rows_tell, where_sites_of}
-use Rattle.sq_binding.proofs.Seen.{found_seen, last_seen, or_none, outcome_seen, then_seen}
+use Rattle.sq_binding.proofs.Seen.{found_seen, last_seen, outcome_seen, then_seen}
 use Rattle.sq_binding.proofs.Tells.{Tells, first_tells, found_tells, made_tells, outcome_tells, then_tells}
 
 module _ (names : UserNames) (j : Judged) (fits : TablesFit names j) (cursors : NamedCursors) (known : CursorsFit cursors j) (positions : PositionsFit cursors j) where
@@ -64,12 +65,6 @@ module _ (names : UserNames) (j : Judged) (fits : TablesFit names j) (cursors : 
       (λ x. made_tells j [] (has_found (needed (names.holds t.reference.table Privilege.delete))) (λ _. x) (found_tells j (needed (names.holds t.reference.table Privilege.delete))))))
 
 module _ (names : UserNames) (j : Judged) (fits : TablesFit names j) (cursors : NamedCursors) (known : CursorsFit cursors j) (positions : PositionsFit cursors j) (reads : ReadsFit names.tables j) (holds : HoldsFit names j) where
-  turned : (a b : Bool) → (a || (b || false)) ≡ (b || a)
-  turned true true = refl
-  turned true false = refl
-  turned false true = refl
-  turned false false = refl
-
   delete_lacks : (d : Delete) → LacksIf names.tables j fits.tables reads (delete_sites names j fits cursors known positions d) (delete_bound names j.known.parameters cursors d)
   delete_lacks d =
       then_seen names.tables j (is_missing j) lacking Anywhere (privileges_seen names.tables j fits.tables reads) [] S S (IsChanged names j name) (outcome (changed_table names name)) (table_then names j fits cursors known positions d)
@@ -81,8 +76,8 @@ module _ (names : UserNames) (j : Judged) (fits : TablesFit names j) (cursors : 
       (rows_seen names j fits cursors known positions name t is (means_own_column j.known) outermost.reading Within (outermost_seen names.tables j) (around_it names j fits reads holds name t is) (λ c. refl) (λ c. refl) d.target))
       (λ x u. last_seen names.tables j (is_missing j) lacking Anywhere (privileges_seen names.tables j fits.tables reads) (used ∷ []) (has_found (needed (names.holds t.reference.table Privilege.delete))) (λ _. x)
       (found_seen names.tables j (is_missing j) lacking Anywhere (privileges_seen names.tables j fits.tables reads) (needed (names.holds t.reference.table Privilege.delete)) (used ∷ [])
-      ((λ k. not (names.holds (is.reference k).table Privilege.delete)) ∙ ap not (holds name Privilege.delete) ∙ sym (or_none (is_missing j used)))))
-      (turned (list_any (is_missing j) R) (is_missing j used)))
+      ((λ k. not (names.holds (is.reference k).table Privilege.delete)) ∙ ap not (holds name Privilege.delete) ∙ sym (or_false (is_missing j used)))))
+      (or_turned (list_any (is_missing j) R) (is_missing j used)))
       refl
     where
       name : TableName

@@ -1,7 +1,7 @@
 -- A value expression is bound to a tree by place that is well formed at the levels of its scopes, of its kind (ISO/IEC 9075:1992, 6.2 to
 -- 6.5 and 6.11 to 6.13).
 use Rattle.std.proofs.Common.{◌≡◌, ℕ, Bool, true, false, not, ◌&&◌, List, max, Option, Some, None, Ok, Err, arith, refl, sym, ap, subst, ◌∙◌}
-use Rattle.std.proofs.lemmas.Bool.{eqb-true, ltb-false}
+use Rattle.std.proofs.lemmas.Bool.{eqb-true, ltb-false, and_parts}
 use Rattle.std.proofs.lemmas.Option.{slice_get-map}
 use Rattle.std.specs.Prelude.{IfSome, IsTrue, ◌==◌, nat_eq, nat_le, nat_lt, slice_get, if◌then◌else◌}
 use Rattle.std.specs.List.{position}
@@ -32,7 +32,6 @@ use Rattle.sq_binding.specs.Scope.{FoundColumn, Scope, column_meant}
 use Rattle.sq_binding.proofs.Cases.{CasesInside, it_holds_inside}
 use Rattle.sq_binding.proofs.Levels.{AreLevels, HasKind, Stands, column_stands, grouped_allows, inside_froms, inside_levels, inside_read, kinds_declared, level_kind, line_read, may_read, reads_first, reads_second}
 use Rattle.sq_binding.proofs.Placed.{column_placed, found_at, parameter_placed, product_kind_is, signed_number, sum_kind_is}
-use Rattle.sq_binding.proofs.Sites.{both_true}
 
 -- ---- parameters
 
@@ -72,7 +71,7 @@ module _ (parameters : List Declared) where
 indicator_kind : (d : Domain) → is_indicator_domain d ≡ true → kind_of d ≡ Num 0
 indicator_kind domain.Small e = refl
 indicator_kind domain.Int e = refl
-indicator_kind (domain.Numeric p s) e = ap Num (eqb-true s 0 (both_true (nat_le 3 p) (s == 0) e).1)
+indicator_kind (domain.Numeric p s) e = ap Num (eqb-true s 0 (and_parts (nat_le 3 p) (s == 0) e).1)
 indicator_kind (domain.Char n) e = cc
 indicator_kind (domain.VarChar n) e = cc
 

@@ -5,6 +5,8 @@ use Rattle.std.specs.Option.{option_map, option_and_then}
 use Rattle.std.proofs.lemmas.Bool.Decides.{nat_tests}
 use Rattle.std.specs.Prelude.{is_err, is_none, nat_eq, nat_lt, option_to_list, if◌then◌else◌}
 use Rattle.std.specs.Result.{result_ok}
+use Rattle.std.proofs.lemmas.Bool.{and_parts, not-true, or_parts, false≢true}
+use Rattle.sq_value.proofs.Truths.{or_true}
 use Rattle.sq_value.specs.declared.domain.Domain.{Domain}
 use Rattle.sq_value.specs.declared.domain.Kind.{Kind}
 use Rattle.sq_value.specs.declared.domain.Kind.TheVariants.{Chars, Num, Vary}
@@ -36,7 +38,7 @@ use Rattle.sq_binding.specs.Expression.{Bound, as_indicator, bound, column_allow
 use Rattle.sq_binding.specs.Outcome.{Outcome, and_then, or_fault}
 use Rattle.sq_binding.specs.Scope.{FoundColumn, Scope, column_meant}
 use Rattle.sq_binding.proofs.Known.{GroupsAt, IfMeant, IfNamed, IsOver, Meant, column_fault, column_found, parameter_found}
-use Rattle.sq_binding.proofs.Sites.{IfFault, both_true, either, fault_here, fault_later, fault_left, fault_right, if_fault, is_false, more_sites, neither, next_fault, or_true}
+use Rattle.sq_binding.proofs.Sites.{IfFault, either, fault_here, fault_later, fault_left, fault_right, if_fault, more_sites, next_fault}
 use Rattle.sq_binding.proofs.FoundKinds.{SpellsNoNull, kind_found, meant_there, outer_found, standing}
 use Rattle.sq_binding.proofs.Cases.{Cases, it_holds}
 
@@ -58,13 +60,13 @@ module _ (j : Judged) (scopes : List Scope) (queries : List EnclosingQuery) (ove
     column_faults allowed inside c (Err f) h = fault_here j f (Site.column_read (standing queries allowed inside) c) [] (column_breaks allowed inside c f h)
     column_faults allowed true c (Ok found) m =
         if_fault j (Site.column_read (standing queries allowed true) c ∷ []) fault.UngroupedColumn (nat_lt 0 found.depth && not found.is_grouped && not true) (Ok (column_bound found))
-        (λ t. let parts = both_true (nat_lt 0 found.depth && not found.is_grouped) false t in cc) (λ t. tt)
+        (λ t. let parts = and_parts (nat_lt 0 found.depth && not found.is_grouped) false t in cc) (λ t. tt)
     column_faults allowed false c (Ok found) m =
         if_fault j (Site.column_read (standing queries allowed false) c ∷ []) fault.UngroupedColumn (nat_lt 0 found.depth && not found.is_grouped && not false) (Ok (column_bound found))
         (λ t.
-        let parts = both_true (nat_lt 0 found.depth && not found.is_grouped) true t in
-        let further = both_true (nat_lt 0 found.depth) (not found.is_grouped) parts.0 in
-        fault_here j fault.UngroupedColumn (Site.column_read (standing queries allowed false) c) [] (ungrouped_breaks allowed c found m (groups found.depth further.0) (is_false found.is_grouped further.1)))
+        let parts = and_parts (nat_lt 0 found.depth && not found.is_grouped) true t in
+        let further = and_parts (nat_lt 0 found.depth) (not found.is_grouped) parts.0 in
+        fault_here j fault.UngroupedColumn (Site.column_read (standing queries allowed false) c) [] (ungrouped_breaks allowed c found m (groups found.depth further.0) (not-true found.is_grouped further.1)))
         (λ t. tt)
 
     -- the faults of a parameter
@@ -135,7 +137,7 @@ module _ (j : Judged) (scopes : List Scope) (queries : List EnclosingQuery) (ove
         (if_fault j (Site.number_wanted (kind_here j.known b e) ∷ Site.number_wanted (kind_here j.known b g) ∷ sites) fault.KindMismatch (is_text x.kind || is_text y.kind)
         (or_fault fault.LimitExceeded (result_ok (operated_kind (sum_operator sign) x.kind y.kind)))
         (texts_wanted b e g sites x.kind y.kind is so)
-        (λ t. let parts = neither (is_text x.kind) (is_text y.kind) t in
+        (λ t. let parts = or_parts (is_text x.kind) (is_text y.kind) t in
         valued fault.LimitExceeded (Site.number_wanted (kind_here j.known b e) ∷ Site.number_wanted (kind_here j.known b g) ∷ sites) (operated_kind (sum_operator sign) x.kind y.kind) (sum_there sign x.kind y.kind parts.0 parts.1)))
         (λ k made. tt)
 
@@ -162,7 +164,7 @@ module _ (j : Judged) (scopes : List Scope) (queries : List EnclosingQuery) (ove
         next_fault j all (kind_operated (product_operator sign) x.kind y.kind) (λ k. Ok (operands (product_operator sign) x y k))
         (if_fault j all fault.KindMismatch (is_text x.kind || is_text y.kind) (or_fault fault.LimitExceeded (result_ok (operated_kind (product_operator sign) x.kind y.kind)))
         (texts_wanted b e g (scale ∷ sites) x.kind y.kind is so)
-        (λ t. let parts = neither (is_text x.kind) (is_text y.kind) t in
+        (λ t. let parts = or_parts (is_text x.kind) (is_text y.kind) t in
         more_sites j (scale ∷ sites) all (or_fault fault.LimitExceeded (result_ok (operated_kind (product_operator sign) x.kind y.kind)))
         (λ f h. fault_later j f (Site.number_wanted (kind_here j.known b e)) (Site.number_wanted (kind_here j.known b g) ∷ scale ∷ sites) (fault_later j f (Site.number_wanted (kind_here j.known b g)) (scale ∷ sites) h))
         (product_limit sites sign (kind_here j.known b e) (kind_here j.known b g) x.kind y.kind is so parts.0 parts.1)))
@@ -294,10 +296,10 @@ module _ (j : Judged) (scopes : List Scope) (queries : List EnclosingQuery) (ove
     of_parameter = λ allowed n p at i is so t groups. cc;
     of_user = λ allowed n t groups. cc;
     of_column = λ allowed n c found is t groups.
-        let parts = both_true (nat_eq found.depth 0) (not found.is_grouped) t in
+        let parts = and_parts (nat_eq found.depth 0) (not found.is_grouped) t in
         let here : found.depth ≡ 0 = grind (arith, nat_tests, parts.0) in
         fault_here j fault.UngroupedColumn (Site.column_read (standing queries allowed false) c) []
-        (ungrouped_breaks j scopes queries over allowed c found (meant_there j scopes queries over c found is) (subst (GroupsAt j.known scopes queries) (sym here) groups) (is_false found.is_grouped parts.1));
+        (ungrouped_breaks j scopes queries over allowed c found (meant_there j scopes queries over c found is) (subst (GroupsAt j.known scopes queries) (sym here) groups) (not-true found.is_grouped parts.1));
     of_count = λ n t groups. cc;
     of_function = λ n f distinct e x k h own is t groups. cc;
     of_signed = λ allowed n sign e x h number t groups.
@@ -320,11 +322,7 @@ module _ (j : Judged) (scopes : List Scope) (queries : List EnclosingQuery) (ove
 pub some_both : {A B : Type 0} (xs ys : List A) (us vs : List B) → (is_some_of xs ≡ true → is_some_of us ≡ true) → (is_some_of ys ≡ true → is_some_of vs ≡ true) → is_some_of (xs ++ ys) ≡ true → is_some_of (us ++ vs) ≡ true
 some_both xs ys (u ∷ us) vs h g t = refl
 some_both [] ys [] vs h g t = g t
-some_both (x ∷ xs) ys [] vs h g t = absurd (no (h refl))
-  where
-    no : false ≡ true → ⊥
-    no e = cc
-
+some_both (x ∷ xs) ys [] vs h g t = absurd (false≢true (h refl))
 module _ (scopes : List Scope) (parameters : List Declared) where
   called_cases : Cases scopes parameters (λ allowed n e x. is_some_of x.calls ≡ true → is_some_of (set_functions e) ≡ true)
   called_cases = record {

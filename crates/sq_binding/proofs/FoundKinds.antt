@@ -6,6 +6,7 @@ use Rattle.std.specs.List.{AllByRecursion, AllZip, cons_option, list_any}
 use Rattle.std.specs.Option.{option_map}
 use Rattle.std.specs.Prelude.{⊤, filter_map, find, nat_lt, unwrap_or}
 use Rattle.std.specs.Result.{result_ok}
+use Rattle.sq_value.proofs.Truths.{or_true, or_assoc_left}
 use Rattle.sq_value.specs.Domain.{kind_of}
 use Rattle.sq_value.specs.declared.domain.Domain.{Domain}
 use Rattle.sq_value.specs.declared.domain.Kind.{Kind}
@@ -26,7 +27,6 @@ use Rattle.sq_binding.specs.Scope.{FoundColumn, Scope, column_meant}
 use Rattle.sq_binding.proofs.Cases.{Cases, it_holds}
 use Rattle.sq_binding.proofs.Known.{IfMeant, IfNamed, IsOver, Meant, column_found, parameter_found}
 use Rattle.sq_binding.proofs.Placed.{product_kind_is, signed_number, sum_kind_is}
-use Rattle.sq_binding.proofs.Sites.{or_true}
 
 -- ---- what is known of the surroundings
 
@@ -116,14 +116,10 @@ module _ (j : Judged) (scopes : List Scope) (queries : List EnclosingQuery) (ove
   outer_both test [] ys = refl
   outer_both test (s ∷ xs) ys = first (column_of_site s) (outer_both test xs ys)
     where
-      or_turn : (a b c : Bool) → (a || (b || c)) ≡ ((a || b) || c)
-      or_turn true b c = refl
-      or_turn false b c = refl
-
       first : (o : Option ColumnReference) → list_any test (filter_map column_of_site (xs ++ ys)) ≡ (list_any test (filter_map column_of_site xs) || list_any test (filter_map column_of_site ys))
           → list_any test (cons_option o (filter_map column_of_site (xs ++ ys))) ≡ (list_any test (cons_option o (filter_map column_of_site xs)) || list_any test (filter_map column_of_site ys))
       first None rest = rest
-      first (Some c) rest = ap (λ b. test c || b) rest ∙ or_turn (test c) (list_any test (filter_map column_of_site xs)) (list_any test (filter_map column_of_site ys))
+      first (Some c) rest = ap (λ b. test c || b) rest ∙ or_assoc_left (test c) (list_any test (filter_map column_of_site xs)) (list_any test (filter_map column_of_site ys))
 
   -- a column further out is an outer reference for the rules
   abbrev OuterIs : Around → Expr Named → ℕ → Type 0

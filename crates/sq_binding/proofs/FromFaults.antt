@@ -1,6 +1,6 @@
 -- The fault that is answered of a FROM clause or of `*` is one that the rules find there, and its items and columns are those that the
 -- rules know (ISO/IEC 9075:1992, 5.4, 6.3, 7.4 and 7.9).
-use Rattle.std.proofs.Common.{◌≡◌, ℕ, ◌+◌, Bool, true, false, not, List, [], ◌∷◌, ◌++◌, length, map, Option, Some, None, Ok, Err, refl, sym, ap, subst, ◌∙◌}
+use Rattle.std.proofs.Common.{◌≡◌, ℕ, ◌+◌, true, false, not, List, [], ◌∷◌, ◌++◌, length, map, Option, Some, None, Ok, Err, refl, sym, ap, subst, ◌∙◌}
 use Rattle.std.proofs.lemmas.List.{length-append, length-map}
 use Rattle.std.proofs.lemmas.List.FromFn.{length-enumerate_from}
 use Rattle.std.proofs.lemmas.List.Sums.{sum_by-cons}
@@ -8,6 +8,7 @@ use Rattle.std.specs.List.{AllByRecursion, AllZip, enumerate_from, flat_map, sum
 use Rattle.std.specs.Option.{option_map}
 use Rattle.std.specs.Prelude.{⊤, is_ok, unwrap_or}
 use Rattle.std.specs.Result.{result_ok}
+use Rattle.std.proofs.lemmas.Bool.{not-false}
 use Rattle.sq_value.specs.declared.domain.Kind.{Kind}
 use Rattle.sq_meaning.specs.Environment.{TableName, TableReference}
 use Rattle.sq_meaning.specs.Status as status
@@ -68,10 +69,6 @@ pub one_each : {A B : Type 0} (f : A → B) (xs : List A) → flat_map (λ x. f 
 one_each f [] = refl
 one_each f (x ∷ xs) = ap (λ l. f x ∷ l) (one_each f xs)
 
-not_false : (a : Bool) → not a ≡ false → a ≡ true
-not_false true e = refl
-not_false false e = cc
-
 module _ (names : NamedTables) (j : Judged) (fit : NamesFit names j) (G C : Type 0) where
   item_judges : (r : TableReference) → Judges j (Site.table_read r ∷ []) G C (ItemIs j r) (item_bound names r)
   item_judges r =
@@ -98,7 +95,7 @@ module _ (names : NamedTables) (j : Judged) (fit : NamesFit names j) (G C : Type
       (then_judges j all G C (AreItems j from) (AreItems j from) (each (item_bound names) from) (λ items. must (not (has_item_twice from)) fault.AmbiguousName >> pure items)
       (wider_judges j (map Site.table_read from) all (λ g h. fault_left j g (map Site.table_read from) (Site.from_whole from ∷ []) h) G C (AreItems j from) (each (item_bound names) from) (items_judge from))
       (λ items are. then_judges j all G C (λ u. not (has_item_twice from) ≡ true) (AreItems j from) (must (not (has_item_twice from)) fault.AmbiguousName) (λ _. pure items)
-      (must_judges j all G C (not (has_item_twice from)) fault.AmbiguousName (λ twice. whole fault.AmbiguousName (not_false (has_item_twice from) twice)))
+      (must_judges j all G C (not (has_item_twice from)) fault.AmbiguousName (λ twice. whole fault.AmbiguousName (not-false (has_item_twice from) twice)))
       (λ u once. pure_judges j all G C (AreItems j from) items are)))
     where
       all : List Site

@@ -3,6 +3,8 @@
 use Rattle.std.proofs.Common.{◌≡◌, Bool, true, false, not, ◌&&◌, ◌||◌, List, [], ◌∷◌, Option, Some, None, refl, sym, ap, subst, ◌∙◌}
 use Rattle.std.specs.List.{flat_map, list_any}
 use Rattle.std.specs.Prelude.{if◌then◌else◌, find, is_none, nat_lt}
+use Rattle.std.proofs.lemmas.Bool.{false≢true}
+use Rattle.sq_value.proofs.Truths.{or_assoc_left}
 use Rattle.sq_lex.specs.declared.name.Name.{Name}
 use Rattle.sq_tree.specs.declared.schema.GrantStatement.{GrantStatement}
 use Rattle.sq_tree.specs.declared.schema.SchemaElement.TheVariants as element
@@ -21,7 +23,7 @@ use Rattle.sq_binding.specs.ElementOutcome.{or_fault, refused_if}
 use Rattle.sq_binding.proofs.Answers.{Answers, answers_end, answers_then, behind, first_broken, if_told, one_rule, tells_at, tells_made, tells_there}
 use Rattle.sq_binding.proofs.KnownTables.{IsCatalogOf, IsMadeOf, Known, made_columns, same_known, there_is_made}
 use Rattle.sq_binding.proofs.Made.{made_still}
-use Rattle.sq_binding.proofs.Names.{no_truth, table_same}
+use Rattle.sq_binding.proofs.Names.{table_same}
 use Rattle.sq_binding.proofs.GrantedPrivileges.{AreGranted, granted_is, granted_told, made_gives}
 use Rattle.sq_binding.proofs.GrantsAdded.{given_with_grants}
 
@@ -176,10 +178,6 @@ module _ (users : List Name) (before : Elements) (c : Catalog) (of : IsCatalogOf
         ∙ sym (ap (λ b. owns who to e && is_on_column (entry_column_names e) p || b) (given_with_grants grantable who to p c.grants gs))
         ∙ sym (ap (is_some_and (may_on (with_granted c gs) grantable who to p)) at) ∙ is)
       where
-        or_assoc_left : (a b d : Bool) → (a || (b || d)) ≡ ((a || b) || d)
-        or_assoc_left true b d = refl
-        or_assoc_left false b d = refl
-
         last : (x y z : Bool) → (x && (true && (y && z)) && implies grantable g.grant_option) ≡ true → z ≡ true
         last true true true e = refl
         last true true false e = cc
@@ -188,7 +186,7 @@ module _ (users : List Name) (before : Elements) (c : Catalog) (of : IsCatalogOf
 
         by : (b : Bool) → may_on c grantable who to p e ≡ b → (s : Bool) → same_table name to ≡ s → (b || list_any (gives grantable who to p) gs) ≡ true → is_on_column (entry_column_names e) p ≡ true
         by true may_it s same h = of.on_columns grantable who to p e at (ap (is_some_and (may_on c grantable who to p)) at ∙ may_it)
-        by false lacks false same h = absurd (no_truth (sym (none_given grantable who to p same) ∙ h))
+        by false lacks false same h = absurd (false≢true (sym (none_given grantable who to p same) ∙ h))
         by false lacks true same h =
             let is_it = last (G who) (covers g.privileges p) (held p) (sym (given_is grantable who to p ∙ ap (λ s. G who && (s && (covers g.privileges p && held p)) && implies grantable g.grant_option) same) ∙ h) in
             of.on_columns true user to p e at (ap (λ n. may c true user n p) (sym (table_same name to same)) ∙ is_it)

@@ -3,6 +3,8 @@ use Rattle.std.proofs.Common.{◌≡◌, Bool, true, false, cond, not, ◌&&◌,
 use Rattle.std.proofs.lemmas.List.Folds.{list_any-append}
 use Rattle.std.specs.List.{flat_map, list_all, list_any}
 use Rattle.std.specs.Prelude.{if◌then◌else◌, ⊤}
+use Rattle.std.proofs.lemmas.Bool.{false≢true, and_parts, not-false}
+use Rattle.sq_value.proofs.Truths.{alike}
 use Rattle.sq_lex.specs.declared.name.Name.{Name}
 use Rattle.sq_tree.specs.declared.schema.Action.{Action}
 use Rattle.sq_tree.specs.declared.schema.Action.TheVariants as action
@@ -23,7 +25,6 @@ use Rattle.sq_binding.specs.Catalog.{Grant, gives, is_granted_to, same_option, s
 use Rattle.sq_binding.specs.Grant.{grantee_user, grants_made, grants_to, is_empty, privileges_granted}
 use Rattle.sq_binding.specs.ElementOutcome.{refused_if}
 use Rattle.sq_binding.proofs.Answers.{Tells, if_told, tells_made, tells_more}
-use Rattle.sq_binding.proofs.Names.{alike, both_true, no_truth}
 
 -- ---- privileges
 
@@ -103,17 +104,17 @@ held_is_named held p is (q ∷ ps) = by (held q) refl (same_privilege q p) refl 
   where
     by : (b : Bool) → held q ≡ b → (s : Bool) → same_privilege q p ≡ s → is_named p (filter held ps) ≡ is_named p ps → is_named p (cond b (q ∷ filter held ps) (filter held ps)) ≡ (s || is_named p ps)
     by true keeps s same h = λ i. same i || h i
-    by false keeps true same h = absurd (no_truth (sym keeps ∙ ap held (privilege_equal q p same) ∙ is))
+    by false keeps true same h = absurd (false≢true (sym keeps ∙ ap held (privilege_equal q p same) ∙ is))
     by false keeps false same h = h
 
 all_held_named : (held : Privilege → Bool) (p : Privilege) → held p ≡ false → (ps : List Privilege) → list_all held ps ≡ true → is_named p ps ≡ false
 all_held_named held p is [] all = refl
 all_held_named held p is (q ∷ ps) all =
-    let parts = both_true (held q) (list_all held ps) all in
+    let parts = and_parts (held q) (list_all held ps) all in
     by (same_privilege q p) refl parts.0 (all_held_named held p is ps parts.1)
   where
     by : (s : Bool) → same_privilege q p ≡ s → held q ≡ true → is_named p ps ≡ false → (s || is_named p ps) ≡ false
-    by true same keeps h = absurd (no_truth (sym is ∙ ap held (sym (privilege_equal q p same)) ∙ keeps))
+    by true same keeps h = absurd (false≢true (sym is ∙ ap held (sym (privilege_equal q p same)) ∙ keeps))
     by false same keeps h = h
 
 filter_is_held : (held : Privilege → Bool) (ps : List Privilege) → list_all held (filter held ps) ≡ true
@@ -157,11 +158,7 @@ granted_told held columns (privileges.Actions actions) =
     tells_made fault.PrivilegeMissing (not (list_all held (flat_map (action_privileges columns) (listed actions)))) (λ u. not (list_all held (flat_map (action_privileges columns) (listed actions))) ≡ false) (AreGranted held columns (privileges.Actions actions))
     (refused_if fault.PrivilegeMissing (not (list_all held (flat_map (action_privileges columns) (listed actions))))) (λ u. flat_map (action_privileges columns) (listed actions))
     (if_told fault.PrivilegeMissing (not (list_all held (flat_map (action_privileges columns) (listed actions)))) (not (list_all held (flat_map (action_privileges columns) (listed actions)))) refl)
-    (λ u e. record { all = kept (list_all held (flat_map (action_privileges columns) (listed actions))) e; named = λ p on is. actions_name columns p on (listed actions) })
-  where
-    kept : (b : Bool) → not b ≡ false → b ≡ true
-    kept true e = refl
-    kept false e = cc
+    (λ u e. record { all = not-false (list_all held (flat_map (action_privileges columns) (listed actions))) e; named = λ p on is. actions_name columns p on (listed actions) })
 
 -- what is named is covered and held
 pub granted_is : (held : Privilege → Bool) (columns : List Name) (written : Privileges) (ps : List Privilege) → AreGranted held columns written ps → (p : Privilege) → (held p ≡ true → is_on_column columns p ≡ true) → is_named p ps ≡ (covers written p && held p)

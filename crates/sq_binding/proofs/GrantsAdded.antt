@@ -4,12 +4,14 @@ use Rattle.std.proofs.Common.{◌≡◌, Bool, true, false, ◌&&◌, ◌||◌, 
 use Rattle.std.proofs.lemmas.List.Folds.{list_any-append}
 use Rattle.std.specs.List.{list_any}
 use Rattle.std.specs.Prelude.{if◌then◌else◌}
+use Rattle.std.proofs.lemmas.Bool.{and_parts}
+use Rattle.sq_value.proofs.Truths.{alike, or_false, or_assoc}
 use Rattle.sq_lex.specs.declared.name.Name.{Name}
 use Rattle.sq_meaning.specs.Environment.{TableName, same_name, same_table}
 use Rattle.sq_meaning.specs.Privilege.{Privilege}
 use Rattle.sq_binding.proofs.SameParameters.{name_itself, names_equal}
 use Rattle.sq_binding.specs.Catalog.{Grant, gives, is_granted_to, same_grant, same_holder, same_option, same_privilege, with_grant, with_grants}
-use Rattle.sq_binding.proofs.Names.{alike, both_true, table_itself, table_same}
+use Rattle.sq_binding.proofs.Names.{table_itself, table_same}
 
 -- ---- what is the same is equal
 
@@ -33,9 +35,9 @@ option_same _ _ e = cc
 
 grant_same : (g h : Grant) → same_grant g h ≡ true → g ≡ h
 grant_same g h e =
-    let option = both_true (same_holder g.user h.user && same_table g.table h.table && same_privilege g.privilege h.privilege) (same_option g.to_grant h.to_grant) e in
-    let privilege = both_true (same_holder g.user h.user && same_table g.table h.table) (same_privilege g.privilege h.privilege) option.0 in
-    let parts = both_true (same_holder g.user h.user) (same_table g.table h.table) privilege.0 in
+    let option = and_parts (same_holder g.user h.user && same_table g.table h.table && same_privilege g.privilege h.privilege) (same_option g.to_grant h.to_grant) e in
+    let privilege = and_parts (same_holder g.user h.user && same_table g.table h.table) (same_privilege g.privilege h.privilege) option.0 in
+    let parts = and_parts (same_holder g.user h.user) (same_table g.table h.table) privilege.0 in
     λ i. record {
       user = holder_same g.user h.user parts.0 i;
       table = table_same g.table h.table parts.1 i;
@@ -71,10 +73,6 @@ module _ (grantable : Bool) (who : Name) (t : TableName) (p : Privilege) where
   abbrev given : List Grant → Bool
   given gs = list_any (gives grantable who t p) gs
 
-  or_false : (a : Bool) → (a || false) ≡ a
-  or_false true = refl
-  or_false false = refl
-
   -- a grant that is there already gives nothing more
   gives_no_more : (grants : List Grant) (g : Grant) → list_any (same_grant g) grants ≡ true → given grants ≡ (given grants || gives grantable who t p g)
   gives_no_more [] g e = cc
@@ -104,10 +102,6 @@ module _ (grantable : Bool) (who : Name) (t : TableName) (p : Privilege) where
   given_with_grants grants [] = sym (or_false (given grants))
   given_with_grants grants (g ∷ new) =
       given_with_grants (with_grant grants g) new ∙ ap (λ b. b || given new) (given_with_grant grants g) ∙ or_assoc (given grants) (gives grantable who t p g) (given new)
-    where
-      or_assoc : (a b d : Bool) → ((a || b) || d) ≡ (a || (b || d))
-      or_assoc true b d = refl
-      or_assoc false b d = refl
 
   -- ---- to the user by name, or to PUBLIC
 

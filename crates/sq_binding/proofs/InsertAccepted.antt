@@ -2,6 +2,7 @@
 use Rattle.std.proofs.Common.{◌≡◌, Bool, true, false, not, ◌||◌, List, [], ◌∷◌, ◌++◌, length, map, Option, Some, None, refl, sym, ap, subst, ◌∙◌}
 use Rattle.std.specs.List.{flat_map, list_any, zip}
 use Rattle.std.specs.Prelude.{⊤, ◌==◌}
+use Rattle.sq_value.proofs.Truths.{or_false, or_turned}
 use Rattle.sq_lex.specs.declared.name.Name.{Name}
 use Rattle.sq_value.specs.declared.domain.Kind.{Kind}
 use Rattle.sq_value.specs.declared.value.Value.TheVariants.{Null}
@@ -42,7 +43,7 @@ use Rattle.sq_binding.proofs.InsertTold.{Kinds, kinds_are, receivers_known, rece
 use Rattle.sq_binding.proofs.PredicateFaults.{surrounded}
 use Rattle.sq_binding.proofs.Privileges.{Anywhere, LacksIf, ReadsFit, expr_quiet, is_missing, lacking, privileges_seen, select_lacks}
 use Rattle.sq_binding.proofs.RowAccepted.{pair_sites_quiet}
-use Rattle.sq_binding.proofs.Seen.{any_both, behind_seen, each_seen, found_seen, last_seen, must_seen, or_none, outcome_seen, pure_seen, then_seen, value_is_seen}
+use Rattle.sq_binding.proofs.Seen.{any_both, behind_seen, each_seen, found_seen, last_seen, must_seen, outcome_seen, pure_seen, then_seen, value_is_seen}
 use Rattle.sq_binding.proofs.Sites.{fault_here, fault_later}
 use Rattle.sq_binding.proofs.SourceTold.{SourceSpellsNoNull, kinds_of, rows_sites, rows_tell}
 use Rattle.sq_binding.proofs.Tells.{Tells, first_tells, found_tells, made_tells, outcome_tells, tells_at, then_tells}
@@ -157,7 +158,7 @@ module _ (names : UserNames) (j : Judged) (fits : TablesFit names j) (reads : Re
       then_seen names.tables j (is_missing j) lacking Anywhere (privileges_seen names.tables j fits.tables reads) (expr_sites j.known outside (expr_of e)) [] (expr_sites j.known outside (expr_of e)) (λ x. ⊤) (value here (expr_of e))
       (λ x. must_agree x.kind k >> pure x.tree) (anything_known (value here (expr_of e))) (value_is_seen names.tables j (is_missing j) lacking Anywhere (privileges_seen names.tables j fits.tables reads) [] [] tt false tt (expr_of e))
       (λ x u. last_seen names.tables j (is_missing j) lacking Anywhere (privileges_seen names.tables j fits.tables reads) [] (must_agree x.kind k) (λ _. x.tree)
-      (must_seen names.tables j (is_missing j) lacking Anywhere (privileges_seen names.tables j fits.tables reads) (is_comparable x.kind k) fault.KindMismatch)) (or_none (list_any (is_missing j) (expr_sites j.known outside (expr_of e)))) counts z is
+      (must_seen names.tables j (is_missing j) lacking Anywhere (privileges_seen names.tables j fits.tables reads) (is_comparable x.kind k) fault.KindMismatch)) (or_false (list_any (is_missing j) (expr_sites j.known outside (expr_of e)))) counts z is
       ∙ expr_quiet j (expr_of e) outside
 
   source_lacks : (rs : List Receiver) (s : InsertSource) → Lacks (query_sites s) (source_bound names here rs s)
@@ -177,7 +178,7 @@ module _ (names : UserNames) (j : Judged) (fits : TablesFit names j) (reads : Re
       (subst (λ sites. Lacks sites (each column_for (zip (columns_of x) rs))) (no_sites (zip (columns_of x) rs))
       (each_seen names.tables j (is_missing j) lacking Anywhere (privileges_seen names.tables j fits.tables reads) (λ p. none_of p) column_for
       (λ p. must_seen names.tables j (is_missing j) lacking Anywhere (privileges_seen names.tables j fits.tables reads) (is_comparable p.0.kind p.1.kind) fault.KindMismatch) (zip (columns_of x) rs)))))
-      (or_none (list_any (is_missing j) S))
+      (or_false (list_any (is_missing j) S))
     where
       s : Select Named
       s = select_of names.user q
@@ -195,12 +196,6 @@ module _ (names : UserNames) (j : Judged) (fits : TablesFit names j) (reads : Re
       s : Select Named
       s = select_of names.user q
 
-  turned : (a b : Bool) → (a || (b || false)) ≡ (b || a)
-  turned true true = refl
-  turned true false = refl
-  turned false true = refl
-  turned false false = refl
-
   insert_lacks : (i : Insert) → Lacks (insert_sites names j fits i) (insert_bound names j.known.parameters i)
   insert_lacks i =
       then_seen names.tables j (is_missing j) lacking Anywhere (privileges_seen names.tables j fits.tables reads) [] S S (IsChanged names j (into names j fits i)) (outcome (changed_table names (into names j fits i))) (table_then names j fits i)
@@ -212,7 +207,7 @@ module _ (names : UserNames) (j : Judged) (fits : TablesFit names j) (reads : Re
       (λ s u. last_seen names.tables j (is_missing j) lacking Anywhere (privileges_seen names.tables j fits.tables reads) (used ∷ []) (has_found (needed (names.holds t.reference.table Privilege.insert)))
       (λ _. inserted names j fits t rs s)
       (found_seen names.tables j (is_missing j) lacking Anywhere (privileges_seen names.tables j fits.tables reads) (needed (names.holds t.reference.table Privilege.insert)) (used ∷ [])
-      ((λ k. not (names.holds (is.reference k).table Privilege.insert)) ∙ ap not (holds (into names j fits i) Privilege.insert) ∙ sym (or_none (is_missing j used))))) together))
+      ((λ k. not (names.holds (is.reference k).table Privilege.insert)) ∙ ap not (holds (into names j fits i) Privilege.insert) ∙ sym (or_false (is_missing j used))))) together))
       refl
     where
       S : List Site
@@ -226,7 +221,7 @@ module _ (names : UserNames) (j : Judged) (fits : TablesFit names j) (reads : Re
 
       together : (list_any (is_missing j) (query_sites i.source) || (is_missing j used || false)) ≡ list_any (is_missing j) S
       together =
-          turned (list_any (is_missing j) (query_sites i.source)) (is_missing j used)
+          or_turned (list_any (is_missing j) (query_sites i.source)) (is_missing j used)
           ∙ ap (λ b. is_missing j used || b) (sym (rows_any (map (column_kind j.known.tables (into names j fits i)) (insert_columns j.known.tables (into names j fits i) i.columns)) i.source)
           ∙ ap (λ b. b || list_any (is_missing j) L) (sym (columns_quiet j (into names j fits i) (listed_if_any i.columns))) ∙ sym (any_both (is_missing j) (columns names j fits i) L))
 

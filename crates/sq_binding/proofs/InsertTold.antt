@@ -6,6 +6,7 @@ use Rattle.std.specs.List.{AllZip, flat_map, list_any, zip}
 use Rattle.std.specs.Option.{option_map}
 use Rattle.std.specs.Prelude.{⊤, find, if◌then◌else◌, nat_lt, option_to_list}
 use Rattle.std.specs.Result.{result_ok}
+use Rattle.std.proofs.lemmas.Bool.{or_parts}
 use Rattle.sq_lex.specs.declared.name.Name.{Name}
 use Rattle.sq_tree.specs.declared.list.CommaList.{CommaList}
 use Rattle.sq_meaning.specs.Environment.{TableName, same_name}
@@ -30,7 +31,7 @@ use Rattle.sq_binding.proofs.CleanQuery.{pure_known}
 use Rattle.sq_binding.proofs.ColumnsTold.{ColumnsTold, columns_told}
 use Rattle.sq_binding.proofs.FromFaults.{every, one_each}
 use Rattle.sq_binding.proofs.SameParameters.{name_itself}
-use Rattle.sq_binding.proofs.Sites.{fault_here, fault_later, neither}
+use Rattle.sq_binding.proofs.Sites.{fault_here, fault_later}
 use Rattle.sq_binding.proofs.Tells.{Tells, pure_tells}
 use Rattle.sq_binding.proofs.Told.{Told}
 
@@ -87,8 +88,8 @@ module _ (names : UserNames) (j : Judged) (fits : TablesFit names j) (table : Ta
   listed_known cs z h = h.made
 
   any_there : (test : Name → Bool) (bs : List ColumnDescriptor) (c : ColumnDescriptor) (cs : List ColumnDescriptor) → list_any test (map (λ c. c.name) (bs ++ c ∷ cs)) ≡ false → test c.name ≡ false
-  any_there test [] c cs h = (neither (test c.name) (list_any test (map (λ c. c.name) cs)) h).0
-  any_there test (b ∷ bs) c cs h = any_there test bs c cs (neither (test b.name) (list_any test (map (λ c. c.name) (bs ++ c ∷ cs))) h).1
+  any_there test [] c cs h = (or_parts (test c.name) (list_any test (map (λ c. c.name) cs)) h).0
+  any_there test (b ∷ bs) c cs h = any_there test bs c cs (or_parts (test b.name) (list_any test (map (λ c. c.name) (bs ++ c ∷ cs))) h).1
 
   -- the first column of a name is the only one
   first_named : (bs : List ColumnDescriptor) (c : ColumnDescriptor) (cs : List ColumnDescriptor) → has_name_twice (map (λ c. c.name) (bs ++ c ∷ cs)) ≡ false → find (λ k. same_name k.name c.name) (bs ++ c ∷ cs) ≡ Some c
@@ -98,7 +99,7 @@ module _ (names : UserNames) (j : Judged) (fits : TablesFit names j) (table : Ta
       by true e = refl
       by false e = cc
   first_named (b ∷ bs) c cs h =
-      let parts = neither (list_any (same_name b.name) (map (λ c. c.name) (bs ++ c ∷ cs))) (has_name_twice (map (λ c. c.name) (bs ++ c ∷ cs))) h in
+      let parts = or_parts (list_any (same_name b.name) (map (λ c. c.name) (bs ++ c ∷ cs))) (has_name_twice (map (λ c. c.name) (bs ++ c ∷ cs))) h in
       by (same_name b.name c.name) (any_there (same_name b.name) bs c cs parts.0) (first_named bs c cs parts.1)
     where
       by : (x : Bool) → x ≡ false → find (λ k. same_name k.name c.name) (bs ++ c ∷ cs) ≡ Some c → (if x then Some b else find (λ k. same_name k.name c.name) (bs ++ c ∷ cs)) ≡ Some c

@@ -3,6 +3,7 @@
 use Rattle.std.proofs.Common.{◌≡◌, ℕ, Bool, true, false, List, [], ◌∷◌, ◌++◌, Ok, Err, refl, sym, ◌∙◌}
 use Rattle.std.specs.Prelude.{⊤, nat_lt, if◌then◌else◌}
 use Rattle.std.specs.List.{AllByRecursion, AllZip, flat_map}
+use Rattle.std.proofs.lemmas.Bool.{false≢true}
 use Rattle.sq_meaning.specs.Query.{is_some_of}
 use Rattle.sq_meaning.specs.Binding.{Judged, has_fault}
 use Rattle.sq_meaning.specs.Site.{Site}
@@ -67,11 +68,7 @@ module _ (j : Judged) (sites : List Site) (Grouped Called : Type 0) where
   must_judges false f h counts = h refl
 
   pub has_found_judges : (found : QueryFindings) → found.values.has_ungrouped ≡ false → Judges j sites Grouped Called (λ u. ⊤) (has_found found)
-  has_found_judges found none counts = record { part = tt; free = λ t grouped. absurd (no (sym none ∙ t)); called = λ t. cc }
-    where
-      no : false ≡ true → ⊥
-      no e = cc
-
+  has_found_judges found none counts = record { part = tt; free = λ t grouped. absurd (false≢true (sym none ∙ t)); called = λ t. cc }
   limit_judged : {A : Type 0} (P : A → Type 0) (passed : Bool) (b : Binding A) (counts : Counts) → (passed ≡ true → has_fault j sites fault.LimitExceeded ≡ true) → IfJudged j sites Grouped Called P (b counts)
       → IfJudged j sites Grouped Called P ((if passed then refused fault.LimitExceeded else b) counts)
   limit_judged P true b counts h g = h refl

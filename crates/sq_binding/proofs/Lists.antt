@@ -1,7 +1,8 @@
 -- Parts of a list that are bound in turn: what is bound so far stands before what is bound of the rest. So a loop goes along a list
 -- as the definition does, also along the tests of a term and the terms of a condition.
-use Rattle.std.proofs.Common.{◌≡◌, ℕ, ◌+◌, Bool, true, false, ◌||◌, List, [], ◌∷◌, ◌++◌, length, max, Ok, Err, refl, sym, ap, ◌∙◌, append_assoc, arith}
+use Rattle.std.proofs.Common.{◌≡◌, ℕ, ◌+◌, false, ◌||◌, List, [], ◌∷◌, ◌++◌, length, max, Ok, Err, refl, sym, ap, ◌∙◌, append_assoc, arith}
 use Rattle.std.proofs.lemmas.List.{append-nil, length-append}
+use Rattle.sq_value.proofs.Truths.{or_false, or_assoc}
 use Rattle.sq_meaning.specs.Spelled.{Named}
 use Rattle.sq_meaning.specs.Syntax.{Cond, conds}
 use Rattle.sq_binding.specs.Condition.{cond_bound, terms_bound, test, tests_bound}
@@ -22,23 +23,15 @@ max_nothing n = omega arith
 max_turn : (a b c : ℕ) → max (max a b) c ≡ max a (max b c)
 max_turn a b c = omega arith
 
-pub or_nothing : (a : Bool) → (a || false) ≡ a
-or_nothing true = refl
-or_nothing false = refl
-
-or_turn : (a b c : Bool) → ((a || b) || c) ≡ (a || (b || c))
-or_turn true b c = refl
-or_turn false b c = refl
-
 values_alone : (a : Findings) → findings.both a none ≡ a
 values_alone a = λ i. record {
   items = max_nothing a.items i;
   outer_items = max_nothing a.outer_items i;
   reach = max_nothing a.reach i;
-  reads_outermost = or_nothing a.reads_outermost i;
-  can_fail = or_nothing a.can_fail i;
-  has_ungrouped = or_nothing a.has_ungrouped i;
-  has_user = or_nothing a.has_user i;
+  reads_outermost = or_false a.reads_outermost i;
+  can_fail = or_false a.can_fail i;
+  has_ungrouped = or_false a.has_ungrouped i;
+  has_user = or_false a.has_user i;
 }
 
 values_turn : (a b c : Findings) → findings.both (findings.both a b) c ≡ findings.both a (findings.both b c)
@@ -46,26 +39,26 @@ values_turn a b c = λ i. record {
   items = max_turn a.items b.items c.items i;
   outer_items = max_turn a.outer_items b.outer_items c.outer_items i;
   reach = max_turn a.reach b.reach c.reach i;
-  reads_outermost = or_turn a.reads_outermost b.reads_outermost c.reads_outermost i;
-  can_fail = or_turn a.can_fail b.can_fail c.can_fail i;
-  has_ungrouped = or_turn a.has_ungrouped b.has_ungrouped c.has_ungrouped i;
-  has_user = or_turn a.has_user b.has_user c.has_user i;
+  reads_outermost = or_assoc a.reads_outermost b.reads_outermost c.reads_outermost i;
+  can_fail = or_assoc a.can_fail b.can_fail c.can_fail i;
+  has_ungrouped = or_assoc a.has_ungrouped b.has_ungrouped c.has_ungrouped i;
+  has_user = or_assoc a.has_user b.has_user c.has_user i;
 }
 
 pub both_alone : (a : QueryFindings) → both a nothing ≡ a
 both_alone a = λ i. record {
   values = values_alone a.values i;
-  has_subquery = or_nothing a.has_subquery i;
-  lacks_privilege = or_nothing a.lacks_privilege i;
-  lacks_grant_option = or_nothing a.lacks_grant_option i;
+  has_subquery = or_false a.has_subquery i;
+  lacks_privilege = or_false a.lacks_privilege i;
+  lacks_grant_option = or_false a.lacks_grant_option i;
 }
 
 pub both_turn : (a b c : QueryFindings) → both (both a b) c ≡ both a (both b c)
 both_turn a b c = λ i. record {
   values = values_turn a.values b.values c.values i;
-  has_subquery = or_turn a.has_subquery b.has_subquery c.has_subquery i;
-  lacks_privilege = or_turn a.lacks_privilege b.lacks_privilege c.lacks_privilege i;
-  lacks_grant_option = or_turn a.lacks_grant_option b.lacks_grant_option c.lacks_grant_option i;
+  has_subquery = or_assoc a.has_subquery b.has_subquery c.has_subquery i;
+  lacks_privilege = or_assoc a.lacks_privilege b.lacks_privilege c.lacks_privilege i;
+  lacks_grant_option = or_assoc a.lacks_grant_option b.lacks_grant_option c.lacks_grant_option i;
 }
 
 -- ---- what is bound so far, and the rest
@@ -93,7 +86,7 @@ module _ {A B : Type 0} (f : A → Binding B) (counts : Counts) where
   all_bound x = λ i. Ok (record {
     part = append-nil x.part i;
     calls = append-nil x.calls i;
-    calls_can_fail = or_nothing x.calls_can_fail i;
+    calls_can_fail = or_false x.calls_can_fail i;
     findings = both_alone x.findings i;
     subqueries = x.subqueries;
   })
@@ -109,7 +102,7 @@ module _ {A B : Type 0} (f : A → Binding B) (counts : Counts) where
   one_bound x y (Ok ys) = λ i. Ok (record {
     part = sym (append_assoc x.part (y.part ∷ []) ys.part) i;
     calls = ((λ j. x.calls ++ (y.calls ++ append-nil ys.calls j)) ∙ sym (append_assoc x.calls y.calls ys.calls)) i;
-    calls_can_fail = ((λ j. x.calls_can_fail || (y.calls_can_fail || or_nothing ys.calls_can_fail j)) ∙ sym (or_turn x.calls_can_fail y.calls_can_fail ys.calls_can_fail)) i;
+    calls_can_fail = ((λ j. x.calls_can_fail || (y.calls_can_fail || or_false ys.calls_can_fail j)) ∙ sym (or_assoc x.calls_can_fail y.calls_can_fail ys.calls_can_fail)) i;
     findings = ((λ j. both x.findings (both y.findings (both_alone ys.findings j))) ∙ sym (both_turn x.findings y.findings ys.findings)) i;
     subqueries = ys.subqueries;
   })

@@ -5,6 +5,7 @@ use Rattle.std.proofs.lemmas.Grind.{reverse_onto}
 use Rattle.std.proofs.lemmas.List.{map-append}
 use Rattle.std.specs.List.{AllZip, enumerate_from, filter_map, list_all, zip}
 use Rattle.std.specs.Prelude.{◌==◌, if◌then◌else◌}
+use Rattle.std.proofs.lemmas.Bool.{and_parts}
 use Rattle.sq_lex.specs.declared.name.Name.{Name}
 use Rattle.sq_tree.specs.declared.schema.SchemaElement.TheVariants as element
 use Rattle.sq_tree.specs.declared.schema.TableDefinition.{TableDefinition}
@@ -22,7 +23,7 @@ use Rattle.sq_binding.specs.ElementOutcome.{Outcome, and_then, or_fault}
 use Rattle.sq_binding.specs.Reference.{BoundReference, FoundReference, ReferencedKey, ReferencedTable, are_paired, as_referenced, bound_reference, may_reference, names_at, paired_reference, reference_to, referenced_key, referenced_table}
 use Rattle.sq_binding.proofs.Answers.{or_fault_ok, steps_of}
 use Rattle.sq_binding.proofs.KnownTables.{AreListed, IsBaseTable, IsMadeOf, IsReferenceTo, IsViewOf, view_in, views_written}
-use Rattle.sq_binding.proofs.Names.{IsPlaced, both_true}
+use Rattle.sq_binding.proofs.Names.{IsPlaced}
 
 -- ---- lists side by side
 
@@ -158,7 +159,7 @@ module _ (c : Catalog) (user : Name) (own : ReferencedTable) (f : FoundReference
         target_is = target.first;
         key = key.step;
         key_is = or_fault_ok fault.BadReference (referenced_key target.step f.columns_listed) key.step key.first;
-        as_many = (both_true (length f.columns == length key.step.columns_listed) (list_all (are_paired own.kinds target.step.kinds) (zip f.columns key.step.columns_listed)) is.0).0;
+        as_many = (and_parts (length f.columns == length key.step.columns_listed) (list_all (are_paired own.kinds target.step.kinds) (zip f.columns key.step.columns_listed)) is.0).0;
         is = ap (λ (y : BoundReference). y.reference) (sym made) ∙ is.1;
       }
 

@@ -1,7 +1,7 @@
 -- What names mean, as the definitions of binding see it: tables whose columns have known kinds, and base tables under those that may be
 -- changed.
-use Rattle.std.proofs.Common.{◌≡◌, ℕ, zero, suc, Bool, true, false, ◌&&◌, List, [], ◌∷◌, map, Option, Some, None, Ok, refl, sym, ap, subst, ◌∙◌}
-use Rattle.std.proofs.lemmas.Bool.{eqb-true}
+use Rattle.std.proofs.Common.{◌≡◌, ℕ, zero, suc, Bool, true, List, [], ◌∷◌, map, Option, Some, None, Ok, sym, ap, subst, ◌∙◌}
+use Rattle.std.proofs.lemmas.Bool.{eqb-true, and_parts}
 use Rattle.std.proofs.lemmas.Simd.{map-map}
 use Rattle.std.specs.Prelude.{IfSome, slice_get}
 use Rattle.std.specs.List.{AllByRecursion, list_all, zip}
@@ -103,14 +103,10 @@ kind_there [] n k e = cc
 kind_there (l ∷ kinds) zero k e = ap Some (same_kinds l k e)
 kind_there (l ∷ kinds) (suc n) k e = kind_there kinds n k e
 
-both_true : (a b : Bool) → (a && b) ≡ true → (a ≡ true) × (b ≡ true)
-both_true true b h = (refl, h)
-both_true false b h = cc
-
 leaves_are : (own : List Kind) (columns : List Column) → list_all (λ c. is_kind_at own c.leaf_column c.kind) columns ≡ true → AllByRecursion (λ (c : Column). slice_get own c.leaf_column ≡ Some c.kind) columns
 leaves_are own [] e = tt
 leaves_are own (c ∷ columns) e =
-    let both = both_true (is_kind_at own c.leaf_column c.kind) (list_all (λ (c : Column). is_kind_at own c.leaf_column c.kind) columns) e in
+    let both = and_parts (is_kind_at own c.leaf_column c.kind) (list_all (λ (c : Column). is_kind_at own c.leaf_column c.kind) columns) e in
     (kind_there own c.leaf_column c.kind both.0, leaves_are own columns both.1)
 
 under_stands : (bases : List BaseTable) (kinds : TableKinds) (columns : List Column) (leaf : Option Leaf)

@@ -1,11 +1,13 @@
 -- Positions of names among the names of columns: a name has one exactly where it is among them, and names are the same exactly where their
 -- positions are (ISO/IEC 9075:1992, 5.4, 11.7 and 11.8).
 use Rattle.std.proofs.Common.{◌≡◌, arith, ℕ, zero, suc, ◌+◌, Bool, true, false, cond, not, ◌&&◌, ◌||◌, List, [], ◌∷◌, length, map, Option, Some, None, refl, sym, ap, subst, ◌∙◌}
-use Rattle.std.proofs.lemmas.Bool.{eq-eqb, eqb-true}
+use Rattle.std.proofs.lemmas.Bool.{eq-eqb, eqb-true, and_parts, or_parts}
 use Rattle.std.proofs.lemmas.Grind.{common_steps}
 use Rattle.std.specs.List.{AllZip, list_any, position_or_len}
 use Rattle.std.specs.Option.{option_map}
 use Rattle.std.specs.Prelude.{if◌then◌else◌, is_none, is_some, nat_eq, nat_lt, position, slice_get}
+use Rattle.sq_value.proofs.Truths.{or_false}
+pub use Rattle.sq_value.proofs.Truths.{alike}
 use Rattle.sq_lex.specs.declared.name.Name.{Name}
 use Rattle.sq_meaning.specs.Environment.{TableName, same_name, same_table}
 use Rattle.sq_meaning.specs.Schema.{has_name_twice, is_among, place_among}
@@ -18,21 +20,9 @@ use Rattle.sq_binding.proofs.Answers.{Tells, tells_at, tells_each, tells_there}
 
 -- ---- tests
 
-pub no_truth : false ≡ true → ⊥
-no_truth e = cc
-
-pub alike : (a b : Bool) → (a ≡ true → b ≡ true) → (b ≡ true → a ≡ true) → a ≡ b
-alike true b h g = sym (h refl)
-alike false true h g = absurd (no_truth (g refl))
-alike false false h g = refl
-
-pub both_true : (a b : Bool) → (a && b) ≡ true → (a ≡ true) × (b ≡ true)
-both_true true b e = (refl, e)
-both_true false b e = cc
-
 pub table_same : (s t : TableName) → same_table s t ≡ true → s ≡ t
 table_same s t e =
-    let parts = both_true (same_name s.user t.user) (same_name s.name t.name) e in
+    let parts = and_parts (same_name s.user t.user) (same_name s.name t.name) e in
     λ i. record { user = names_equal s.user t.user parts.0 i; name = names_equal s.name t.name parts.1 i }
 
 pub table_itself : (t : TableName) → same_table t t ≡ true
@@ -139,14 +129,6 @@ as_long R (x ∷ xs) (y ∷ ys) h = ap suc (as_long R xs ys h.1)
 
 -- ---- what stands at the position of a name, where no name stands twice
 
-pub none_of : (a b : Bool) → (a || b) ≡ false → (a ≡ false) × (b ≡ false)
-none_of true b e = cc
-none_of false b e = (refl, e)
-
-alone : (b : Bool) → (b || false) ≡ b
-alone true = refl
-alone false = refl
-
 module _ {A : Type 0} (name_of : A → Name) (test : A → Bool) (name : Name) where
   abbrev has_it : List A → Bool
   has_it xs = list_any (λ x. same_name name (name_of x) && test x) xs
@@ -158,18 +140,18 @@ module _ {A : Type 0} (name_of : A → Name) (test : A → Bool) (name : Name) w
   pub none_later : (ys : List A) → list_any (same_name name) (map name_of ys) ≡ false → has_it ys ≡ false
   none_later [] e = refl
   none_later (y ∷ ys) e =
-      let parts = none_of (same_name name (name_of y)) (list_any (same_name name) (map name_of ys)) e in
+      let parts = or_parts (same_name name (name_of y)) (list_any (same_name name) (map name_of ys)) e in
       not_here (same_name name (name_of y)) (test y) (has_it ys) parts.0 (none_later ys parts.1)
 
   pub among_apart : (xs : List A) → has_name_twice (map name_of xs) ≡ false → (n : ℕ) → IsPlaced (map name_of xs) name n → has_it xs ≡ is_some_and test (slice_get xs n)
   among_apart [] apart n e = cc
   among_apart (x ∷ xs) apart n e =
-      let parts = none_of (list_any (same_name (name_of x)) (map name_of xs)) (has_name_twice (map name_of xs)) apart in
+      let parts = or_parts (list_any (same_name (name_of x)) (map name_of xs)) (has_name_twice (map name_of xs)) apart in
       by (λ m at. among_apart xs parts.1 m at) parts.0 (same_name name (name_of x)) refl (place_among (map name_of xs) name) refl n (sym (position_step (same_name name) (name_of x) (map name_of xs)) ∙ e)
     where
       by : ((m : ℕ) → IsPlaced (map name_of xs) name m → has_it xs ≡ is_some_and test (slice_get xs m)) → list_any (same_name (name_of x)) (map name_of xs) ≡ false → (b : Bool) → same_name name (name_of x) ≡ b
           → (o : Option ℕ) → place_among (map name_of xs) name ≡ o → (n : ℕ) → (if b then Some 0 else option_map suc o) ≡ Some n → (b && test x || has_it xs) ≡ is_some_and test (slice_get (x ∷ xs) n)
-      by later apart true is o at zero e = ap (λ b. test x || b) (none_later xs (ap (λ m. list_any (same_name m) (map name_of xs)) (names_equal name (name_of x) is) ∙ apart)) ∙ alone (test x)
+      by later apart true is o at zero e = ap (λ b. test x || b) (none_later xs (ap (λ m. list_any (same_name m) (map name_of xs)) (names_equal name (name_of x) is) ∙ apart)) ∙ or_false (test x)
       by later apart true is o at (suc n) e = cc
       by later apart false is None at n e = cc
       by later apart false is (Some m) at zero e = cc

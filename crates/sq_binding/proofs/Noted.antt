@@ -1,8 +1,8 @@
 -- What is found in a value expression is so: it never ends with a status unless that is found, and it reads no columns further to
 -- the right, and further out, than is found (ISO/IEC 9075:1992, 6.4, 6.5 and 6.11).
-use Rattle.std.proofs.Common.{◌≡◌, ℕ, zero, suc, ◌+◌, ◌<◌, ◌≤◌, Bool, true, false, not, ◌&&◌, ◌||◌, List, [], ◌∷◌, max, Ok, arith, refl, sym, ap, subst}
+use Rattle.std.proofs.Common.{◌≡◌, ℕ, zero, suc, ◌+◌, ◌<◌, ◌≤◌, Bool, true, false, not, ◌&&◌, List, [], ◌∷◌, max, Ok, arith, refl, sym, ap, subst}
 use Rattle.std.proofs.Math.Nat.{le-max_left, le-max_right}
-use Rattle.std.proofs.lemmas.Bool.{ltb-false}
+use Rattle.std.proofs.lemmas.Bool.{ltb-false, or_parts, not-false}
 use Rattle.std.proofs.lemmas.Bool.Decides.{nat_tests}
 use Rattle.std.specs.List.{AllByRecursion}
 use Rattle.std.specs.Prelude.{nat_eq, nat_lt, slice_index_or, if◌then◌else◌}
@@ -85,18 +85,10 @@ item_there d depth item is =
 no_reach : (n : ℕ) → nat_lt 0 n ≡ false → n ≡ 0
 no_reach n e = omega (arith, ltb-false 0 n e)
 
-neither : (a b : Bool) → (a || b) ≡ false → (a ≡ false) × (b ≡ false)
-neither true b e = cc
-neither false b e = (refl, e)
-
-not_not : (a : Bool) → not a ≡ false → a ≡ true
-not_not true e = refl
-not_not false e = cc
-
 both_noted : (operator : Operator) (x y : Bound) (k : Kind) → IsNoted x → IsNoted y → IsNoted (operands operator x y k)
 both_noted operator x y k h g = record {
   sure = λ e functions all. cc;
-  sure_calls = λ none. let parts = neither x.calls_can_fail y.calls_can_fail none in all_appended (λ f. is_sure_expr f ≡ true) x.calls y.calls (h.sure_calls parts.0) (g.sure_calls parts.1);
+  sure_calls = λ none. let parts = or_parts x.calls_can_fail y.calls_can_fail none in all_appended (λ f. is_sure_expr f ≡ true) x.calls y.calls (h.sure_calls parts.0) (g.sure_calls parts.1);
   read = reads_both (IsAmongItems (max x.findings.items y.findings.items)) 0 operator (tree_of [] x.tree) (tree_of [] y.tree)
       (among_more x.findings.items (max x.findings.items y.findings.items) 0 (tree_of [] x.tree) (le-max_left x.findings.items y.findings.items) h.read)
       (among_more y.findings.items (max x.findings.items y.findings.items) 0 (tree_of [] y.tree) (le-max_right x.findings.items y.findings.items) g.read);
@@ -134,8 +126,8 @@ module _ (scopes : List Scope) (parameters : List Declared) where
     of_function = λ n f distinct e x k h own is. record {
       sure = λ e functions all. at_index (λ f. is_sure_expr f ≡ true) functions n all refl;
       sure_calls = λ none.
-          let parts = neither x.findings.can_fail (not (is_extreme f)) none in
-          ((λ i. not_not (is_extreme f) parts.1 i && h.sure parts.0 [] tt i), tt);
+          let parts = or_parts x.findings.can_fail (not (is_extreme f)) none in
+          ((λ i. not-false (is_extreme f) parts.1 i && h.sure parts.0 [] tt i), tt);
       read = at_index (ExprReadsItems 0) [] n tt tt;
       reach = λ functions all. at_index (ExprReads (IsWithin 0) 1) functions n all tt;
       outer = λ functions all. own_outer 0 (slice_index_or functions n missing) (at_index ReadsOwn functions n all tt);

@@ -5,6 +5,7 @@ use Rattle.std.proofs.Math.Nat.{le-max_left, le-max_right}
 use Rattle.std.specs.List.{AllByRecursion, list_all}
 use Rattle.std.specs.Option.{option_map}
 use Rattle.std.specs.Prelude.{nat_eq, if◌then◌else◌}
+use Rattle.std.proofs.lemmas.Bool.{or_parts}
 use Rattle.sq_value.specs.declared.domain.Kind.{Kind}
 use Rattle.sq_meaning.proofs.AnswerLaws.{all_appended, all_weaker}
 use Rattle.sq_meaning.specs.Environment.{Place}
@@ -31,7 +32,6 @@ use Rattle.sq_binding.proofs.Noted.{ReadsOwn, bound_noted}
 use Rattle.sq_binding.proofs.Outward.{AreSmall, IsOutward, expr_outward, findings_same, first_further, further, items_out, second_further, subquery_out}
 use Rattle.sq_binding.proofs.Pieces.{agreeing_holds, escape_holds, shown_holds, value_holds}
 use Rattle.sq_binding.proofs.PlacedParts.{same_select}
-use Rattle.sq_binding.proofs.Sites.{neither}
 use Rattle.sq_binding.proofs.Turns.{each_holds, found_too, it_is, only, put}
 
 -- ---- the trees by place of a part
@@ -142,8 +142,8 @@ two_noted t u v a x y z reads sures h g =
       out = λ small functions own. reads (IsOutward (findings.both f k)) 1 functions
           (t.wider (IsOutward f) (IsOutward (findings.both f k)) (λ n p. further f (findings.both f k) (first_further f k) n n p refl) 1 functions x.part (h.out small functions own))
           (u.wider (IsOutward k) (IsOutward (findings.both f k)) (λ n p. further k (findings.both f k) (second_further f k) n n p refl) 1 functions y.part (g.out small functions own));
-      sure = λ none functions all. let parts = neither f.can_fail k.can_fail none in sures functions (h.sure parts.0 functions all) (g.sure parts.1 functions all);
-      sure_calls = λ none. let parts = neither x.calls_can_fail y.calls_can_fail none in all_appended (λ f. is_sure_expr f ≡ true) x.calls y.calls (h.sure_calls parts.0) (g.sure_calls parts.1);
+      sure = λ none functions all. let parts = or_parts f.can_fail k.can_fail none in sures functions (h.sure parts.0 functions all) (g.sure parts.1 functions all);
+      sure_calls = λ none. let parts = or_parts x.calls_can_fail y.calls_can_fail none in all_appended (λ f. is_sure_expr f ≡ true) x.calls y.calls (h.sure_calls parts.0) (g.sure_calls parts.1);
       read = λ small. reads (IsAmongItems (max f.items k.items)) 0 []
           (t.wider (IsAmongItems f.items) (IsAmongItems (max f.items k.items)) (among_wider f.items (max f.items k.items) (le-max_left f.items k.items)) 0 [] x.part (h.read small))
           (u.wider (IsAmongItems k.items) (IsAmongItems (max f.items k.items)) (among_wider k.items (max f.items k.items) (le-max_right f.items k.items)) 0 [] y.part (g.read small));

@@ -3,6 +3,7 @@
 use Rattle.std.proofs.Common.{◌≡◌, ℕ, Bool, true, false, not, ◌&&◌, ◌||◌, List, [], ◌∷◌, ◌++◌, map, Option, Ok, arith, refl, sym, ap, subst, ◌∙◌}
 use Rattle.std.specs.List.{AllByRecursion, enumerate_from, list_all}
 use Rattle.std.specs.Prelude.{⊤}
+use Rattle.std.proofs.lemmas.Bool.{and_from, or_parts}
 use Rattle.sq_tree.specs.declared.cond.Comparison.{Comparison}
 use Rattle.sq_tree.specs.declared.cond.Quantifier.{Quantifier}
 use Rattle.sq_tree.specs.declared.cond.Quantifier.TheVariants as quantifier
@@ -35,7 +36,6 @@ use Rattle.sq_binding.proofs.Outward.{AreSmall, IsOutward, NoFurther, clause_fur
 use Rattle.sq_binding.proofs.Pieces.{from_holds, grouping_holds, item_holds, list_holds, star_holds}
 use Rattle.sq_binding.proofs.PlacedParts.{groups_same, parts_of, shown_trees}
 use Rattle.sq_binding.proofs.QueryCases.{AreParts, QueryCases, at_first, cond_is, select_is, whole_of}
-use Rattle.sq_binding.proofs.Sites.{neither}
 use Rattle.sq_binding.proofs.Turns.{each_holds, found_too, it_is, put}
 
 -- ---- lists of trees
@@ -106,7 +106,7 @@ from_sure names from counts x is =
     (λ x so few. it_is Q (each (item_bound names) from counts) x so
     (each_holds (λ counts r y. y.findings.values.can_fail ≡ false → not (may_fail y.part.table) ≡ true) (λ counts from ys. Q ys) (item_bound names)
     (λ counts r. item_holds names counts (λ y. y.findings.values.can_fail ≡ false → not (may_fail y.part.table) ≡ true) r (λ t there none. ap not none)) (λ counts none. refl)
-    (λ counts r from y ys p q none. let parts = neither y.findings.values.can_fail ys.findings.values.can_fail none in (λ i. p parts.0 i && q parts.1 i)) from counts)))
+    (λ counts r from y ys p q none. let parts = or_parts y.findings.values.can_fail ys.findings.values.can_fail none in (λ i. p parts.0 i && q parts.1 i)) from counts)))
   where
     Q : Found (List NamedItem) → Type 0
     Q x = x.findings.values.can_fail ≡ false → are_sure_tables (tables_of x.part) ≡ true
@@ -200,13 +200,13 @@ module _ (a : Surroundings) (counts : Counts) (distinct : Bool) (list : SelectLi
 
   whole_sure : select_can_fail whole ≡ false → is_sure_select may_fail (parts_of calls whole.part) ≡ true
   whole_sure none =
-      let both = neither all_found.can_fail whole.calls_can_fail none in
-      let one = neither from_found.can_fail (where_found.can_fail || (by_found.can_fail || (list_found.can_fail || having_found.can_fail))) both.0 in
-      let two = neither where_found.can_fail (by_found.can_fail || (list_found.can_fail || having_found.can_fail)) one.1 in
-      let three = neither by_found.can_fail (list_found.can_fail || having_found.can_fail) two.1 in
-      let four = neither list_found.can_fail having_found.can_fail three.1 in
-      let of_kept = neither kept.calls_can_fail (shown.calls_can_fail || groups.calls_can_fail) both.1 in
-      let of_calls = neither shown.calls_can_fail groups.calls_can_fail of_kept.1 in
+      let both = or_parts all_found.can_fail whole.calls_can_fail none in
+      let one = or_parts from_found.can_fail (where_found.can_fail || (by_found.can_fail || (list_found.can_fail || having_found.can_fail))) both.0 in
+      let two = or_parts where_found.can_fail (by_found.can_fail || (list_found.can_fail || having_found.can_fail)) one.1 in
+      let three = or_parts by_found.can_fail (list_found.can_fail || having_found.can_fail) two.1 in
+      let four = or_parts list_found.can_fail having_found.can_fail three.1 in
+      let of_kept = or_parts kept.calls_can_fail (shown.calls_can_fail || groups.calls_can_fail) both.1 in
+      let of_calls = or_parts shown.calls_can_fail groups.calls_can_fail of_kept.1 in
       let sure = all_appended (λ f. is_sure_expr f ≡ true) shown.calls groups.calls (list_is.sure_calls of_calls.0) (parts.having_is.1.sure_calls of_calls.1) in
       let tables = from_sure a.names from (at_first counts.subqueries) items parts.from_is one.0 in
       let shows = list_is.sure four.0 calls sure in
@@ -265,9 +265,6 @@ CondNoted a counts c x = PartNoted cond_trees a x
 abbrev CondsNoted : Surroundings → Counts → Conds Named → Found NumberedConds → Type 0
 CondsNoted a counts cs x = PartNoted conds_trees a x
 
-two_sure : (a b : Bool) → a ≡ true → b ≡ true → (a && b) ≡ true
-two_sure a b h g = λ i. h i && g i
-
 quantified_sure : (functions : List PlacedExpr) (op : Comparison) (k : Quantifier) (x : Numbered) (q : NumberedSelect) → is_sure_expr (tree_of functions x) ≡ true → is_sure_select may_fail (select_of q) ≡ true
     → is_sure may_fail (compared_with (compared_as k) op (tree_of functions x) (select_of q)) ≡ true
 quantified_sure functions op quantifier.All x q h g = λ i. h i && g i
@@ -297,7 +294,7 @@ cases = record {
       (value_noted a counts e x is) (subquery_noted a (after counts x) s q h.1);
   of_list = λ a counts e es x ys is so.
       two_noted typed_trees (each_tree numbered_trees) cond_trees a x ys (NumberedCond.in_list x.part.tree ys.part) (λ P n functions h g. (h, trees_read P n functions ys.part g))
-      (λ functions h g. two_sure (is_sure_expr (tree_of functions x.part.tree)) (list_all is_sure_expr (trees_of functions ys.part)) h (list_map is_sure_expr (tree_of functions) ys.part ∙ g))
+      (λ functions h g. and_from (is_sure_expr (tree_of functions x.part.tree)) (list_all is_sure_expr (trees_of functions ys.part)) h (list_map is_sure_expr (tree_of functions) ys.part ∙ g))
       (value_noted a counts e x is) (agreeing_noted a x.part.kind es (after counts x) ys so);
   of_like = λ a counts e pattern escape x y z is so one two also.
       two_noted typed_trees like_trees cond_trees a x (joined y (put (y.part, z.part) z)) (NumberedCond.like x.part.tree y.part.tree z.part) (λ P n functions h g. (h, g.0, g.1)) (λ functions h g. like_sure functions x.part y.part z.part h g)

@@ -2,6 +2,7 @@
 use Rattle.std.proofs.Common.{◌≡◌, ℕ, Bool, true, false, not, ◌||◌, [], ◌∷◌, Option, Some, None, Ok, Err, refl, sym, ap, subst, ◌∙◌}
 use Rattle.std.specs.List.{list_any}
 use Rattle.std.specs.Prelude.{is_none, if◌then◌else◌}
+use Rattle.sq_value.proofs.Truths.{or_true}
 use Rattle.sq_lex.specs.declared.name.Name.{Name}
 use Rattle.sq_value.specs.declared.domain.Domain.{Domain}
 use Rattle.sq_tree.specs.declared.statement.Orientation.{Orientation}
@@ -23,7 +24,7 @@ use Rattle.sq_binding.specs.Outcome.{Outcome, and_then}
 use Rattle.sq_binding.specs.Whole.{must_hold}
 use Rattle.sq_binding.proofs.Clean.{AllHeld, Clean, CleanSite, clean_more, no_site}
 use Rattle.sq_binding.proofs.Known.{IfNamed, parameter_found}
-use Rattle.sq_binding.proofs.Sites.{fault_here, or_true}
+use Rattle.sq_binding.proofs.Sites.{fault_here}
 use Rattle.sq_binding.proofs.Told.{Told}
 
 module _ (j : Judged) (scrolls : Bool) where

@@ -5,6 +5,7 @@ use Rattle.std.proofs.lemmas.Bool.Decides.{nat_tests}
 use Rattle.std.specs.List.{AllZip, list_any}
 use Rattle.std.specs.Option.{option_map}
 use Rattle.std.specs.Prelude.{⊤, ◌==◌, nat_lt}
+use Rattle.sq_value.proofs.Truths.{or_false}
 use Rattle.sq_value.specs.declared.domain.Kind.{Kind}
 use Rattle.sq_tree.specs.declared.expr.SetFunction.{SetFunction}
 use Rattle.sq_tree.specs.declared.expr.SetFunction.TheVariants.{Avg, Count, Max, Min, Sum}
@@ -24,7 +25,7 @@ use Rattle.sq_binding.specs.Scope.{FoundColumn, ItemColumn, Scope, column_meant,
 use Rattle.sq_binding.proofs.Cases.{Cases, it_holds}
 use Rattle.sq_binding.proofs.FoundKinds.{meant_there, standing}
 use Rattle.sq_binding.proofs.Known.{IsOver}
-use Rattle.sq_binding.proofs.Seen.{Sees, any_both, or_none}
+use Rattle.sq_binding.proofs.Seen.{Sees, any_both}
 
 -- ---- how far out a column is
 
@@ -71,7 +72,7 @@ module _ (j : Judged) (scopes : List Scope) (queries : List EnclosingQuery) (ove
   column_own c found is allowed inside =
       let m = meant_there j scopes queries over c found is in
       subst (Reaches (length scopes)) is (meant_reaches c scopes) ∙ ap (λ n. found.depth + 1 == n) (same_depth (IsOver j.known) scopes queries over)
-      ∙ sym (or_none (found.depth + 1 == length queries)) ∙ ap (list_any (λ p. p.depth + 1 == length queries)) (sym m.fits)
+      ∙ sym (or_false (found.depth + 1 == length queries)) ∙ ap (list_any (λ p. p.depth + 1 == length queries)) (sym m.fits)
 
   -- ---- value expressions
 
@@ -107,7 +108,7 @@ module _ (j : Judged) (scopes : List Scope) (queries : List EnclosingQuery) (ove
     of_parameter = λ allowed n p at i is so. record { same = λ inside wide. refl; far = λ t. cc };
     of_user = λ allowed n. record { same = λ inside wide. refl; far = λ t. cc };
     of_column = λ allowed n c found is. record {
-      same = λ inside wide. column_own c found is allowed inside ∙ sym (or_none (own (Site.column_read (standing queries allowed inside) c)));
+      same = λ inside wide. column_own c found is allowed inside ∙ sym (or_false (own (Site.column_read (standing queries allowed inside) c)));
       far = far_column found (subst (Reaches (length scopes)) is (meant_reaches c scopes) ∙ ap (λ n. found.depth + 1 == n) (same_depth (IsOver j.known) scopes queries over));
     };
     of_count = λ n. record { same = λ inside wide. refl; far = λ t. cc };

@@ -3,6 +3,7 @@
 use Rattle.std.proofs.Common.{◌≡◌, Bool, true, false, not, ◌&&◌, ◌||◌, List, [], ◌∷◌, ◌++◌, map, Ok, Err, refl, sym, ap, subst, ◌∙◌}
 use Rattle.std.specs.List.{AllZip}
 use Rattle.std.specs.Prelude.{⊤}
+use Rattle.std.proofs.lemmas.Bool.{false≢true}
 use Rattle.sq_tree.specs.declared.names.ColumnReference.{ColumnReference}
 use Rattle.sq_meaning.specs.Environment.{Place, TableReference}
 use Rattle.sq_meaning.specs.Query.{is_grouped, is_present, is_some_of, list_functions}
@@ -30,7 +31,6 @@ use Rattle.sq_binding.proofs.PredicateFaults.{surrounded}
 use Rattle.sq_binding.proofs.QueryFaults.{all_groups, is_bound}
 use Rattle.sq_binding.proofs.ResultNames.{rightly_is}
 use Rattle.sq_binding.proofs.SelectFaults.{PlaceIs, columns_judge, groups_of_lines, groups_over, lines_over, list_judges, over_groups, over_lines}
-use Rattle.sq_binding.proofs.Sites.{no_truth}
 
 -- ---- set functions that are added
 
@@ -55,7 +55,7 @@ calls_in (Err f) = false
 
 pure_calls : {A : Type 0} (C : Type 0) (x : A) → CallsIf C (pure x)
 unfolding calls_in
-pure_calls C x counts z is t = absurd (no_truth (ap calls_in is ∙ t))
+pure_calls C x counts z is t = absurd (false≢true (ap calls_in is ∙ t))
 
 last_calls : {A B : Type 0} (C : Type 0) (b : Binding A) (make : A → B) → CallsIf C b → CallsIf C (b >>= λ x. pure (make x))
 last_calls C b make h = then_calls C (λ x. ⊤) b (λ x. pure (make x)) (anything_known b) h (λ x u. pure_calls C (make x))
@@ -165,7 +165,7 @@ module _ (names : NamedTables) (j : Judged) (fit : NamesFit names j) where
           then_calls C (AreItems j from) (from_bound names from) after_from (known_of j (map Site.table_read from ++ Site.from_whole from ∷ []) ⊤ ⊥ (AreItems j from) (from_bound names from) items_judge)
           (more_calls ⊥ C (from_bound names from) (λ e. absurd e) (calls_of j (map Site.table_read from ++ Site.from_whole from ∷ []) ⊤ ⊥ (AreItems j from) (from_bound names from) items_judge))
           (λ items are. then_calls C (λ y. ⊤) (from_first (clause_bound (lines items) filter)) (after_filter items) (anything_known (from_first (clause_bound (lines items) filter)))
-          (λ counts z is t. absurd (no_truth (calls_of j _ _ _ _ (clause_bound (lines items) filter)
+          (λ counts z is t. absurd (false≢true (calls_of j _ _ _ _ (clause_bound (lines items) filter)
           (clause_faults names j fit filter null.1 (lines_over items ∷ []) (plain_query from ∷ []) (over_lines j [] [] tt (λ depth. tt) from items are) (λ t. groups_of_lines j [] [] tt (λ depth. tt) from items are) false) (record counts { functions = 0 }) z is t).1))
           (λ y u. then_calls C (AllZip (PlaceIs j [] [] tt (λ depth. tt) from items are) by) (each (grouping_column (lines items)) by) (after_columns items y)
           (known_of j _ _ ⊥ (AllZip (PlaceIs j [] [] tt (λ depth. tt) from items are) by) (each (grouping_column (lines items)) by) (columns_judge j [] [] tt (λ depth. tt) from items are names ⊤ ⊥ by))

@@ -4,6 +4,7 @@ use Rattle.std.proofs.Common.{◌≡◌, ℕ, suc, ◌+◌, Bool, true, false, n
 use Rattle.std.proofs.lemmas.Bool.Decides.{nat_tests}
 use Rattle.std.specs.List.{AllZip}
 use Rattle.std.specs.Prelude.{⊤, ◌==◌, nat_eq, nat_lt, if◌then◌else◌}
+use Rattle.std.proofs.lemmas.Bool.{false≢true}
 use Rattle.sq_value.specs.declared.domain.Kind.{Kind}
 use Rattle.sq_value.specs.declared.domain.Kind.TheVariants.{Chars, Num, Vary}
 use Rattle.sq_meaning.specs.Expression.{set_functions}
@@ -31,7 +32,7 @@ use Rattle.sq_binding.proofs.FoundKinds.{SpellsNoNull, kind_found, standing}
 use Rattle.sq_binding.proofs.Judged.{IfJudged, IsJudged, Judges, has_found_judges, more_judges, must_judges, pure_judges, then_judges, wider_judges}
 use Rattle.sq_binding.proofs.Known.{GroupsAt, IsOver}
 use Rattle.sq_binding.proofs.Placed.{bound_placed}
-use Rattle.sq_binding.proofs.Sites.{IfFault, fault_here, fault_later, fault_left, fault_right, no_truth}
+use Rattle.sq_binding.proofs.Sites.{IfFault, fault_here, fault_later, fault_left, fault_right}
 
 abbrev pub Anything : {A : Type 0} → A → Type 0
 Anything x = ⊤
@@ -39,7 +40,7 @@ Anything x = ⊤
 -- set functions stand where they are allowed
 allowed_if : (allowed : Bool) (calls : List PlacedExpr) → (allowed ≡ false → calls ≡ []) → is_some_of calls ≡ true → allowed ≡ true
 allowed_if true calls none some = refl
-allowed_if false calls none some = absurd (no_truth (sym (ap is_some_of (none refl)) ∙ some))
+allowed_if false calls none some = absurd (false≢true (sym (ap is_some_of (none refl)) ∙ some))
 
 pub alike_breaks : (k l : Kind) (o r : status.Outcome Kind) → o ≡ Ok k → r ≡ Ok l → is_comparable k l ≡ false → kind_mismatch (Site.alike_wanted o r) ≡ true
 alike_breaks (Num s) (Num t) o r e f differ = cc

@@ -3,6 +3,7 @@ use Rattle.std.proofs.Common.{◌≡◌, Bool, false, not, ◌||◌, List, [], �
 use Rattle.std.specs.List.{list_any, zip}
 use Rattle.std.specs.Result.{result_ok}
 use Rattle.std.specs.Prelude.{⊤, ◌==◌}
+use Rattle.sq_value.proofs.Truths.{or_false}
 use Rattle.sq_lex.specs.declared.name.Name.{Name}
 use Rattle.sq_value.specs.declared.domain.Kind.{Kind}
 use Rattle.sq_tree.specs.declared.expr.SetFunction.{SetFunction}
@@ -29,7 +30,7 @@ use Rattle.sq_binding.specs.QueryFindings.{QueryFindings}
 use Rattle.sq_binding.proofs.CleanQuery.{anything_known}
 use Rattle.sq_binding.proofs.FromFaults.{NamesFit}
 use Rattle.sq_binding.proofs.PredicateFaults.{surrounded}
-use Rattle.sq_binding.proofs.Seen.{SeenIf, Sees, any_both, last_seen, must_seen, or_none, outcome_seen, pure_seen, then_seen}
+use Rattle.sq_binding.proofs.Seen.{SeenIf, Sees, any_both, last_seen, must_seen, outcome_seen, pure_seen, then_seen}
 use Rattle.sq_binding.proofs.SeenConds.{select_seen}
 
 -- each table may be read where the rules say that SELECT is held on it
@@ -141,7 +142,7 @@ module _ (names : NamedTables) (j : Judged) (fit : NamesFit names j) (reads : Re
       (λ x u. then_seen names j (is_missing j) lacking Anywhere privileges_seen (query_sites j.known right) [] (query_sites j.known right) (λ y. ⊤) (query_bound (surrounded names j [] false) right) (after_right x)
       (anything_known (query_bound (surrounded names j [] false) right)) (query_lacks right)
       (λ y v. last_seen names j (is_missing j) lacking Anywhere privileges_seen [] (common_columns (columns_of_query x) (columns_of_query y)) (λ columns. NumberedQuery.joined all x y columns) (columns_lack (columns_of_query x) (columns_of_query y)))
-      (or_none (list_any (is_missing j) (query_sites j.known right))))
+      (or_false (list_any (is_missing j) (query_sites j.known right))))
       (ap (λ b. b || list_any (is_missing j) (query_sites j.known right)) (ap (λ b. b || list_any (is_missing j) (query_sites j.known left)) (sym (union_quiet j (query_kinds_of j.known left) (query_kinds_of j.known right))) ∙ sym (any_both (is_missing j) asked (query_sites j.known left)))
       ∙ sym (any_both (is_missing j) (asked ++ query_sites j.known left) (query_sites j.known right)))
     where

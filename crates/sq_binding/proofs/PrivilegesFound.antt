@@ -2,6 +2,8 @@
 -- grant option (ISO/IEC 9075:1992, 4.26, 7.4 and 11.19).
 use Rattle.std.proofs.Common.{◌≡◌, Bool, true, false, not, ◌||◌, List, [], ◌∷◌, ◌++◌, map, Option, Some, None, Ok, refl, sym, ap, subst, ◌∙◌}
 use Rattle.std.specs.List.{flat_map, list_any}
+use Rattle.std.proofs.lemmas.Bool.{or_from}
+use Rattle.sq_value.proofs.Truths.{or_false, or_assoc}
 use Rattle.sq_value.specs.declared.domain.Kind.{Kind}
 use Rattle.sq_tree.specs.declared.expr.SetFunction.{SetFunction}
 use Rattle.sq_tree.specs.declared.expr.SetFunction.TheVariants as set_function_word
@@ -30,26 +32,18 @@ use Rattle.sq_binding.proofs.Outward.{findings_same}
 use Rattle.sq_binding.proofs.Parts.{IfFound}
 use Rattle.sq_binding.proofs.Pieces.{agreeing_holds, escape_holds, from_holds, grouping_holds, item_holds, list_holds, shown_holds, star_holds, value_holds}
 use Rattle.sq_binding.proofs.QueryCases.{AreParts, QueryCases, at_first, cond_is, select_is, whole_of}
-use Rattle.sq_binding.proofs.Lists.{or_nothing}
 use Rattle.sq_binding.proofs.Turns.{each_holds, it_is}
-
-or_turn : (a b c : Bool) → ((a || b) || c) ≡ (a || (b || c))
-or_turn true b c = refl
-or_turn false b c = refl
 
 any_append : (test : Site → Bool) (xs ys : List Site) → list_any test (xs ++ ys) ≡ (list_any test xs || list_any test ys)
 any_append test [] ys = refl
-any_append test (x ∷ xs) ys = ap (λ b. test x || b) (any_append test xs ys) ∙ sym (or_turn (test x) (list_any test xs) (list_any test ys))
-
-either_false : (a b : Bool) → a ≡ false → b ≡ false → (a || b) ≡ false
-either_false a b h g = λ i. h i || g i
+any_append test (x ∷ xs) ys = ap (λ b. test x || b) (any_append test xs ys) ∙ sym (or_assoc (test x) (list_any test xs) (list_any test ys))
 
 module _ (holds : TableName → Privilege → Bool) (k : Tables) where
   abbrev missing : List Site → Bool
   missing sites = list_any (privilege_missing holds) sites
 
   none_both : (xs ys : List Site) → missing xs ≡ false → missing ys ≡ false → missing (xs ++ ys) ≡ false
-  none_both xs ys h g = any_append (privilege_missing holds) xs ys ∙ either_false (missing xs) (missing ys) h g
+  none_both xs ys h g = any_append (privilege_missing holds) xs ys ∙ or_from (missing xs) (missing ys) h g
 
   none_summed : (f : SetFunction) (o : status.Outcome Kind) → missing (summed_sites f o) ≡ false
   none_summed set_function_word.Sum o = refl
@@ -114,7 +108,7 @@ module _ (holds : TableName → Privilege → Bool) (k : Tables) where
     agreeing_lacks a l es counts ys is = each_lacks (agreeing a l) (λ counts e. agreeing_holds a counts (λ y. Lacks y false) l e (λ x so alike. value_lacks a counts e x so)) es counts ys is
 
     status_lacks : {A : Type 0} (x : Found A) (b : Bool) → Lacks x b → lacks (both x.findings a_status) ≡ b
-    status_lacks x b h = lacks_both x.findings a_status ∙ (λ i. h i || lacks_nothing a_status.values i) ∙ or_nothing b
+    status_lacks x b h = lacks_both x.findings a_status ∙ (λ i. h i || lacks_nothing a_status.values i) ∙ or_false b
 
     escape_lacks : (a : Surroundings) (escape : Option (Expr Named)) (counts : Counts) (z : Found (Option Numbered)) → escape_bound a escape counts ≡ Ok z → Lacks z false
     escape_lacks a None counts z is = it_is (λ z. Lacks z false) (escape_bound a None counts) z is (lacks_nothing findings.none)

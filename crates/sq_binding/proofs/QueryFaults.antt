@@ -4,6 +4,7 @@ use Rattle.std.proofs.Common.{◌≡◌, ℕ, zero, suc, Bool, true, false, ◌|
 use Rattle.std.proofs.lemmas.List.{length-map}
 use Rattle.std.specs.List.{AllZip}
 use Rattle.std.specs.Prelude.{if◌then◌else◌}
+use Rattle.std.proofs.lemmas.Bool.{false≢true}
 use Rattle.sq_tree.specs.declared.names.ColumnReference.{ColumnReference}
 use Rattle.sq_meaning.specs.Environment.{Place, TableReference}
 use Rattle.sq_meaning.specs.Query.{is_grouped, is_present, is_some_of, list_functions}
@@ -26,7 +27,7 @@ use Rattle.sq_binding.proofs.Judged.{Among, IfJudged, Judges, first_judged, more
 use Rattle.sq_binding.proofs.Known.{GroupsAt, IsOver}
 use Rattle.sq_binding.proofs.PredicateFaults.{Anything, IsShown, surrounded}
 use Rattle.sq_binding.proofs.SelectFaults.{ListIs, ListSpellsNoNull, PlaceIs, columns_judge, groups_fit, groups_of_lines, groups_over, lines_over, list_judges, sites_of_list}
-use Rattle.sq_binding.proofs.Sites.{fault_later, fault_left, fault_right, no_truth}
+use Rattle.sq_binding.proofs.Sites.{fault_later, fault_left, fault_right}
 
 -- ---- the whole of a query specification
 
@@ -173,7 +174,7 @@ module _ (names : NamedTables) (j : Judged) (fit : NamesFit names j) where
       (λ items are. then_judges j S G G Anything P (from_first (clause_bound (surrounded names j (lines_over items ∷ scopes) false) filter)) (after_filter items)
       (more_judges j (clause_sites j.known (standing (plain_query from ∷ queries) false false) filter) S (of_filter j queries list from filter by having)
       (GroupsAt j.known (lines_over items ∷ scopes) (plain_query from ∷ queries) 0) G ((is_present filter ≡ true) × (false ≡ true)) G (λ x. is_bound x ≡ true → is_present filter ≡ true) Anything
-      (from_first (clause_bound (surrounded names j (lines_over items ∷ scopes) false) filter)) (λ g. groups_of_lines j scopes queries over all from items are 0) (λ c. absurd (no_truth c.1)) (λ x p. tt)
+      (from_first (clause_bound (surrounded names j (lines_over items ∷ scopes) false) filter)) (λ g. groups_of_lines j scopes queries over all from items are 0) (λ c. absurd (false≢true c.1)) (λ x p. tt)
       (first_judged j (clause_sites j.known (standing (plain_query from ∷ queries) false false) filter) (GroupsAt j.known (lines_over items ∷ scopes) (plain_query from ∷ queries) 0) ((is_present filter ≡ true) × (false ≡ true))
       (λ x. is_bound x ≡ true → is_present filter ≡ true) (clause_bound (surrounded names j (lines_over items ∷ scopes) false) filter) (filter_is items are)))
       (λ y u. then_judges j S G G (AllZip (PlaceIs j scopes queries over all from items are) by) P (each (grouping_column (surrounded names j (lines_over items ∷ scopes) false)) by) (after_columns items y)

@@ -1,7 +1,7 @@
 -- The key that a reference is to, and how its columns pair, are found exactly where the rules find that the reference is good (ISO/IEC
 -- 9075:1992, 11.8).
 use Rattle.std.proofs.Common.{◌≡◌, ℕ, zero, suc, ◌+◌, Bool, true, false, cond, not, ◌&&◌, ◌||◌, List, [], ◌∷◌, length, map, Option, Some, None, refl, sym, ap, subst, ◌∙◌}
-use Rattle.std.proofs.lemmas.Bool.{eq-eqb}
+use Rattle.std.proofs.lemmas.Bool.{eq-eqb, and_parts, or_parts, or_right}
 use Rattle.std.specs.Bool.{beq}
 use Rattle.std.specs.List.{AllZip, cons_option, enumerate_from, filter_map, list_all, list_any, zip}
 use Rattle.std.specs.Option.{option_and_then, option_map, option_or}
@@ -25,7 +25,7 @@ use Rattle.sq_meaning.specs.SchemaRefusal as refusal
 use Rattle.sq_meaning.specs.Words.{has_twice, is_some_and}
 use Rattle.sq_binding.specs.Key.{has_bad_key, is_bad_list, is_primary, most_key_columns, primary_place}
 use Rattle.sq_binding.specs.Reference.{ReferencedKey, ReferencedTable, are_of_one_sort, are_paired, are_the_same, is_numeric, key_at, key_listed, names_at, primary_key, referenced_key}
-use Rattle.sq_binding.proofs.Names.{IsPlaced, any_placed, as_long, both_true, none_of, position_at, position_step}
+use Rattle.sq_binding.proofs.Names.{IsPlaced, any_placed, as_long, position_at, position_step}
 use Rattle.sq_binding.proofs.KnownTables.{AreListed}
 use Rattle.sq_binding.proofs.Subsets.{same_members}
 use Rattle.sq_binding.proofs.SameParameters.{name_itself, names_equal}
@@ -146,7 +146,7 @@ module _ (names : List Name) where
   all_among (a ∷ wanted) (n ∷ ns) h key ks g = λ i. any_placed names a n h.0 key ks g i && all_among wanted ns h.1 key ks g i
 
   no_twice : (ns : List ℕ) → is_bad_list ns ≡ false → has_twice nat_eq ns ≡ false
-  no_twice ns e = (none_of (nat_lt most_key_columns (length ns)) (has_twice nat_eq ns) e).1
+  no_twice ns e = (or_parts (nat_lt most_key_columns (length ns)) (has_twice nat_eq ns) e).1
 
   module _ (wanted : List Name) (ns : List ℕ) (at : Placed wanted ns) (good : is_bad_list ns ≡ false) where
     key_same : (key : List Name) (ks : List ℕ) → Placed key ks → is_bad_list ks ≡ false → is_key wanted key ≡ are_the_same ns ks
@@ -159,7 +159,7 @@ module _ (names : List Name) where
     keys_same [] (ks ∷ all) h fine = absurd h
     keys_same (key ∷ keys) [] h fine = absurd h
     keys_same (key ∷ keys) (ks ∷ all) h fine =
-        let parts = none_of (is_bad_list ks) (list_any is_bad_list all) fine in
+        let parts = or_parts (is_bad_list ks) (list_any is_bad_list all) fine in
         λ i. key_same key ks h.0 parts.0 i || keys_same keys all h.1 parts.1 i
 
 -- ---- the primary key
@@ -203,12 +203,8 @@ any_at test (y ∷ ys) (suc n) x e t = by (test y) (any_at test ys n x e t)
 all_among_more : (names more : List Name) → list_all (is_among more) names ≡ true → (name : Name) → list_all (is_among (name ∷ more)) names ≡ true
 all_among_more [] more e name = refl
 all_among_more (n ∷ names) more e name =
-    let parts = both_true (is_among more n) (list_all (is_among more) names) e in
-    λ i. either (same_name n name) (is_among more n) parts.0 i && all_among_more names more parts.1 name i
-  where
-    either : (b c : Bool) → c ≡ true → (b || c) ≡ true
-    either true c e = refl
-    either false c e = e
+    let parts = and_parts (is_among more n) (list_all (is_among more) names) e in
+    λ i. or_right (same_name n name) (is_among more n) parts.0 i && all_among_more names more parts.1 name i
 
 all_among_itself : (names : List Name) → list_all (is_among names) names ≡ true
 all_among_itself [] = refl
@@ -235,7 +231,7 @@ module _ (target : TableDefinition) (r : ReferencedTable) (is : IsTarget target 
   IfKey None = is_there (referenced_columns target to) ≡ false
 
   fine : list_any is_bad_list r.keys ≡ false
-  fine = (none_of (nat_lt 1 (length (rules.primary_keys target))) (list_any is_bad_list r.keys) is.lists).1
+  fine = (or_parts (nat_lt 1 (length (rules.primary_keys target))) (list_any is_bad_list r.keys) is.lists).1
 
   found_among : (test : List ℕ → Bool) (keys : List (List ℕ)) (n : ℕ) → is_some (find (λ key. test key.1) (enumerate_from n keys)) ≡ list_any test keys
   found_among test [] n = refl

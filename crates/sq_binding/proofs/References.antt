@@ -5,6 +5,7 @@ use Rattle.std.specs.List.{AllZip, flat_map, list_any}
 use Rattle.std.specs.Option.{option_map}
 use Rattle.std.specs.Prelude.{find, if◌then◌else◌, nat_lt, length, option_to_list}
 use Rattle.std.specs.Result.{result_ok}
+use Rattle.sq_value.proofs.Truths.{or_assoc_left, or_swap}
 use Rattle.sq_lex.specs.declared.name.Name.{Name}
 use Rattle.sq_tree.specs.declared.list.CommaList.{CommaList}
 use Rattle.sq_tree.specs.declared.schema.ColumnDefinition.{ColumnDefinition}
@@ -26,7 +27,7 @@ use Rattle.sq_binding.specs.ElementOutcome.{and_then, each, or_fault}
 use Rattle.sq_binding.specs.Position.{positions_of}
 use Rattle.sq_binding.specs.Reference.{FoundReference, earlier_table, found_reference, has_bad_list, names_in, positions_listed}
 use Rattle.sq_binding.proofs.Answers.{Tells, tells_at, tells_each, tells_made, tells_then}
-use Rattle.sq_binding.proofs.Constraints.{any_zip, each_constraint, list_bad, lists_bad, or_assoc}
+use Rattle.sq_binding.proofs.Constraints.{any_zip, each_constraint, list_bad, lists_bad}
 use Rattle.sq_binding.proofs.KnownTables.{AreListed, Known, known_columns, there_is_made}
 use Rattle.sq_binding.proofs.Names.{IsPlaced, positions_told, table_itself, table_same}
 
@@ -39,11 +40,6 @@ listed_told names (Some list) =
 names_again : (cs : List ColumnDefinition) → map (λ c. c.name) (map column_descriptor cs) ≡ map (λ c. c.name) cs
 names_again [] = refl
 names_again (c ∷ cs) = ap (λ names. c.name ∷ names) (names_again cs)
-
-swapped : (a b c : Bool) → (a || (b || c)) ≡ (b || (a || c))
-swapped true true c = refl
-swapped true false c = refl
-swapped false b c = refl
 
 module _ (before : Elements) (c : Catalog) (known : (name : TableName) → Known before name (entry c name)) (user : Name) (t : TableDefinition) where
   abbrev pub own : TableName
@@ -103,7 +99,7 @@ module _ (before : Elements) (c : Catalog) (known : (name : TableName) → Known
       let missing : Bool = not (is_made elements name) in
       let here : Bool = has_unknown columns r.columns in
       let there : Bool = has_unknown (columns_of_made elements name) (listed_if_any r.references.columns) in
-      tells_at fault.UnknownName (missing || (here || there)) (here || (missing || there)) (IsFound r) (found_reference c user own columns r) (swapped missing here there)
+      tells_at fault.UnknownName (missing || (here || there)) (here || (missing || there)) (IsFound r) (found_reference c user own columns r) (or_swap missing here there)
       (tells_then fault.UnknownName missing (here || there) (IsEarlier name) (IsFound r) (earlier_table c own name) _ (earlier_told name)
       (λ e is. tells_then fault.UnknownName here there (AllZip (IsPlaced columns) r.columns) (IsFound r) (positions_of columns r.columns) _ (positions_told columns r.columns)
       (λ ns at. tells_made fault.UnknownName there (AreListed (names_in columns e) r.references.columns) (IsFound r) (positions_listed (names_in columns e) r.references.columns)
@@ -144,4 +140,4 @@ module _ (before : Elements) (c : Catalog) (known : (name : TableName) → Known
       ap (λ b. nat_lt 1 (length (primary_keys t)) || b)
       (each_constraint is_bad_key refusal.is_bad_list has_bad_names (λ n. refl) (λ ns. refl) (λ ns. refl) (λ ns r. refl) (λ k. refl) (constraints t)
       ∙ (λ i. lists_bad columns (keys t) positions at i || any_zip IsFound has_bad_names has_bad_list reference_bad (table_references t) found are i))
-      ∙ or_assoc (nat_lt 1 (length (primary_keys t))) (list_any is_bad_list positions) (list_any has_bad_list found)
+      ∙ or_assoc_left (nat_lt 1 (length (primary_keys t))) (list_any is_bad_list positions) (list_any has_bad_list found)

@@ -5,6 +5,7 @@ use Rattle.std.proofs.lemmas.List.Folds.{list_any-append}
 use Rattle.std.specs.List.{AllByRecursion, fold}
 use Rattle.std.specs.Option.{option_map, option_or}
 use Rattle.std.specs.Prelude.{⊤, find, if◌then◌else◌}
+use Rattle.sq_value.proofs.Truths.{or_turned}
 use Rattle.sq_lex.specs.declared.name.Name.{Name}
 use Rattle.sq_tree.specs.declared.schema.SchemaElement.{SchemaElement}
 use Rattle.sq_tree.specs.declared.schema.SchemaElement.TheVariants as element
@@ -72,18 +73,12 @@ module _ (users : List Name) (before : Elements) (c : Catalog) (of : IsCatalogOf
       (answers_made (grant_rules users before c of user g) (IsGranted users before c of user g) (IsCatalogOf users (with_it (element.Grant g))) (declared_grants c user g) (with_granted c) (grants_told users before c of user g)
       (λ gs made. with_these_grants users before c of user g gs made))
 
-  turned : (a b : Bool) → (a || (b || false)) ≡ (b || a)
-  turned true true = refl
-  turned true false = refl
-  turned false true = refl
-  turned false false = refl
-
   user_told : AnswersAs (user ∷ users) before (part_fault users before user None) (with_user c user)
   user_told = by (is_among c.users user) (of.users_are user)
     where
       now : IsCatalogOf (user ∷ users) before (record c { users = c.users ++ user ∷ [] })
       now = record {
-        users_are = λ who. list_any-append (same_name who) c.users (user ∷ []) ∙ ap (λ b. b || (same_name who user || false)) (of.users_are who) ∙ turned (is_among users who) (same_name who user);
+        users_are = λ who. list_any-append (same_name who) c.users (user ∷ []) ∙ ap (λ b. b || (same_name who user || false)) (of.users_are who) ∙ or_turned (is_among users who) (same_name who user);
         known = of.known;
         count = of.count;
         bases = of.bases;

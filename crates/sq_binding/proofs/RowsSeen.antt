@@ -3,6 +3,7 @@
 use Rattle.std.proofs.Common.{◌≡◌, Bool, true, false, not, ◌||◌, List, [], ◌∷◌, length, Option, Some, None, Ok, Err, arith, refl, sym, ap, subst, ◌∙◌}
 use Rattle.std.specs.List.{list_any}
 use Rattle.std.specs.Prelude.{⊤, if◌then◌else◌}
+use Rattle.sq_value.proofs.Truths.{or_false, or_comm}
 use Rattle.sq_value.specs.declared.domain.Kind.{Kind}
 use Rattle.sq_lex.specs.declared.name.Name.{Name}
 use Rattle.sq_value.specs.declared.value.Value.TheVariants.{Null}
@@ -46,7 +47,7 @@ use Rattle.sq_binding.proofs.Outermost as outermost
 use Rattle.sq_binding.proofs.PredicateFaults.{surrounded}
 use Rattle.sq_binding.proofs.Privileges.{Anywhere, ReadsFit, is_missing, lacking, privileges_seen}
 use Rattle.sq_binding.proofs.RowsTold.{PositionsFit, on_table, there, where_sites_of}
-use Rattle.sq_binding.proofs.Seen.{SeenIf, Sees, behind_seen, is_seen, last_seen, must_seen, or_none, outcome_seen, pure_seen, then_seen, value_is_seen}
+use Rattle.sq_binding.proofs.Seen.{SeenIf, Sees, behind_seen, is_seen, last_seen, must_seen, outcome_seen, pure_seen, then_seen, value_is_seen}
 use Rattle.sq_binding.proofs.SeenConds.{clause_seen}
 use Rattle.sq_binding.proofs.ValuesTold.{leaf, new_value_like}
 
@@ -72,7 +73,7 @@ module _ (names : NamedTables) (j : Judged) (fit : NamesFit names j) (test : Sit
         then_seen names j test seen Good sees (expr_sites j.known here (expr_of e)) [] (Site.alike_wanted d (kind_here j.known here (expr_of e)) ∷ expr_sites j.known here (expr_of e)) (λ x. ⊤) (value (own names j fit r t there) (expr_of e))
         (λ x. must_agree x.kind k >> pure x.tree) (anything_known (value (own names j fit r t there) (expr_of e))) (value_is_seen names j test seen Good sees (alone (item_over r t).item ∷ []) (plain_query (r ∷ []) ∷ []) (own_over names j fit r t there) false good (expr_of e))
         (λ x u. last_seen names j test seen Good sees [] (must_agree x.kind k) (λ _. x.tree) (must_seen names j test seen Good sees (is_comparable x.kind k) fault.KindMismatch))
-        (or_none (list_any test (expr_sites j.known here (expr_of e))) ∙ ap (λ b. b || list_any test (expr_sites j.known here (expr_of e))) (sym (sees.alike_silent d (kind_here j.known here (expr_of e)))))
+        (or_false (list_any test (expr_sites j.known here (expr_of e))) ∙ ap (λ b. b || list_any test (expr_sites j.known here (expr_of e))) (sym (sees.alike_silent d (kind_here j.known here (expr_of e)))))
       where
         here : Around
         here = standing (plain_query (r ∷ []) ∷ []) false false
@@ -120,14 +121,8 @@ module _ (names : UserNames) (j : Judged) (fits : TablesFit names j) (reads : Re
 
   select_lacks : (sites : List Site) (lacks own held : Bool) → lacks ≡ list_any (is_missing j) sites → held ≡ j.holds table Privilege.select
       → (lacks || not (not own || held)) ≡ list_any (is_missing j) (if own then Site.privilege_used table Privilege.select ∷ sites else sites)
-  select_lacks sites lacks true held e h = (λ i. e i || not (h i)) ∙ either_turned (list_any (is_missing j) sites) (not (j.holds table Privilege.select))
-    where
-      either_turned : (a b : Bool) → (a || b) ≡ (b || a)
-      either_turned true true = refl
-      either_turned true false = refl
-      either_turned false true = refl
-      either_turned false false = refl
-  select_lacks sites lacks false held e h = or_none lacks ∙ e
+  select_lacks sites lacks true held e h = (λ i. e i || not (h i)) ∙ or_comm (list_any (is_missing j) sites) (not (j.holds table Privilege.select))
+  select_lacks sites lacks false held e h = or_false lacks ∙ e
 
   select_held : names.holds t.reference.table Privilege.select ≡ j.holds table Privilege.select
   select_held = (λ i. names.holds (is.reference i).table Privilege.select) ∙ holds table Privilege.select

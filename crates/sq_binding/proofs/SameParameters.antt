@@ -1,7 +1,7 @@
 -- Names of parameters are the same where their positions are, and lists of names have one twice where those of their positions have
 -- (ISO/IEC 9075:1992, 6.2 and 13.3).
 use Rattle.std.proofs.Common.{◌≡◌, ℕ, Bool, true, false, ◌&&◌, ◌||◌, List, [], ◌∷◌, ◌++◌, Option, Some, None, Ok, Err, get_or, refl, sym, ap, ◌∙◌}
-use Rattle.std.proofs.lemmas.Bool.{eq-eqb, eqb-true}
+use Rattle.std.proofs.lemmas.Bool.{eq-eqb, eqb-true, or_right}
 use Rattle.std.proofs.lemmas.List.Quantifiers.{position-Some}
 use Rattle.std.specs.Cmp.Lexicographic.{same_text}
 use Rattle.std.specs.List.{AllZip, list_any, position}
@@ -93,10 +93,6 @@ module _ (parameters : List Declared) where
   twice_same (n ∷ names) (i ∷ positions) all = λ t. any_same n i all.0 names positions all.1 t || twice_same names positions all.1 t
 
 -- ---- one that is twice in a list is so in a longer one
-
-or_right : (a b : Bool) → b ≡ true → (a || b) ≡ true
-or_right true b e = refl
-or_right false b e = e
 
 longer : (a b c : Bool) → (a || b) ≡ true → (b ≡ true → c ≡ true) → (a || c) ≡ true
 longer true b c h more = refl

@@ -3,6 +3,7 @@
 use Rattle.std.proofs.Common.{◌≡◌, ℕ, ◌+◌, Bool, true, false, not, ◌||◌, List, [], ◌∷◌, ◌++◌, length, Option, Some, None, Ok, Err, refl, sym, ap, ◌∙◌}
 use Rattle.std.specs.List.{AllZip, flat_map, list_any}
 use Rattle.std.specs.Prelude.{⊤, if◌then◌else◌, nat_eq, nat_lt}
+use Rattle.sq_value.proofs.Truths.{or_false, or_assoc_left}
 use Rattle.sq_value.specs.declared.domain.Kind.{Kind}
 use Rattle.sq_tree.specs.declared.names.ColumnReference.{ColumnReference}
 use Rattle.sq_meaning.specs.Environment.{TableReference}
@@ -56,16 +57,7 @@ pub record Sees (names : NamedTables) (j : Judged) (test : Site → Bool) (seen 
 
 pub any_both : (test : Site → Bool) (xs ys : List Site) → list_any test (xs ++ ys) ≡ (list_any test xs || list_any test ys)
 any_both test [] ys = refl
-any_both test (x ∷ xs) ys = ap (λ b. test x || b) (any_both test xs ys) ∙ or_turn (test x) (list_any test xs) (list_any test ys)
-  where
-    or_turn : (a b c : Bool) → (a || (b || c)) ≡ ((a || b) || c)
-    or_turn true b c = refl
-    or_turn false b c = refl
-
-pub or_none : (a : Bool) → (a || false) ≡ a
-or_none true = refl
-or_none false = refl
-
+any_both test (x ∷ xs) ys = ap (λ b. test x || b) (any_both test xs ys) ∙ or_assoc_left (test x) (list_any test xs) (list_any test ys)
 module _ (names : NamedTables) (j : Judged) (test : Site → Bool) (seen : QueryFindings → Bool) (Good : List EnclosingQuery → Bool → Type 0) (sees : Sees names j test seen Good) where
   -- a property is found in what is bound exactly where it is asked of one of these sites
   abbrev pub SeenIf : {A : Type 0} → List Site → Binding A → Type 0
@@ -101,7 +93,7 @@ module _ (names : NamedTables) (j : Judged) (test : Site → Bool) (seen : Query
   outcome_seen (Err f) counts z is = cc
 
   pub last_seen : {A B : Type 0} (xs : List Site) (b : Binding A) (make : A → B) → SeenIf xs b → SeenIf xs (b >>= λ x. pure (make x))
-  last_seen xs b make h = then_seen xs [] xs (λ x. ⊤) b (λ x. pure (make x)) (anything_known b) h (λ x u. pure_seen (make x)) (or_none (list_any test xs))
+  last_seen xs b make h = then_seen xs [] xs (λ x. ⊤) b (λ x. pure (make x)) (anything_known b) h (λ x u. pure_seen (make x)) (or_false (list_any test xs))
 
   -- a part before which nothing is found
   pub behind_seen : {A B : Type 0} (xs : List Site) (b : Binding A) (f : A → Binding B) → SeenIf [] b → ((x : A) → SeenIf xs (f x)) → SeenIf xs (b >>= f)
@@ -122,7 +114,7 @@ module _ (names : NamedTables) (j : Judged) (test : Site → Bool) (seen : Query
   item_seen r =
       then_seen [] (Site.table_read r ∷ []) (Site.table_read r ∷ []) (λ t. names r.table ≡ Some t) (outcome (or_fault fault.UnknownTable (names r.table))) (λ t. has_found (table_findings t) >> pure (item_over r t))
       (λ counts z is. named (names r.table) z.part (outcome_ok (or_fault fault.UnknownTable (names r.table)) counts z is)) (outcome_seen (or_fault fault.UnknownTable (names r.table)))
-      (λ t there. last_seen (Site.table_read r ∷ []) (has_found (table_findings t)) (λ _. item_over r t) (found_seen (table_findings t) (Site.table_read r ∷ []) (sees.table_seen r t there ∙ sym (or_none (test (Site.table_read r))))))
+      (λ t there. last_seen (Site.table_read r ∷ []) (has_found (table_findings t)) (λ _. item_over r t) (found_seen (table_findings t) (Site.table_read r ∷ []) (sees.table_seen r t there ∙ sym (or_false (test (Site.table_read r))))))
       refl
     where
       named : (o : Option NamedTable) (t : NamedTable) → or_fault fault.UnknownTable o ≡ Ok t → o ≡ Some t
@@ -135,7 +127,7 @@ module _ (names : NamedTables) (j : Judged) (test : Site → Bool) (seen : Query
       then_seen (flat_map (λ r. Site.table_read r ∷ []) from) [] (flat_map (λ r. Site.table_read r ∷ []) from) (λ x. ⊤) (each (item_bound names) from) (λ items. must (not (has_item_twice from)) fault.AmbiguousName >> pure items)
       (anything_known (each (item_bound names) from)) (each_seen (λ r. Site.table_read r ∷ []) (item_bound names) item_seen from)
       (λ items u. last_seen [] (must (not (has_item_twice from)) fault.AmbiguousName) (λ _. items) (must_seen (not (has_item_twice from)) fault.AmbiguousName))
-      (or_none (list_any test (flat_map (λ r. Site.table_read r ∷ []) from))) counts z limited.1
+      (or_false (list_any test (flat_map (λ r. Site.table_read r ∷ []) from))) counts z limited.1
 
   -- ---- values
 
@@ -154,13 +146,13 @@ module _ (names : NamedTables) (j : Judged) (test : Site → Bool) (seen : Query
     pub agreeing_seen : (k : Kind) (e : Expr Named) → SeenIf (expr_sites j.known here e) (agreeing a k e)
     agreeing_seen k e =
         then_seen (expr_sites j.known here e) [] (expr_sites j.known here e) (λ x. ⊤) (value a e) (λ x. must_agree k x.kind >> pure x.tree) (anything_known (value a e)) (value_is_seen e)
-        (λ x u. last_seen [] (must_agree k x.kind) (λ _. x.tree) (must_seen (is_comparable k x.kind) fault.KindMismatch)) (or_none (list_any test (expr_sites j.known here e)))
+        (λ x u. last_seen [] (must_agree k x.kind) (λ _. x.tree) (must_seen (is_comparable k x.kind) fault.KindMismatch)) (or_false (list_any test (expr_sites j.known here e)))
 
     pub text_seen : (e : Expr Named) → SeenIf (text_sites j.known here e) (text a e)
     text_seen e =
         then_seen (expr_sites j.known here e) [] (text_sites j.known here e) (λ x. ⊤) (value a e) (λ x. must (is_text x.kind) fault.KindMismatch >> pure x.tree) (anything_known (value a e)) (value_is_seen e)
         (λ x u. last_seen [] (must (is_text x.kind) fault.KindMismatch) (λ _. x.tree) (must_seen (is_text x.kind) fault.KindMismatch))
-        (or_none (list_any test (expr_sites j.known here e)) ∙ sym (silent_first (Site.text_wanted (kind_here j.known here e)) (expr_sites j.known here e) (sees.text_silent (kind_here j.known here e))))
+        (or_false (list_any test (expr_sites j.known here e)) ∙ sym (silent_first (Site.text_wanted (kind_here j.known here e)) (expr_sites j.known here e) (sees.text_silent (kind_here j.known here e))))
 
     status_is_seen : SeenIf [] (has_found a_status)
     status_is_seen = found_seen a_status [] sees.status_seen
@@ -169,7 +161,7 @@ module _ (names : NamedTables) (j : Judged) (test : Site → Bool) (seen : Query
     escape_seen None = pure_seen None
     escape_seen (Some e) =
         then_seen (text_sites j.known here e) [] (text_sites j.known here e) (λ x. ⊤) (text a e) (λ x. has_found a_status >> pure (Some x)) (anything_known (text a e)) (text_seen e)
-        (λ x u. last_seen [] (has_found a_status) (λ _. Some x) status_is_seen) (or_none (list_any test (text_sites j.known here e)))
+        (λ x u. last_seen [] (has_found a_status) (λ _. Some x) status_is_seen) (or_false (list_any test (text_sites j.known here e)))
 
     -- ---- subqueries
 
@@ -191,12 +183,12 @@ module _ (names : NamedTables) (j : Judged) (test : Site → Bool) (seen : Query
       pub beside_seen : (k : Kind) → SeenIf (select_sites j.known here q) (beside k s)
       beside_seen k =
           then_seen (select_sites j.known here q) [] (select_sites j.known here q) (λ x. ⊤) (subquery s) (λ x. must_be_beside k (columns_of x) >> pure x) (anything_known (subquery s)) subquery_is_seen
-          (λ x u. last_seen [] (must_be_beside k (columns_of x)) (λ _. x) (one_column_seen k (columns_of x))) (or_none (list_any test (select_sites j.known here q)))
+          (λ x u. last_seen [] (must_be_beside k (columns_of x)) (λ _. x) (one_column_seen k (columns_of x))) (or_false (list_any test (select_sites j.known here q)))
 
       pub scalar_seen : (k : Kind) → SeenIf (select_sites j.known here q) (scalar k s)
       scalar_seen k =
           then_seen (select_sites j.known here q) [] (select_sites j.known here q) (λ x. ⊤) (beside k s) (λ x. has_found a_status >> pure x) (anything_known (beside k s)) (beside_seen k)
-          (λ x u. last_seen [] (has_found a_status) (λ _. x) status_is_seen) (or_none (list_any test (select_sites j.known here q)))
+          (λ x u. last_seen [] (has_found a_status) (λ _. x) status_is_seen) (or_false (list_any test (select_sites j.known here q)))
 
       -- behind a value
       pub beside_value_seen : (e : Expr Named) (f : Typed → Binding NumberedCond) → ((x : Typed) → SeenIf (select_sites j.known here q) (f x)) → SeenIf (beside_subquery j.known here e q ++ select_sites j.known here q) (value a e >>= f)

@@ -3,6 +3,7 @@
 use Rattle.std.proofs.Common.{◌≡◌, Bool, true, false, ◌||◌, List, [], ◌∷◌, ◌++◌, length, map, Option, Some, None, Ok, Err, refl, sym, ap, ◌∙◌}
 use Rattle.std.specs.List.{AllZip, flat_map, list_any}
 use Rattle.std.specs.Prelude.{⊤, if◌then◌else◌, nat_lt}
+use Rattle.sq_value.proofs.Truths.{or_false as or_none, or_assoc_left}
 use Rattle.sq_tree.specs.declared.cond.Comparison.{Comparison}
 use Rattle.sq_tree.specs.declared.cond.Quantifier.{Quantifier}
 use Rattle.sq_tree.specs.declared.names.ColumnReference.{ColumnReference}
@@ -32,19 +33,12 @@ use Rattle.sq_binding.proofs.FoundKinds.{standing}
 use Rattle.sq_binding.proofs.FromFaults.{AreItems, NamesFit, from_judges, one_each}
 use Rattle.sq_binding.proofs.Known.{IsOver}
 use Rattle.sq_binding.proofs.PredicateFaults.{surrounded}
-use Rattle.sq_binding.proofs.Seen.{Sees, SeenIf, agreeing_seen, any_both, beside_seen, beside_value_seen, compared_any, each_seen, escape_seen, found_seen, from_seen, is_seen, last_seen, must_seen, or_none, outcome_seen, pure_seen, scalar_seen, silent_first, subquery_is_seen, text_seen, then_seen, value_is_seen}
+use Rattle.sq_binding.proofs.Seen.{Sees, SeenIf, agreeing_seen, any_both, beside_seen, beside_value_seen, compared_any, each_seen, escape_seen, found_seen, from_seen, is_seen, last_seen, must_seen, outcome_seen, pure_seen, scalar_seen, silent_first, subquery_is_seen, text_seen, then_seen, value_is_seen}
 use Rattle.sq_binding.proofs.SelectFaults.{groups_over, lines_over}
 
 once_more : (a b c : Bool) → (a || (b || c)) ≡ ((a || b) || (a || c))
 once_more true b c = refl
 once_more false b c = refl
-
-or_turn : (a b c : Bool) → (a || (b || c)) ≡ ((a || b) || c)
-or_turn true b c = refl
-or_turn false b c = refl
-
-or_false : (a b : Bool) → b ≡ false → (a || b) ≡ a
-or_false a b e = ap (λ b. a || b) e ∙ or_none a
 
 -- the parts of a query specification are bound in another order than that of its sites
 reordered : (tables list filter by having : Bool) → (tables || (filter || (by || (list || having)))) ≡ ((((tables || list) || filter) || by) || having)
@@ -136,7 +130,7 @@ module _ (names : NamedTables) (j : Judged) (fit : NamesFit names j) (test_site 
         (λ x u. then_seen names j test_site seen Good sees second third (second ++ third) (λ y. ⊤) (text a pattern) (λ y. escape_bound a escape >>= λ z. pure (NumberedCond.like x y z)) (anything_known (text a pattern))
         (text_seen names j test_site seen Good sees scopes queries over allowed good pattern)
         (λ y v. last_seen names j test_site seen Good sees third (escape_bound a escape) (λ z. NumberedCond.like x y z) (escape_seen names j test_site seen Good sees scopes queries over allowed good escape)) (sym (any_both test_site second third)))
-        (ap (λ b. any first || b) (any_both test_site second third) ∙ or_turn (any first) (any second) (any third) ∙ ap (λ b. b || any third) (sym (any_both test_site first second)) ∙ sym (any_both test_site (first ++ second) third))
+        (ap (λ b. any first || b) (any_both test_site second third) ∙ or_assoc_left (any first) (any second) (any third) ∙ ap (λ b. b || any third) (sym (any_both test_site first second)) ∙ sym (any_both test_site (first ++ second) third))
       where
         first : List Site
         first = text_sites j.known here e

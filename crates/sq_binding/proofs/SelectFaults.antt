@@ -3,6 +3,7 @@ use Rattle.std.proofs.Common.{◌≡◌, ℕ, zero, suc, Bool, true, false, not,
 use Rattle.std.proofs.lemmas.Bool.Decides.{nat_tests}
 use Rattle.std.specs.List.{AllByRecursion, AllZip, flat_map, list_any}
 use Rattle.std.specs.Prelude.{⊤, ◌==◌, nat_eq, nat_lt, if◌then◌else◌}
+use Rattle.sq_value.proofs.Truths.{and_false, or_false, or_assoc_left}
 use Rattle.sq_value.specs.declared.domain.Kind.{Kind}
 use Rattle.sq_tree.specs.declared.names.ColumnReference.{ColumnReference}
 use Rattle.sq_meaning.specs.Environment.{Place, TableReference, fitting}
@@ -76,11 +77,7 @@ module _ (j : Judged) (scopes : List Scope) (queries : List EnclosingQuery) (ove
   read c = Site.column_read (standing (plain_query from ∷ queries) false false) c
 
   grouped_alone : (n : ℕ) (grouped : Bool) → grouped ≡ true → (nat_eq n 0 && not grouped) ≡ false
-  grouped_alone n true e = nothing (nat_eq n 0)
-    where
-      nothing : (a : Bool) → (a && false) ≡ false
-      nothing true = refl
-      nothing false = refl
+  grouped_alone n true e = and_false (nat_eq n 0)
   grouped_alone n false e = cc
 
   module _ (names : NamedTables) (G C : Type 0) where
@@ -125,11 +122,7 @@ module _ (j : Judged) (scopes : List Scope) (queries : List EnclosingQuery) (ove
       sym (ap (λ b. b && q.item == p.item && q.column == p.column) far) ∙ ap (is_here p.item p.column) same
   fits_at p place (at ∷ []) further e =
       let same : place_at at ≡ place = cc in
-      alone (p.item == at.0 && p.column == at.1) ∙ (λ i. swapped p.item at.0 i && swapped p.column at.1 i) ∙ ap (is_here p.item p.column) same
-    where
-      alone : (a : Bool) → (a || false) ≡ a
-      alone true = refl
-      alone false = refl
+      or_false (p.item == at.0 && p.column == at.1) ∙ (λ i. swapped p.item at.0 i && swapped p.column at.1 i) ∙ ap (is_here p.item p.column) same
   fits_at p place (at ∷ next ∷ ats) further e = cc
 
   pub places_at : (p : Place) (by : List ColumnReference) (columns : List Place) → AllZip PlaceIs by columns
@@ -141,13 +134,9 @@ module _ (j : Judged) (scopes : List Scope) (queries : List EnclosingQuery) (ove
       any_both (is_at p) (fits_here j.known c (plain_query from)) (flat_map (λ c. fits_here j.known c (plain_query from)) by)
       ∙ (λ i. fits_at p q (fitting c (items_here j.known (plain_query from))) (rules.fits j.known c queries) h.0 i || places_at p by columns h.1 i)
     where
-      or_turn : (a b c : Bool) → (a || (b || c)) ≡ ((a || b) || c)
-      or_turn true b c = refl
-      or_turn false b c = refl
-
       any_both : (test : Place → Bool) (xs ys : List Place) → list_any test (xs ++ ys) ≡ (list_any test xs || list_any test ys)
       any_both test [] ys = refl
-      any_both test (x ∷ xs) ys = ap (λ b. test x || b) (any_both test xs ys) ∙ or_turn (test x) (list_any test xs) (list_any test ys)
+      any_both test (x ∷ xs) ys = ap (λ b. test x || b) (any_both test xs ys) ∙ or_assoc_left (test x) (list_any test xs) (list_any test ys)
 
   grouping_is : (p : Place) (by : List ColumnReference) (grouped : Bool) → grouped ≡ true → not (list_any (is_at p) (flat_map (λ c. fits_here j.known c (plain_query from)) by)) ≡ true
       → is_ungrouped_at j.known p (record { from = from; grouping = if grouped then Some by else None }) ≡ true

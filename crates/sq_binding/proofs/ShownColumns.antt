@@ -1,7 +1,7 @@
 -- The columns of a base table that a bound query specification shows, each once, are there exactly where the rules say so (ISO/IEC
 -- 9075:1992, 7.9; own rule).
 use Rattle.std.proofs.Common.{◌≡◌, ℕ, zero, suc, ◌+◌, Bool, true, false, not, ◌&&◌, ◌||◌, List, [], ◌∷◌, ◌++◌, length, map, Option, Some, None, Ok, Err, arith, refl, sym, ap, append_assoc, ◌∙◌}
-use Rattle.std.proofs.lemmas.Bool.{eq-eqb, eqb-true}
+use Rattle.std.proofs.lemmas.Bool.{eq-eqb, eqb-true, false≢true, or_right}
 use Rattle.std.proofs.lemmas.List.{length-append}
 use Rattle.std.specs.List.{AllZip, cons_option, enumerate_from, list_all, list_any}
 use Rattle.std.specs.Option.{option_and_then, option_map}
@@ -18,7 +18,6 @@ use Rattle.sq_binding.specs.Changeable.{UnderTable, columns_shown, if_distinct, 
 use Rattle.sq_binding.specs.From.{column_over}
 use Rattle.sq_binding.specs.Numbered.{Numbered}
 use Rattle.sq_binding.specs.Select.{column_of_item}
-use Rattle.sq_binding.proofs.Sites.{no_truth}
 
 -- ---- columns that are distinct
 
@@ -30,11 +29,6 @@ any_at : (xs : List ℕ) (n x : ℕ) → slice_get xs n ≡ Some x → list_any 
 any_at [] n x e = cc
 any_at (y ∷ xs) zero x e = let same : y ≡ x = cc in ap (λ b. b || list_any (nat_eq x) xs) (eq-eqb x y (sym same))
 any_at (y ∷ xs) (suc n) x e = or_right (nat_eq x y) (list_any (nat_eq x) xs) (any_at xs n x e)
-  where
-    or_right : (a b : Bool) → b ≡ true → (a || b) ≡ true
-    or_right true b e = refl
-    or_right false b e = e
-
 first_apart : (a b : Bool) → (not a && b) ≡ true → (a ≡ false) × (b ≡ true)
 first_apart true b e = cc
 first_apart false b e = (refl, e)
@@ -44,9 +38,9 @@ one_place : (xs : List ℕ) → are_distinct xs ≡ true → (m n x : ℕ) → s
 one_place [] once m n x e f = cc
 one_place (y ∷ xs) once zero zero x e f = refl
 one_place (y ∷ xs) once zero (suc n) x e f =
-    let same : y ≡ x = cc in absurd (no_truth (sym (first_apart (list_any (nat_eq y) xs) (are_distinct xs) once).0 ∙ ap (λ y. list_any (nat_eq y) xs) same ∙ any_at xs n x f))
+    let same : y ≡ x = cc in absurd (false≢true (sym (first_apart (list_any (nat_eq y) xs) (are_distinct xs) once).0 ∙ ap (λ y. list_any (nat_eq y) xs) same ∙ any_at xs n x f))
 one_place (y ∷ xs) once (suc m) zero x e f =
-    let same : y ≡ x = cc in absurd (no_truth (sym (first_apart (list_any (nat_eq y) xs) (are_distinct xs) once).0 ∙ ap (λ y. list_any (nat_eq y) xs) same ∙ any_at xs m x e))
+    let same : y ≡ x = cc in absurd (false≢true (sym (first_apart (list_any (nat_eq y) xs) (are_distinct xs) once).0 ∙ ap (λ y. list_any (nat_eq y) xs) same ∙ any_at xs m x e))
 one_place (y ∷ xs) once (suc m) (suc n) x e f = ap suc (one_place xs (first_apart (list_any (nat_eq y) xs) (are_distinct xs) once).1 m n x e f)
 
 module _ (us : List ℕ) (once : are_distinct us ≡ true) where

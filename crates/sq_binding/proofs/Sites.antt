@@ -1,16 +1,13 @@
 -- Faults at the sites of a text: at some of them, and so at all.
-use Rattle.std.proofs.Common.{◌≡◌, Bool, true, false, not, ◌&&◌, ◌||◌, List, [], ◌∷◌, ◌++◌, Ok, Err, refl, sym, ap, ◌∙◌}
+use Rattle.std.proofs.Common.{◌≡◌, Bool, true, false, ◌||◌, List, [], ◌∷◌, ◌++◌, Ok, Err, refl, sym, ap, ◌∙◌}
 use Rattle.std.specs.Prelude.{⊤, if◌then◌else◌}
+use Rattle.sq_value.proofs.Truths.{or_true}
 use Rattle.sq_meaning.specs.Binding.{Judged, breaks, has_fault}
 use Rattle.sq_meaning.specs.Site.{Site}
 use Rattle.sq_meaning.specs.declared.fault.BindingFault.{BindingFault}
 use Rattle.sq_binding.specs.Outcome.{Outcome, and_then}
 
 -- ---- faults at sites
-
-pub or_true : (a : Bool) → (a || true) ≡ true
-or_true true = refl
-or_true false = refl
 
 pub fault_here : (j : Judged) (f : BindingFault) (s : Site) (sites : List Site) → breaks j f s ≡ true → has_fault j (s ∷ sites) f ≡ true
 fault_here j f s sites h = ap (λ b. b || has_fault j sites f) h
@@ -49,21 +46,6 @@ pub if_fault : {A : Type 0} (j : Judged) (sites : List Site) (f : BindingFault) 
 if_fault j sites f true o h g = h refl
 if_fault j sites f false o h g = g refl
 
-pub both_true : (a b : Bool) → (a && b) ≡ true → (a ≡ true) × (b ≡ true)
-both_true true b e = (refl, e)
-both_true false b e = cc
-
-pub is_false : (a : Bool) → not a ≡ true → a ≡ false
-is_false true e = cc
-is_false false e = refl
-
 pub either : {P : Type 0} (a b : Bool) → (a || b) ≡ true → (a ≡ true → P) → (b ≡ true → P) → P
 either true b t p q = p refl
 either false b t p q = q t
-
-pub neither : (a b : Bool) → (a || b) ≡ false → (a ≡ false) × (b ≡ false)
-neither true b e = cc
-neither false b e = (refl, e)
-
-pub no_truth : false ≡ true → ⊥
-no_truth e = cc

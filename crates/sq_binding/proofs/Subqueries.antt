@@ -1,6 +1,7 @@
 -- A subquery is found in a search condition exactly where one is written (ISO/IEC 9075:1992, 7.11).
 use Rattle.std.proofs.Common.{◌≡◌, Bool, true, false, ◌||◌, List, [], ◌∷◌, Option, Some, None, Ok, Err, refl, sym, ap, ◌∙◌}
 use Rattle.std.specs.Prelude.{◌+◌, if◌then◌else◌, nat_eq}
+use Rattle.sq_value.proofs.Truths.{or_false}
 use Rattle.sq_meaning.specs.Spelled.{Named}
 use Rattle.sq_meaning.specs.Syntax.{Expr, Cond, Conds, Clause, compare, compare_subquery, compare_quantified, between, in_subquery, in_list, like, is_null, exists, negated, conjunction, disjunction, no_cond, a_cond, absent, present}
 use Rattle.sq_meaning.specs.Target.{clause_has_subquery, has_subquery, have_subquery}
@@ -29,10 +30,6 @@ then_finds {A} {B} s t b f h g counts z is =
     let a = after_of b f counts z is in
     sym (ap (λ (x : Found B). x.findings.has_subquery) a.is_joined) ∙ (λ i. h counts a.first a.is_first i || g a.first.part _ a.second a.is_second i)
 
-or_none : (s : Bool) → (s || false) ≡ s
-or_none true = refl
-or_none false = refl
-
 found_in_result : {A : Type 0} → Bool → Outcome (Found A) → Bool
 found_in_result b (Ok x) = x.findings.has_subquery
 found_in_result b (Err f) = b
@@ -58,7 +55,7 @@ value_finds a e counts z is =
 
 -- what is made of a part has no more in it
 pub last_finds : {A B : Type 0} (s : Bool) (b : Binding A) (make : A → B) → Finds s b → Finds s (b >>= λ x. pure (make x))
-last_finds s b make h counts z is = then_finds s false b (λ x. pure (make x)) h (λ x. pure_finds (make x)) counts z is ∙ or_none s
+last_finds s b make h counts z is = then_finds s false b (λ x. pure (make x)) h (λ x. pure_finds (make x)) counts z is ∙ or_false s
 
 agreeing_finds : (a : Surroundings) (k : Kind) (e : Expr Named) → Finds false (agreeing a k e)
 agreeing_finds a k e = then_finds false false (value a e) (λ x. must_agree k x.kind >> pure x.tree) (value_finds a e) (λ x. last_finds false (must_agree k x.kind) (λ _. x.tree) (must_finds (is_comparable k x.kind) fault.KindMismatch))

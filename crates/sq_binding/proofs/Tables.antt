@@ -5,6 +5,7 @@ use Rattle.std.proofs.lemmas.Grind.{common_steps}
 use Rattle.std.specs.List.{AllByRecursion, AllZip, list_all, list_any}
 use Rattle.std.specs.Option.{option_map}
 use Rattle.std.specs.Prelude.{⊤, Result, find, if◌then◌else◌, is_err, is_none, is_ok, nat_le, nat_lt, unwrap_or}
+use Rattle.std.proofs.lemmas.Bool.{or_parts}
 use Rattle.sq_lex.specs.declared.name.Name.{Name}
 use Rattle.sq_value.specs.Domain.{domain_length, kind_of}
 use Rattle.sq_value.specs.declared.domain.Domain.{Domain}
@@ -46,7 +47,7 @@ use Rattle.sq_binding.proofs.Answers.{Answers, Tells, answers_both, answers_end,
 use Rattle.sq_binding.proofs.BoundReferences.{reference_bound}
 use Rattle.sq_binding.proofs.Constraints.{IsTyped, keys_nullable}
 use Rattle.sq_binding.proofs.KnownTables.{IsBaseOf, IsCatalogOf, IsColumnOf, there_is_made}
-use Rattle.sq_binding.proofs.Names.{IsPlaced, as_long, none_of, table_itself}
+use Rattle.sq_binding.proofs.Names.{IsPlaced, as_long, table_itself}
 use Rattle.sq_binding.proofs.ReferencedKeys.{IsKindOf, IsTarget}
 use Rattle.sq_binding.proofs.References.{IsFound, is_unknown, keys_told, lists_are_bad, references_told, unknown_names}
 
@@ -122,7 +123,7 @@ each_good : {A B : Type 0} (R : A → B → Type 0) (test : B → Bool) (xs : Li
 each_good R test [] [] h e = tt
 each_good R test [] (y ∷ ys) h e = absurd h
 each_good R test (x ∷ xs) [] h e = absurd h
-each_good R test (x ∷ xs) (y ∷ ys) h e = let parts = none_of (test y) (list_any test ys) e in ((h.0, parts.0), each_good R test xs ys h.1 parts.1)
+each_good R test (x ∷ xs) (y ∷ ys) h e = let parts = or_parts (test y) (list_any test ys) e in ((h.0, parts.0), each_good R test xs ys h.1 parts.1)
 
 module _ (users : List Name) (before : Elements) (c : Catalog) (of : IsCatalogOf users before c) (user : Name) (t : TableDefinition) where
   abbrev own : TableName
@@ -291,7 +292,7 @@ module _ (users : List Name) (before : Elements) (c : Catalog) (of : IsCatalogOf
         (tells_more fault.NullableKey _ _ (λ u. ⊤) _ (λ u e. tt) (if_told fault.NullableKey (list_any (has_nullable d.columns) d.keys) (nullable_key (element.Table t)) (sym (keys_nullable t h.apart d.columns h.columns (rules.keys t) d.keys h.keys))))
         (λ u v. answers_then fault.BadKey _ (behind (behind rest_rules)) (λ u. has_bad_lists t d ≡ false) IsMade (refused_if fault.BadKey (has_bad_lists t d)) _
         (tells_at fault.BadKey (has_bad_lists t d) (bad_key (element.Table t)) _ _ (sym (lists_are_bad before c of.known user t d.keys d.references h.keys h.references)) (tells_if fault.BadKey (has_bad_lists t d)))
-        (λ w lists. let parts = none_of (has_bad_key t d.keys) (list_any has_bad_list d.references) lists in
+        (λ w lists. let parts = or_parts (has_bad_key t d.keys) (list_any has_bad_list d.references) lists in
         answers_then fault.BadReference _ (behind (behind (behind rest_rules))) (AllZip (λ r b. (b.is_permitted ≡ refusal.may_reference elements user r) × IsBoundAs (own_table c t d) r b) (table_references t)) IsMade (each (bound_reference c user (own_table c t d)) d.references) _
         (tells_each_of fault.BadReference (λ r. not (is_good_reference elements user t r)) (λ r f. Found r f × (has_bad_list f ≡ false)) (λ r b. (b.is_permitted ≡ refusal.may_reference elements user r) × IsBoundAs (own_table c t d) r b) (bound_reference c user (own_table c t d))
         (λ r f is. tells_more fault.BadReference (not (is_good_reference elements user t r)) (λ x. (x.is_permitted ≡ refusal.may_reference elements user r) × (bound_reference c user (own_table c t d) f ≡ Ok x))

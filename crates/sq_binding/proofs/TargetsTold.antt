@@ -5,6 +5,8 @@ use Rattle.std.proofs.lemmas.List.{append-nil}
 use Rattle.std.specs.List.{AllZip, flat_map, list_any, zip}
 use Rattle.std.specs.Option.{option_map}
 use Rattle.std.specs.Prelude.{◌==◌, if◌then◌else◌, nat_eq, option_to_list}
+use Rattle.std.proofs.lemmas.Bool.{false≢true, or_right}
+use Rattle.sq_value.proofs.Truths.{or_false, or_assoc_left}
 use Rattle.sq_lex.specs.declared.name.Name.{Name}
 use Rattle.sq_value.specs.Domain.{kind_of}
 use Rattle.sq_value.specs.declared.domain.Domain.{Domain}
@@ -35,8 +37,7 @@ use Rattle.sq_binding.proofs.Faults.{expr_faults}
 use Rattle.sq_binding.proofs.Known.{IfNamed, parameter_found}
 use Rattle.sq_binding.proofs.PredicateFaults.{alike_breaks}
 use Rattle.sq_binding.proofs.SameParameters.{IsAt, twice_longer, twice_same}
-use Rattle.sq_binding.proofs.Seen.{or_none}
-use Rattle.sq_binding.proofs.Sites.{IfFault, fault_here, fault_later, no_truth}
+use Rattle.sq_binding.proofs.Sites.{IfFault, fault_here, fault_later}
 use Rattle.sq_binding.proofs.Told.{Told}
 use Rattle.sq_binding.proofs.UnionFaults.{lengths_equal}
 
@@ -44,16 +45,7 @@ use Rattle.sq_binding.proofs.UnionFaults.{lengths_equal}
 
 any_append : {A : Type 0} (test : A → Bool) (xs ys : List A) → list_any test (xs ++ ys) ≡ (list_any test xs || list_any test ys)
 any_append test [] ys = refl
-any_append test (x ∷ xs) ys = ap (λ b. test x || b) (any_append test xs ys) ∙ or_turn (test x) (list_any test xs) (list_any test ys)
-  where
-    or_turn : (a b c : Bool) → (a || (b || c)) ≡ ((a || b) || c)
-    or_turn true b c = refl
-    or_turn false b c = refl
-
-or_right : (a b : Bool) → b ≡ true → (a || b) ≡ true
-or_right true b e = refl
-or_right false b e = e
-
+any_append test (x ∷ xs) ys = ap (λ b. test x || b) (any_append test xs ys) ∙ or_assoc_left (test x) (list_any test xs) (list_any test ys)
 flat_append : {A B : Type 0} (f : A → List B) (xs ys : List A) → flat_map f (xs ++ ys) ≡ flat_map f xs ++ flat_map f ys
 flat_append f [] ys = refl
 flat_append f (x ∷ xs) ys = ap (λ l. f x ++ l) (flat_append f xs ys) ∙ sym (append_assoc (f x) (flat_map f xs) (flat_map f ys))
@@ -106,7 +98,7 @@ module _ (j : Judged) where
     where
       by : (b : Bool) → breaks j f (Site.parameter_read t.0) ≡ b → has_fault j (Site.parameter_read t.0 ∷ []) f ≡ true → TargetFault t f
       by true e h = fault_here j f (Site.parameter_read t.0) (pair t ∷ []) e
-      by false e h = absurd (no_truth (sym (ap (λ b. b || false) e) ∙ h))
+      by false e h = absurd (false≢true (sym (ap (λ b. b || false) e) ∙ h))
 
   indicator_at : (i : Option Indicator) (n : Option ℕ) → indicator_bound params i ≡ Ok n → AllZip (IsAt params) (option_to_list (option_map (λ i. i.name) i)) (option_to_list n)
   indicator_at None None e = tt
@@ -191,7 +183,7 @@ module _ (j : Judged) where
         later f h = fault_later j f whole (map pair (t ∷ rest)) (fault_here j f (pair t) (map pair rest) h)
 
         last : (f : BindingFault) → breaks j f (Site.parameter_read t.0) ≡ false → has_fault j (Site.parameter_read t.0 ∷ pair t ∷ []) f ≡ true → breaks j f (pair t) ≡ true
-        last f none h = sym (or_none (breaks j f (pair t))) ∙ sym (ap (λ b. b || (breaks j f (pair t) || false)) none) ∙ h
+        last f none h = sym (or_false (breaks j f (pair t))) ∙ sym (ap (λ b. b || (breaks j f (pair t) || false)) none) ∙ h
 
         here_unknown : list_any unknown (parameter_names t.0) ≡ true → list_any unknown (names_in all) ≡ true
         here_unknown h =

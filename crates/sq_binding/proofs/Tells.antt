@@ -1,8 +1,9 @@
 -- Parts that are bound one after the other, as the rules say at their sites.
-use Rattle.std.proofs.Common.{◌≡◌, Bool, true, false, ◌||◌, List, [], ◌∷◌, ◌++◌, Ok, Err, refl, sym, subst, ◌∙◌}
+use Rattle.std.proofs.Common.{◌≡◌, Bool, true, false, List, [], ◌∷◌, ◌++◌, Ok, Err, refl, sym, subst, ◌∙◌}
 use Rattle.std.proofs.lemmas.List.{append-nil}
 use Rattle.std.specs.List.{AllByRecursion, flat_map}
 use Rattle.std.specs.Prelude.{⊤}
+use Rattle.sq_value.proofs.Truths.{or_comm}
 use Rattle.sq_meaning.specs.Binding.{Judged, breaks, has_fault}
 use Rattle.sq_meaning.specs.Site.{Site}
 use Rattle.sq_meaning.specs.declared.fault.BindingFault.{BindingFault}
@@ -70,16 +71,10 @@ module _ (j : Judged) where
       then_tells (sites_of x) (flat_map sites_of xs) (λ y. ⊤) (f x) (λ y. each f xs >>= λ ys. pure (y ∷ ys)) (λ counts z is. tt) (h x w.0)
       (λ y u. made_tells (flat_map sites_of xs) (each f xs) (λ ys. y ∷ ys) (each_tells_if W sites_of f h xs w.1))
 
-  either_turned : (a b : Bool) → (a || b) ≡ (b || a)
-  either_turned true true = refl
-  either_turned true false = refl
-  either_turned false true = refl
-  either_turned false false = refl
-
   -- what is told at these sites is told at them in another order
   pub turned_tells : {A : Type 0} (xs ys : List Site) (b : Binding A) → Tells j (xs ++ ys) b → Tells j (ys ++ xs) b
   turned_tells xs ys b =
-      tells_at (xs ++ ys) (ys ++ xs) b (λ f h. any_both (breaks j f) ys xs ∙ either_turned (has_fault j ys f) (has_fault j xs f) ∙ sym (any_both (breaks j f) xs ys) ∙ h)
+      tells_at (xs ++ ys) (ys ++ xs) b (λ f h. any_both (breaks j f) ys xs ∙ or_comm (has_fault j ys f) (has_fault j xs f) ∙ sym (any_both (breaks j f) xs ys) ∙ h)
       (λ held clean. let parts = clean_parts j xs ys clean in clean_both j ys xs parts.1 parts.0)
 
   -- behind which nothing is asked

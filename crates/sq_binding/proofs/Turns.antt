@@ -2,6 +2,7 @@
 use Rattle.std.proofs.Common.{◌≡◌, ℕ, Bool, true, false, List, [], ◌∷◌, max, Ok, Err, arith, refl, sym, subst, ◌∙◌, suc, length, ap}
 use Rattle.std.proofs.lemmas.List.{append-nil}
 use Rattle.std.specs.Prelude.{⊤, nat_lt, if◌then◌else◌}
+use Rattle.sq_value.proofs.Truths.{or_false}
 use Rattle.sq_meaning.specs.declared.fault.BindingFault.{BindingFault}
 use Rattle.sq_meaning.specs.declared.fault.BindingFault.TheVariants as fault
 use Rattle.sq_binding.specs.Findings.{Findings}
@@ -9,7 +10,7 @@ use Rattle.sq_binding.specs.Findings as findings
 use Rattle.sq_binding.specs.Found.{Binding, Counts, Found, ◌>>=◌, ◌>>◌, after, at_most, each, has_found, joined, must, outcome, pure, refused, then_joined}
 use Rattle.sq_binding.specs.Outcome.{Outcome, and_then}
 use Rattle.sq_binding.specs.QueryFindings.{QueryFindings, both, nothing}
-use Rattle.sq_binding.proofs.Lists.{both_alone, or_nothing}
+use Rattle.sq_binding.proofs.Lists.{both_alone}
 use Rattle.sq_binding.proofs.Parts.{IfFound}
 
 -- ---- what is found
@@ -45,10 +46,10 @@ both_first a = λ i. record { values = values_first a.values i; has_subquery = a
 
 -- a part is made of one, and nothing is added
 pub put_last : {A B : Type 0} (x : Found A) (y : B) → joined x (only x.subqueries nothing y) ≡ put y x
-put_last x y = λ i. record { part = y; calls = append-nil x.calls i; calls_can_fail = or_nothing x.calls_can_fail i; findings = both_alone x.findings i; subqueries = x.subqueries }
+put_last x y = λ i. record { part = y; calls = append-nil x.calls i; calls_can_fail = or_false x.calls_can_fail i; findings = both_alone x.findings i; subqueries = x.subqueries }
 
 pub found_last : {A B : Type 0} (x : Found A) (more : QueryFindings) (y : B) → joined x (only x.subqueries (both more nothing) y) ≡ found_too more (put y x)
-found_last x more y = λ i. record { part = y; calls = append-nil x.calls i; calls_can_fail = or_nothing x.calls_can_fail i; findings = both x.findings (both_alone more i); subqueries = x.subqueries }
+found_last x more y = λ i. record { part = y; calls = append-nil x.calls i; calls_can_fail = or_false x.calls_can_fail i; findings = both x.findings (both_alone more i); subqueries = x.subqueries }
 
 -- what is bound is so
 pub it_is : {A : Type 0} (P : Found A → Type 0) (o : Outcome (Found A)) (x : Found A) → o ≡ Ok x → IfFound P o → P x

@@ -1,10 +1,11 @@
 -- The fault that is answered of a query expression is one that the rules find there, and its columns are those that the rules know
 -- (ISO/IEC 9075:1992, 7.10).
-use Rattle.std.proofs.Common.{◌≡◌, ℕ, suc, Bool, true, false, not, List, [], ◌∷◌, ◌++◌, length, map, Ok, Err, arith, refl, sym, ap, subst, ◌∙◌}
+use Rattle.std.proofs.Common.{◌≡◌, ℕ, suc, Bool, true, false, List, [], ◌∷◌, ◌++◌, length, map, Ok, Err, arith, refl, sym, ap, subst, ◌∙◌}
 use Rattle.std.proofs.lemmas.Bool.Decides.{nat_tests}
 use Rattle.std.specs.List.{AllZip, flat_map, zip}
 use Rattle.std.specs.Prelude.{⊤, ◌==◌}
 use Rattle.std.specs.Result.{result_ok}
+use Rattle.std.proofs.lemmas.Bool.{not_from_false}
 use Rattle.sq_value.specs.declared.domain.Kind.{Kind}
 use Rattle.sq_value.specs.declared.domain.Kind.TheVariants.{Chars, Num, Vary}
 use Rattle.sq_meaning.specs.Kind.{common_kind, common_kinds}
@@ -107,15 +108,11 @@ module _ (j : Judged) (G C : Type 0) where
     abbrev pub column_sites : List Site
     column_sites = Site.counts (length left) (length right) ∷ flat_map (λ p. alike p ∷ []) (zip left right)
 
-    not_false : (a : Bool) → a ≡ false → not a ≡ true
-    not_false true e = cc
-    not_false false e = refl
-
     pub columns_judge : Judges j column_sites G C (AreCommon left right) (common_columns left right)
     columns_judge =
         then_judges j column_sites G C (λ u. (length left == length right) ≡ true) (AreCommon left right) (must (length left == length right) fault.CountMismatch) (λ _. each common_column (zip left right))
         (must_judges j column_sites G C (length left == length right) fault.CountMismatch
-        (λ differ. fault_here j fault.CountMismatch (Site.counts (length left) (length right)) (flat_map (λ p. alike p ∷ []) (zip left right)) (not_false (length left == length right) differ)))
+        (λ differ. fault_here j fault.CountMismatch (Site.counts (length left) (length right)) (flat_map (λ p. alike p ∷ []) (zip left right)) (not_from_false (length left == length right) differ)))
         (λ u same. more_judges j pairs column_sites (λ f h. fault_right j f (Site.counts (length left) (length right) ∷ []) pairs h) G G C C (AllZip IsCommon (zip left right)) (AreCommon left right) (each common_column (zip left right)) (λ g. g) (λ c. c)
         (λ columns h. let all = common_all left right columns (lengths_equal (length left) (length right) same) h in record { kinds = all.0; count = all.1 })
         (each_judges j G C (λ p. ⊤) (λ p. alike p ∷ []) IsCommon common_column (λ p w. common_judges p) (zip left right) (every (zip left right))))

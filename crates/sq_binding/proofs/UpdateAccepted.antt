@@ -2,6 +2,7 @@
 use Rattle.std.proofs.Common.{◌≡◌, Bool, true, false, not, ◌||◌, List, [], ◌∷◌, ◌++◌, length, map, Option, Some, None, Ok, Err, refl, sym, ap, subst, ◌∙◌}
 use Rattle.std.specs.List.{AllByRecursion, flat_map, list_any}
 use Rattle.std.specs.Prelude.{⊤, if◌then◌else◌}
+use Rattle.sq_value.proofs.Truths.{or_false, or_turned}
 use Rattle.sq_lex.specs.declared.name.Name.{Name}
 use Rattle.sq_tree.specs.declared.statement.Assignment.{Assignment}
 use Rattle.sq_tree.specs.declared.statement.Update.{Update}
@@ -38,7 +39,7 @@ use Rattle.sq_binding.proofs.PredicateFaults.{surrounded}
 use Rattle.sq_binding.proofs.Privileges.{Anywhere, LacksIf, ReadsFit, is_missing, lacking, privileges_seen}
 use Rattle.sq_binding.proofs.RowsSeen.{around_it, leaf_value_seen, reading_lacks, rows_seen}
 use Rattle.sq_binding.proofs.RowsTold.{PositionsFit, WhereSpellsNoNull, rows_tell, where_sites_of}
-use Rattle.sq_binding.proofs.Seen.{SeenIf, Sees, any_both, found_seen, last_seen, or_none, outcome_seen, then_seen}
+use Rattle.sq_binding.proofs.Seen.{SeenIf, Sees, any_both, found_seen, last_seen, outcome_seen, then_seen}
 use Rattle.sq_binding.proofs.Sites.{fault_later}
 use Rattle.sq_binding.proofs.Tells.{Tells, first_tells, found_tells, made_tells, outcome_tells, tells_at, then_tells}
 use Rattle.sq_binding.proofs.Told.{Told, told_made}
@@ -130,20 +131,14 @@ module _ (names : UserNames) (j : Judged) (fits : TablesFit names j) (table : Ta
     abbrev If : {A : Type 0} → List Site → Binding A → Type 0
     If sites b = SeenIf names.tables j test seen Good sees sites b
 
-    turned : (a b : Bool) → (a || (b || false)) ≡ (b || a)
-    turned true true = refl
-    turned true false = refl
-    turned false true = refl
-    turned false false = refl
-
     assignment_seen : (s : Assignment) (r : Receiver) → If (set_sites s) (assignment_bound names a t s r)
     assignment_seen s r =
         then_seen names.tables j test seen Good sees values (used ∷ []) (set_sites s) (λ x. ⊤) (new_value_bound inner r.kind s.value) (assigned s r) (anything_known (new_value_bound inner r.kind s.value))
         (subst (λ sites. If sites (new_value_bound inner r.kind s.value)) (beside_are s)
         (leaf_value_seen names.tables j fits.tables test seen Good sees t.reference t.table there_it t.under wide good (column_kind j.known.tables table s.column) r.kind s.value))
         (λ x u. last_seen names.tables j test seen Good sees (used ∷ []) (has_found (needed (names.holds t.reference.table (Privilege.update s.column)))) (λ _. set_to r x)
-        (found_seen names.tables j test seen Good sees (needed (names.holds t.reference.table (Privilege.update s.column))) (used ∷ []) (use_seen s.column ∙ sym (or_none (test used)))))
-        (turned (list_any test values) (test used) ∙ ap (λ b. b || (test used || list_any test values)) (sym (column_silent s.column)))
+        (found_seen names.tables j test seen Good sees (needed (names.holds t.reference.table (Privilege.update s.column))) (used ∷ []) (use_seen s.column ∙ sym (or_false (test used)))))
+        (or_turned (list_any test values) (test used) ∙ ap (λ b. b || (test used || list_any test values)) (sym (column_silent s.column)))
       where
         values : List Site
         values = value_sites j.known (beside_table table) (column_kind j.known.tables table s.column) s.value

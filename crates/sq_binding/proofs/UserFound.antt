@@ -1,6 +1,8 @@
 -- USER is found in a search condition without subqueries and set functions exactly where it is written (ISO/IEC 9075:1992, 6.2 and 11.9).
 use Rattle.std.proofs.Common.{◌≡◌, Bool, true, false, ◌||◌, List, [], ◌∷◌, ◌++◌, Option, Some, None, Ok, Err, refl, sym, ap, ◌∙◌}
 use Rattle.std.specs.List.{flat_map, list_any}
+use Rattle.std.proofs.lemmas.Bool.{or_parts, or_right}
+use Rattle.sq_value.proofs.Truths.{or_false, or_assoc_left}
 use Rattle.sq_value.specs.declared.domain.Kind.{Kind}
 use Rattle.sq_meaning.specs.Spelled.{Named}
 use Rattle.sq_meaning.specs.Syntax.{Expr, Cond, Conds, compare, compare_subquery, compare_quantified, between, in_subquery, in_list, like, is_null, exists, negated, conjunction, disjunction, no_cond, a_cond}
@@ -22,8 +24,7 @@ use Rattle.sq_meaning.specs.Tables.{Declared}
 use Rattle.sq_binding.proofs.Cases.{Cases, it_holds}
 use Rattle.sq_binding.proofs.Clean.{steps_of}
 use Rattle.sq_binding.proofs.CleanConds.{after_of}
-use Rattle.sq_binding.proofs.Seen.{any_both, or_none}
-use Rattle.sq_binding.proofs.Sites.{neither}
+use Rattle.sq_binding.proofs.Seen.{any_both}
 use Rattle.sq_binding.proofs.Told.{okay}
 
 abbrev any : List Site → Bool
@@ -59,7 +60,7 @@ status_user : UserIf [] (has_found a_status)
 status_user counts z is = is_user _ z is false refl
 
 last_user : {A B : Type 0} (xs : List Site) (b : Binding A) (make : A → B) → UserIf xs b → UserIf xs (b >>= λ x. pure (make x))
-last_user xs b make h = then_user xs [] xs b (λ x. pure (make x)) h (λ x. pure_user (make x)) (or_none (any xs))
+last_user xs b make h = then_user xs [] xs b (λ x. pure (make x)) h (λ x. pure_user (make x)) (or_false (any xs))
 
 each_user : {A B : Type 0} (sites_of : A → List Site) (f : A → Binding B) → ((x : A) → UserIf (sites_of x) (f x)) → (xs : List A) → UserIf (flat_map sites_of xs) (each f xs)
 each_user {A} {B} sites_of f h [] = pure_user {A = List B} []
@@ -70,10 +71,6 @@ each_user {A} {B} sites_of f h (x ∷ xs) =
 once_more : (a b c : Bool) → (a || (b || c)) ≡ ((a || b) || (a || c))
 once_more true b c = refl
 once_more false b c = refl
-
-or_turn : (a b c : Bool) → (a || (b || c)) ≡ ((a || b) || c)
-or_turn true b c = refl
-or_turn false b c = refl
 
 -- ---- value expressions without set functions
 
@@ -108,17 +105,17 @@ module _ (k : Known) (around : Around) (a : Surroundings) (plain : a.functions_a
   agreeing_user : (l : Kind) (e : Expr Named) → UserIf (expr_sites k around e) (agreeing a l e)
   agreeing_user l e =
       then_user (expr_sites k around e) [] (expr_sites k around e) (value a e) (λ x. must_agree l x.kind >> pure x.tree) (value_user e)
-      (λ x. last_user [] (must_agree l x.kind) (λ _. x.tree) (must_user (is_comparable l x.kind) fault.KindMismatch)) (or_none (any (expr_sites k around e)))
+      (λ x. last_user [] (must_agree l x.kind) (λ _. x.tree) (must_user (is_comparable l x.kind) fault.KindMismatch)) (or_false (any (expr_sites k around e)))
 
   text_user : (e : Expr Named) → UserIf (text_sites k around e) (text a e)
   text_user e =
       then_user (expr_sites k around e) [] (text_sites k around e) (value a e) (λ x. must (is_text x.kind) fault.KindMismatch >> pure x.tree) (value_user e)
-      (λ x. last_user [] (must (is_text x.kind) fault.KindMismatch) (λ _. x.tree) (must_user (is_text x.kind) fault.KindMismatch)) (or_none (any (expr_sites k around e)))
+      (λ x. last_user [] (must (is_text x.kind) fault.KindMismatch) (λ _. x.tree) (must_user (is_text x.kind) fault.KindMismatch)) (or_false (any (expr_sites k around e)))
 
   escape_user : (e : Option (Expr Named)) → UserIf (escape_sites k around e) (escape_bound a e)
   escape_user None = pure_user None
   escape_user (Some e) =
-      then_user (text_sites k around e) [] (text_sites k around e) (text a e) (λ x. has_found a_status >> pure (Some x)) (text_user e) (λ x. last_user [] (has_found a_status) (λ _. Some x) status_user) (or_none (any (text_sites k around e)))
+      then_user (text_sites k around e) [] (text_sites k around e) (text a e) (λ x. has_found a_status >> pure (Some x)) (text_user e) (λ x. last_user [] (has_found a_status) (λ _. Some x) status_user) (or_false (any (text_sites k around e)))
 
   -- two values that are compared
   both_any : (e f : Expr Named) → (any (expr_sites k around e) || any (expr_sites k around f)) ≡ any (compared_sites k around e f)
@@ -169,7 +166,7 @@ module _ (k : Known) (around : Around) (a : Surroundings) (plain : a.functions_a
         (λ x. then_user (text_sites k around pattern) (escape_sites k around escape) (text_sites k around pattern ++ escape_sites k around escape) (text a pattern) (λ y. escape_bound a escape >>= λ z. pure (NumberedCond.like x y z)) (text_user pattern)
         (λ y. last_user (escape_sites k around escape) (escape_bound a escape) (λ z. NumberedCond.like x y z) (escape_user escape)) (sym (any_both is_refused_in_check (text_sites k around pattern) (escape_sites k around escape))))
         (ap (λ b. any (text_sites k around e) || b) (any_both is_refused_in_check (text_sites k around pattern) (escape_sites k around escape))
-        ∙ or_turn (any (text_sites k around e)) (any (text_sites k around pattern)) (any (escape_sites k around escape))
+        ∙ or_assoc_left (any (text_sites k around e)) (any (text_sites k around pattern)) (any (escape_sites k around escape))
         ∙ ap (λ b. b || any (escape_sites k around escape)) (sym (any_both is_refused_in_check (text_sites k around e) (text_sites k around pattern)))
         ∙ sym (any_both is_refused_in_check (text_sites k around e ++ text_sites k around pattern) (escape_sites k around escape)))
     cond_user (is_null e) none = last_user (expr_sites k around e) (value a e) (λ x. NumberedCond.is_null x.tree) (value_user e)
@@ -182,14 +179,14 @@ module _ (k : Known) (around : Around) (a : Surroundings) (plain : a.functions_a
     tests_user no_cond none = pure_user NumberedConds.no_cond
     tests_user (a_cond c cs) none =
         then_user (cond_sites k around c) (conds_sites k around cs) (cond_sites k around c ++ conds_sites k around cs) (test (cond_bound a c)) (λ x. tests_bound a cs >>= λ xs. pure (NumberedConds.a_cond x xs))
-        (test_user (cond_sites k around c) (cond_bound a c) (cond_user c (neither (has_subquery c) (have_subquery cs) none).0))
-        (λ x. last_user (conds_sites k around cs) (tests_bound a cs) (λ xs. NumberedConds.a_cond x xs) (tests_user cs (neither (has_subquery c) (have_subquery cs) none).1)) (sym (any_both is_refused_in_check (cond_sites k around c) (conds_sites k around cs)))
+        (test_user (cond_sites k around c) (cond_bound a c) (cond_user c (or_parts (has_subquery c) (have_subquery cs) none).0))
+        (λ x. last_user (conds_sites k around cs) (tests_bound a cs) (λ xs. NumberedConds.a_cond x xs) (tests_user cs (or_parts (has_subquery c) (have_subquery cs) none).1)) (sym (any_both is_refused_in_check (cond_sites k around c) (conds_sites k around cs)))
 
     terms_user : (cs : Conds Named) → have_subquery cs ≡ false → UserIf (conds_sites k around cs) (terms_bound a cs)
     terms_user no_cond none = pure_user NumberedConds.no_cond
     terms_user (a_cond c cs) none =
-        then_user (cond_sites k around c) (conds_sites k around cs) (cond_sites k around c ++ conds_sites k around cs) (cond_bound a c) (λ x. terms_bound a cs >>= λ xs. pure (NumberedConds.a_cond x xs)) (cond_user c (neither (has_subquery c) (have_subquery cs) none).0)
-        (λ x. last_user (conds_sites k around cs) (terms_bound a cs) (λ xs. NumberedConds.a_cond x xs) (terms_user cs (neither (has_subquery c) (have_subquery cs) none).1)) (sym (any_both is_refused_in_check (cond_sites k around c) (conds_sites k around cs)))
+        then_user (cond_sites k around c) (conds_sites k around cs) (cond_sites k around c ++ conds_sites k around cs) (cond_bound a c) (λ x. terms_bound a cs >>= λ xs. pure (NumberedConds.a_cond x xs)) (cond_user c (or_parts (has_subquery c) (have_subquery cs) none).0)
+        (λ x. last_user (conds_sites k around cs) (terms_bound a cs) (λ xs. NumberedConds.a_cond x xs) (terms_user cs (or_parts (has_subquery c) (have_subquery cs) none).1)) (sym (any_both is_refused_in_check (cond_sites k around c) (conds_sites k around cs)))
 
 -- ---- a subquery is refused wherever one is written
 
@@ -212,10 +209,6 @@ mutual
   conds_refused k around no_cond some = cc
   conds_refused k around (a_cond c cs) some = any_both is_refused_in_check (cond_sites k around c) (conds_sites k around cs) ∙ by (has_subquery c) refl (conds_refused k around cs) (cond_refused k around c)
     where
-      or_right : (x y : Bool) → y ≡ true → (x || y) ≡ true
-      or_right true y e = refl
-      or_right false y e = e
-
       by : (b : Bool) → has_subquery c ≡ b → (have_subquery cs ≡ true → any (conds_sites k around cs) ≡ true) → (has_subquery c ≡ true → any (cond_sites k around c) ≡ true) → (any (cond_sites k around c) || any (conds_sites k around cs)) ≡ true
       by true e rest first = ap (λ b. b || any (conds_sites k around cs)) (first e)
       by false e rest first = or_right (any (cond_sites k around c)) (any (conds_sites k around cs)) (rest (ap (λ b. b || have_subquery cs) (sym e) ∙ some))

@@ -1,7 +1,8 @@
 -- Values that are stored are refused exactly where the rules refuse them (ISO/IEC 9075:1992, 9.2 and 13.8 to 13.10).
-use Rattle.std.proofs.Common.{◌≡◌, ℕ, Bool, true, false, ◌||◌, List, [], ◌∷◌, ◌++◌, length, Some, Ok, refl, sym, ap, ◌∙◌}
+use Rattle.std.proofs.Common.{◌≡◌, ℕ, true, false, ◌||◌, List, [], ◌∷◌, ◌++◌, length, Some, Ok, refl, sym, ap, ◌∙◌}
 use Rattle.std.specs.List.{AllZip}
 use Rattle.std.specs.Prelude.{⊤, nat_lt}
+use Rattle.sq_value.proofs.Truths.{or_turned}
 use Rattle.sq_value.specs.declared.domain.Kind.{Kind}
 use Rattle.sq_value.specs.declared.domain.Kind.TheVariants.{Chars, Num, Vary}
 use Rattle.sq_value.specs.declared.value.Value.TheVariants.{Null}
@@ -66,14 +67,8 @@ agree_tells j d e k l is so =
 
 -- a site behind others, and before them
 turned : (j : Judged) (f : BindingFault) (xs : List Site) (s : Site) → has_fault j (xs ++ s ∷ []) f ≡ true → has_fault j (s ∷ xs) f ≡ true
-turned j f xs s h = sym (any_turned (has_fault j xs f) (breaks j f s)) ∙ sym (fault_both j f xs s) ∙ h
+turned j f xs s h = sym (or_turned (has_fault j xs f) (breaks j f s)) ∙ sym (fault_both j f xs s) ∙ h
   where
-    any_turned : (a b : Bool) → (a || (b || false)) ≡ (b || a)
-    any_turned true true = refl
-    any_turned true false = refl
-    any_turned false true = refl
-    any_turned false false = refl
-
     fault_both : (j : Judged) (f : BindingFault) (xs : List Site) (s : Site) → has_fault j (xs ++ s ∷ []) f ≡ (has_fault j xs f || (breaks j f s || false))
     fault_both j f xs s = any_both (breaks j f) xs (s ∷ [])
 

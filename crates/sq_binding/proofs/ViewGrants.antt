@@ -5,6 +5,7 @@ use Rattle.std.proofs.lemmas.List.Folds.{list_any-append}
 use Rattle.std.specs.List.{AllZip, enumerate_from, flat_map, list_any, zip}
 use Rattle.std.specs.Option.{option_and_then, option_map}
 use Rattle.std.specs.Prelude.{is_some, option_to_list, slice_get}
+use Rattle.sq_value.proofs.Truths.{and_false}
 use Rattle.sq_lex.specs.declared.name.Name.{Name}
 use Rattle.sq_meaning.specs.Environment.{Item, TableName, same_name, same_table}
 use Rattle.sq_meaning.specs.Spelled.{Named, listed, select_of, table_of}
@@ -214,10 +215,6 @@ module _ (us : List Name) (H : Privilege → Bool) where
   abbrev in_pair : Privilege → Privilege × Privilege → Bool
   in_pair p q = H q.1 && same_privilege q.0 p
 
-  and_no : (b : Bool) → (b && false) ≡ false
-  and_no true = refl
-  and_no false = refl
-
   and_turn : (a b : Bool) → ((a && b) || false) ≡ (b && a)
   and_turn true true = refl
   and_turn true false = refl
@@ -231,7 +228,7 @@ module _ (us : List Name) (H : Privilege → Bool) where
     where
       one : (o : Option Name) → list_any (in_pair p) (option_to_list (option_map (λ name. (Privilege.update z.0, Privilege.update name)) o)) ≡ false
       one None = refl
-      one (Some below) = λ i. (ap (λ b. H (Privilege.update below) && b) (never z.0) ∙ and_no (H (Privilege.update below))) i || false
+      one (Some below) = λ i. (ap (λ b. H (Privilege.update below) && b) (never z.0) ∙ and_false (H (Privilege.update below))) i || false
 
   one_update : (col : Name) (zs : List (Name × Numbered)) → list_any (in_pair (Privilege.update col)) (flat_map (updates us) zs) ≡ list_any (λ z. same_name col z.0 && test z) zs
   one_update col [] = refl
@@ -239,7 +236,7 @@ module _ (us : List Name) (H : Privilege → Bool) where
       list_any-append (in_pair (Privilege.update col)) (updates us z) (flat_map (updates us) zs) ∙ (λ i. one (option_and_then (slice_get us) (column_shown z.1)) i || one_update col zs i)
     where
       one : (o : Option Name) → list_any (in_pair (Privilege.update col)) (option_to_list (option_map (λ name. (Privilege.update z.0, Privilege.update name)) o)) ≡ (same_name col z.0 && is_some_and (λ below. H (Privilege.update below)) o)
-      one None = sym (and_no (same_name col z.0))
+      one None = sym (and_false (same_name col z.0))
       one (Some below) = and_turn (H (Privilege.update below)) (same_name z.0 col) ∙ ap (λ b. b && H (Privilege.update below)) (turned z.0 col)
 
   -- each column has a name of its own, and these are the columns underneath

@@ -7,6 +7,7 @@ use Rattle.std.specs.List.{flat_map, list_all, list_any}
 use Rattle.std.specs.Option.{option_and_then, option_map}
 use Rattle.std.specs.Prelude.{if◌then◌else◌, is_some, option_to_list, slice_get}
 use Rattle.std.specs.Result.{result_ok}
+use Rattle.sq_value.proofs.Truths.{and_true, and_without, or_without}
 use Rattle.sq_lex.specs.declared.name.Name.{Name}
 use Rattle.sq_tree.specs.declared.schema.ViewDefinition.{ViewDefinition}
 use Rattle.sq_meaning.specs.Environment.{TableName, same_name, same_table}
@@ -38,10 +39,6 @@ use Rattle.sq_binding.proofs.Viewed.{bases_now, bound_known, columns_named, coun
 use Rattle.sq_binding.proofs.CreatedViews.{IsNewView}
 
 -- ---- what a view gives
-
-and_true : (b : Bool) → (b && true) ≡ b
-and_true true = refl
-and_true false = refl
 
 any_alike : {A : Type 0} (f g : A → Bool) → ((x : A) → f x ≡ g x) → (xs : List A) → list_any f xs ≡ list_any g xs
 any_alike f g h [] = refl
@@ -198,12 +195,8 @@ module _ (users : List Name) (before : Elements) (c : Catalog) (of : IsCatalogOf
       (either_is grantable who to p)
 
   other_gift : (grantable : Bool) (who : Name) (to : TableName) (p : Privilege) → same_table own to ≡ false → view_gives (chain before) (tables_of before) user v grantable who to p ≡ false
-  other_gift grantable who to p is = by (same_name user who) (same_table own to) (view_gives_owner (chain before) (tables_of before) user v grantable p) is
-    where
-      by : (a b d : Bool) → b ≡ false → (a && b && d) ≡ false
-      by true true d e = cc
-      by true false d e = refl
-      by false b d e = refl
+  other_gift grantable who to p is =
+      and_without (same_name user who) (same_table own to) (view_gives_owner (chain before) (tables_of before) user v grantable p) is
 
   none_given : (grantable : Bool) (who : Name) (to : TableName) (p : Privilege) → same_table own to ≡ false → list_any (gives grantable who to p) n.grants ≡ false
   none_given grantable who to p is = given_is grantable who to p ∙ other_gift grantable who to p is
@@ -219,24 +212,20 @@ module _ (users : List Name) (before : Elements) (c : Catalog) (of : IsCatalogOf
   both_grants : (grantable : Bool) (who : Name) (to : TableName) (p : Privilege) → list_any (gives grantable who to p) (with_grants c.grants n.grants) ≡ (list_any (gives grantable who to p) c.grants || list_any (gives grantable who to p) n.grants)
   both_grants grantable who to p = given_with_grants grantable who to p c.grants n.grants
 
-  or_no : (a b : Bool) → b ≡ false → (a || b) ≡ a
-  or_no true b e = refl
-  or_no false b e = e
-
   held_here : (grantable : Bool) (who : Name) (to : TableName) (p : Privilege) → same_table own to ≡ true → may_on (with_view c n) grantable who to p (Entry.view n.view) ≡ view_gives (chain before) (tables_of before) user v grantable who to p
   held_here grantable who to p is = both_grants grantable who to p ∙ ap (λ b. b || list_any (gives grantable who to p) n.grants) (no_old to is grantable who p) ∙ given_is grantable who to p
 
   held_elsewhere : (grantable : Bool) (who : Name) (to : TableName) (p : Privilege) → same_table own to ≡ false → (o : Option Entry) → is_some_and (may_on (with_view c n) grantable who to p) o ≡ is_some_and (may_on c grantable who to p) o
   held_elsewhere grantable who to p is None = refl
   held_elsewhere grantable who to p is (Some e) =
-      ap (λ b. owns who to e && is_on_column (entry_column_names e) p || b) (both_grants grantable who to p ∙ or_no (list_any (gives grantable who to p) c.grants) (list_any (gives grantable who to p) n.grants) (none_given grantable who to p is))
+      ap (λ b. owns who to e && is_on_column (entry_column_names e) p || b) (both_grants grantable who to p ∙ or_without (list_any (gives grantable who to p) c.grants) (list_any (gives grantable who to p) n.grants) (none_given grantable who to p is))
 
   held_now : (grantable : Bool) (who : Name) (to : TableName) (p : Privilege) → may (with_view c n) grantable who to p ≡ chain (elements users before c of user v null n m) grantable who to p
   held_now grantable who to p = ap (is_some_and (may_on (with_view c n) grantable who to p)) (view_entry users before c of user v null n m to) ∙ by (same_table own to) refl
     where
       by : (same : Bool) → same_table own to ≡ same → is_some_and (may_on (with_view c n) grantable who to p) (if same then Some (Entry.view n.view) else entry c to)
           ≡ (view_gives (chain before) (tables_of before) user v grantable who to p || chain before grantable who to p)
-      by true is = held_here grantable who to p is ∙ sym (or_no (view_gives (chain before) (tables_of before) user v grantable who to p) (chain before grantable who to p) (none_before to is grantable who p))
+      by true is = held_here grantable who to p is ∙ sym (or_without (view_gives (chain before) (tables_of before) user v grantable who to p) (chain before grantable who to p) (none_before to is grantable who p))
       by false is = held_elsewhere grantable who to p is (entry c to) ∙ of.held grantable who to p ∙ ap (λ g. g || chain before grantable who to p) (sym (other_gift grantable who to p is))
 
   granted_now : (to : TableName) → entry (with_view c n) to ≡ None → (grantable : Bool) (who : Name) (p : Privilege) → list_any (gives grantable who to p) (with_grants c.grants n.grants) ≡ false

@@ -6,6 +6,7 @@ use Rattle.std.proofs.lemmas.Bool.{le-leb, leb-true, lt-ltb, ltb-false, ltb-true
 use Rattle.std.proofs.lemmas.List.{length-map, length-take-le, take-map, take_all, take_more}
 use Rattle.std.proofs.lemmas.List.Folds.{list_all-append, list_all-map, list_any-append}
 use Rattle.std.proofs.lemmas.Option.{get_or_from_slice_get, slice_get_within}
+use Rattle.sq_value.proofs.Truths.{both_left, both_right}
 use Rattle.sq_bound.specs.Condition.{test_of}
 use Rattle.sq_bound.specs.Keyed.{IsShortest, IsShortestKey, has_no_fewer, is_named_by, is_plain_base, is_shortest_of, names_column, names_key, names_one_of, start_with_key}
 use Rattle.sq_bound.specs.Names.{option_all}
@@ -18,14 +19,6 @@ use Rattle.sq_bound.specs.declared.names.TableBody.TheVariants as body
 
 abbrev Key : Type 0
 Key = List ℕ
-
-both_left : (a b : Bool) → (a && b) ≡ true → a ≡ true
-both_left true b h = refl
-both_left false b h = h
-
-both_right : (a b : Bool) → (a && b) ≡ true → b ≡ true
-both_right true b h = h
-both_right false b h = cc
 
 -- ---- one key more
 

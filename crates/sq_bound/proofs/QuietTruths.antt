@@ -2,6 +2,7 @@
 use Rattle.std.proofs.Common.{◌≡◌, inl, inr, Bool, true, false, ◌&&◌, ◌||◌, List, [], ◌∷◌, refl, subst}
 use Rattle.std.specs.Prelude.{⊤}
 use Rattle.std.specs.List.{list_all}
+pub use Rattle.sq_value.proofs.Truths.{both_left, both_right}
 use Rattle.sq_meaning.specs.Status.{Outcome}
 use Rattle.sq_meaning.specs.Syntax.{Naming, Expr, literal, parameter, user, column, count_rows, set_function, signed, added, scaled, bracketed, Cond, Conds, compare, compare_subquery, compare_quantified, between, in_subquery, in_list, like, is_null, exists, negated, conjunction, disjunction, no_cond, a_cond}
 use Rattle.sq_meaning.specs.Environment.{Row, Env}
@@ -14,7 +15,6 @@ use Rattle.sq_meaning.specs.Target.{has_subquery, have_subquery}
 use Rattle.sq_meaning.specs.WellFormed.{Answers, HasValue, Level, Agrees, WellFormedCond, IsEnvOf}
 use Rattle.sq_meaning.proofs.QueryKinds.{truth_of_kinds}
 use Rattle.sq_meaning.proofs.SureLaws.{sure_truth}
-pub use Rattle.sq_meaning.proofs.SureLaws.{both_left, both_right}
 
 -- ---- what is quiet is sure
 

@@ -1,8 +1,8 @@
 -- Lists whose items all pass a test, and lists that are copied item by item.
-use Rattle.std.proofs.Common.{◌≡◌, ℕ, zero, suc, ◌+◌, ◌<◌, Bool, true, false, ◌&&◌, ◌||◌, List, [], ◌∷◌, ◌++◌, length, get_or, take, map, nat_eq, nat_lt, Some, Result, Ok, Err, refl, ap, sym, subst, ◌∙◌, arith, length-append}
+use Rattle.std.proofs.Common.{◌≡◌, ℕ, zero, suc, ◌+◌, ◌<◌, Bool, true, ◌&&◌, ◌||◌, List, [], ◌∷◌, ◌++◌, length, get_or, take, map, nat_eq, nat_lt, Some, Result, Ok, Err, refl, ap, sym, subst, ◌∙◌, arith, length-append}
 use Rattle.std.specs.List.{All, list_all, list_any, slice_get}
 use Rattle.std.specs.Result.{OnErr, OnOk}
-use Rattle.std.proofs.lemmas.Bool.{and_from, and_parts}
+use Rattle.std.proofs.lemmas.Bool.{and_from, and_parts, or_right}
 use Rattle.std.proofs.lemmas.Bool.Decides.{nat_tests}
 use Rattle.std.proofs.lemmas.List.{get_or_append_left, map-append, take_more}
 use Rattle.std.proofs.lemmas.List.Elements.{All-append, All-cons, All-nil}
@@ -42,19 +42,15 @@ is_below i n h = grind (arith, nat_tests)
 pub same_number : (n m : ℕ) → nat_eq n m ≡ true → n ≡ m
 same_number n m h = grind (arith, nat_tests)
 
--- each number of a list is among its numbers
-or_last : (b c : Bool) → c ≡ true → (b || c) ≡ true
-or_last true c h = refl
-or_last false c h = h
-
 same_is : (n : ℕ) → nat_eq n n ≡ true
 same_is n = grind (arith, nat_tests)
 
+-- each number of a list is among its numbers
 pub all_among : (xs : List ℕ) → list_all (λ x. list_any (λ y. nat_eq y x) xs) xs ≡ true
 all_among [] = refl
 all_among (x ∷ xs) =
     and_from (nat_eq x x || list_any (λ y. nat_eq y x) xs) (list_all (λ z. nat_eq x z || list_any (λ y. nat_eq y z) xs) xs) (ap (λ b. b || list_any (λ y. nat_eq y x) xs) (same_is x))
-    (all_weaker (λ z. list_any (λ y. nat_eq y z) xs) (λ z. nat_eq x z || list_any (λ y. nat_eq y z) xs) (λ z h. or_last (nat_eq x z) (list_any (λ y. nat_eq y z) xs) h) xs (all_among xs))
+    (all_weaker (λ z. list_any (λ y. nat_eq y z) xs) (λ z. nat_eq x z || list_any (λ y. nat_eq y z) xs) (λ z h. or_right (nat_eq x z) (list_any (λ y. nat_eq y z) xs) h) xs (all_among xs))
 
 -- a position that is read
 pub position_read : (n : ℕ) (ps : List ℕ) (i p : ℕ) → are_positions n ps ≡ true → i < length ps → p ≡ get_or ps i p → p < n

@@ -10,6 +10,7 @@ use Rattle.std.specs.List.{cons_option, enumerate_from, filter_map, list_all, li
 use Rattle.std.specs.Option.{IfSome, option_and_then}
 use Rattle.std.specs.Result.{IfErr, IfOk}
 use Rattle.std.specs.Prelude.{Result, ◌==◌, find, if◌then◌else◌, slice_get}
+use Rattle.sq_value.proofs.Truths.{and_true}
 use Rattle.sq_lex.specs.declared.name.Name.{Name}
 use Rattle.sq_value.specs.Domain.{kind_of}
 use Rattle.sq_value.specs.declared.domain.Kind.{Kind}
@@ -204,13 +205,8 @@ module _ (f : definition.FoundReference → Outcome BoundReference) (found : Lis
     is_made = made_next f found_seen found i x so_far.made (so_far.made ++ here.made ∷ []) here.made within at refl so_far.is_made here.is_made;
     references = map-append (λ (r : BoundReference). r.reference) so_far.made (here.made ∷ []) ∙ ap (λ rs. rs ++ here.made.reference ∷ []) so_far.references ∙ sym here.added;
     permitted =
-        list_all-append (λ (r : BoundReference). r.is_permitted) so_far.made (here.made ∷ []) ∙ (λ j. so_far.permitted j && last here.made.is_permitted j) ∙ sym here.permitted;
+        list_all-append (λ (r : BoundReference). r.is_permitted) so_far.made (here.made ∷ []) ∙ (λ j. so_far.permitted j && and_true here.made.is_permitted j) ∙ sym here.permitted;
   }
-    where
-      last : (b : Bool) → (b && true) ≡ b
-      last true = refl
-      last false = refl
-
   pub bound_stops : (x : FoundReference) (b : BoundReferences) (fault : ElementFault) → i < length found → x ≡ get_or found i x → AreBoundTo f found i b → Stops (f (found_seen x)) fault → Stops (references_made f (map found_seen found)) fault
   bound_stops x b fault within at so_far here = stops_then _ _ fault (made_stops f found_seen found i x so_far.made fault within at so_far.is_made here)
 

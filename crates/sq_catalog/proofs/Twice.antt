@@ -7,6 +7,7 @@ use Rattle.std.proofs.lemmas.List.{map-append}
 use Rattle.std.specs.Borrow.{Bor}
 use Rattle.std.specs.List.{list_any}
 use Rattle.std.proofs.lemmas.Cmp.{nat_list_eq_equiv}
+use Rattle.std.proofs.lemmas.Bool.{or_right, or_from, or_parts}
 use Rattle.sq_lex.specs.declared.name.Name.{Name}
 use Rattle.sq_tree.specs.declared.schema.ColumnDefinition.{ColumnDefinition}
 use Rattle.sq_meaning.specs.Environment.{same_name}
@@ -22,29 +23,17 @@ use Rattle.sq_catalog.specs.declared.fault.ElementFault.{ElementFault}
 use Rattle.sq_catalog.specs.declared.fault.ElementFault.TheVariants.{NoMemory, Refused}
 use Rattle.sq_catalog.proofs.Turns.{parted, taken}
 
-or_some : (a b : Bool) → b ≡ true → (a || b) ≡ true
-or_some true b h = refl
-or_some false b h = h
-
-or_none : (a b : Bool) → a ≡ false → b ≡ false → (a || b) ≡ false
-or_none true b h k = h
-or_none false b h k = k
-
 -- ---- names
 
 -- a further name, which is not there yet
 pub once_more : (names : List Name) (n : Name) → has_name_twice names ≡ false → is_among names n ≡ false → has_name_twice (names ++ n ∷ []) ≡ false
 once_more [] n once new = refl
 once_more (m ∷ names) n once new =
-    let first = parts (list_any (same_name m) names) (has_name_twice names) once in
-    let later = parts (same_name n m) (list_any (same_name n) names) new in
-    or_none (list_any (same_name m) (names ++ n ∷ [])) (has_name_twice (names ++ n ∷ []))
-    (list_any-append (same_name m) names (n ∷ []) ∙ or_none (list_any (same_name m) names) (same_name m n || false) first.0 (or_none (same_name m n) false (nat_list_eq_equiv.symm m n ∙ later.0) refl))
+    let first = or_parts (list_any (same_name m) names) (has_name_twice names) once in
+    let later = or_parts (same_name n m) (list_any (same_name n) names) new in
+    or_from (list_any (same_name m) (names ++ n ∷ [])) (has_name_twice (names ++ n ∷ []))
+    (list_any-append (same_name m) names (n ∷ []) ∙ or_from (list_any (same_name m) names) (same_name m n || false) first.0 (or_from (same_name m n) false (nat_list_eq_equiv.symm m n ∙ later.0) refl))
     (once_more names n first.1 later.1)
-  where
-    parts : (a b : Bool) → (a || b) ≡ false → (a ≡ false) × (b ≡ false)
-    parts true b h = absurd cc
-    parts false b h = (refl, h)
 
 -- one that is there
 pub there_twice : (names more : List Name) (n : Name) → is_among names n ≡ true → has_name_twice (names ++ n ∷ more) ≡ true
@@ -54,8 +43,8 @@ there_twice (m ∷ names) more n h = by (λ k. there_twice names more n k) (same
     by : (list_any (same_name n) names ≡ true → has_name_twice (names ++ n ∷ more) ≡ true) → (b : Bool) → same_name n m ≡ b → (b || list_any (same_name n) names) ≡ true → has_name_twice (m ∷ names ++ n ∷ more) ≡ true
     by later true is h =
         ap (λ b. b || has_name_twice (names ++ n ∷ more))
-        (list_any-append (same_name m) names (n ∷ more) ∙ or_some (list_any (same_name m) names) (same_name m n || list_any (same_name m) more) (ap (λ b. b || list_any (same_name m) more) (nat_list_eq_equiv.symm m n ∙ is)))
-    by later false is h = or_some (list_any (same_name m) (names ++ n ∷ more)) (has_name_twice (names ++ n ∷ more)) (later h)
+        (list_any-append (same_name m) names (n ∷ more) ∙ or_right (list_any (same_name m) names) (same_name m n || list_any (same_name m) more) (ap (λ b. b || list_any (same_name m) more) (nat_list_eq_equiv.symm m n ∙ is)))
+    by later false is h = or_right (list_any (same_name m) (names ++ n ∷ more)) (has_name_twice (names ++ n ∷ more)) (later h)
 
 -- ---- names that are added one after the other
 

@@ -8,6 +8,7 @@ use Rattle.std.proofs.lemmas.List.{append-nil, length-take-le, take_more}
 use Rattle.std.proofs.lemmas.List.Elements.{filter_map-append}
 use Rattle.std.proofs.lemmas.List.Folds.{position_or_len_push}
 use Rattle.std.proofs.lemmas.List.Sums.{prefix_len-le-length}
+use Rattle.sq_value.proofs.Truths.{or_false}
 use Rattle.sq_catalog.proofs.Zips.{zip_more}
 use Rattle.sq_binding.proofs.Names.{position_there}
 use Rattle.sq_catalog.specs.Keys.{primaries, primary_among, primary_columns}
@@ -68,10 +69,6 @@ any_primary (k ∷ keys) = by (any_primary keys) k.is_primary
 
 one_more_than : (n : ℕ) → nat_lt 1 (n + 1) ≡ (nat_lt 1 n || nat_lt 0 n)
 one_more_than n = grind (arith, nat_tests)
-
-or_false : (b : Bool) → (b || false) ≡ b
-or_false true = refl
-or_false false = refl
 
 two_next : (keys : List WrittenKey) (key : WrittenKey) (before : Option ℕ) → before ≡ primary_among keys
     → (nat_lt 1 (length (primaries keys)) || (key.is_primary && is_some before)) ≡ nat_lt 1 (length (primaries (keys ++ key ∷ [])))

@@ -12,11 +12,6 @@ use Rattle.sq_change.proofs.InTurn.{place_at}
 
 -- ---- tests
 
-pub same_tests : (a b : Bool) → (a ≡ true → b ≡ true) → (b ≡ true → a ≡ true) → a ≡ b
-same_tests true b there back = sym (there refl)
-same_tests false true there back = back refl
-same_tests false false there back = refl
-
 module _ {X : Type 0} (p : X → Bool) where
   pub all_in : (xs : List X) (x : X) → list_all p xs ≡ true → Contains xs x → p x ≡ true
   all_in xs x h c = sym (ap p c.2) ∙ AllPass-from_list_all p xs h c.0 x c.1

@@ -2,9 +2,10 @@
 use Rattle.std.proofs.Common.{◌≡◌, ℕ, ◌⊎◌, inl, inr, Bool, true, false, ◌&&◌, not, nat_eq, nat_lt, if◌then◌else◌, List, [], ◌∷◌, ◌++◌, length, slice_index_or, cond, filter, find, ◌||◌, Option, Some, None, refl, sym, ap, subst, ◌∙◌}
 use Rattle.std.specs.List.{Contains, enumerate_from, flat_map, list_all, list_any}
 use Rattle.std.specs.Cmp.Lexicographic.{lists_equiv, pointwise}
-use Rattle.std.proofs.lemmas.Bool.{eq-eqb, eqb-true}
+use Rattle.std.proofs.lemmas.Bool.{eq-eqb, eqb-true, and_parts}
 use Rattle.std.proofs.lemmas.List.Elements.{Contains-append_left, Contains-append_right}
 use Rattle.std.proofs.lemmas.List.Folds.{Any-from_list_any, list_all-append}
+use Rattle.sq_value.proofs.Truths.{or_true}
 use Rattle.sq_value.specs.Comparison.{is_same}
 use Rattle.sq_value.specs.Key.{in_columns}
 use Rattle.sq_value.specs.SetFunctions.{is_null}
@@ -93,15 +94,11 @@ referred_within bases t lost refer base = all_from (λ key. nat_lt key (length t
     within key h =
         let b = Any-from_list_any (has_reference_to t.place key) bases h in
         let r = Any-from_list_any (is_reference_to t.place key) b.1.references b.4 in
-        let two = parts (nat_eq r.1.table t.place) (nat_eq r.1.key key) r.4 in
+        let two = and_parts (nat_eq r.1.table t.place) (nat_eq r.1.key key) r.4 in
         let table : r.1.table ≡ t.place = eqb-true r.1.table t.place two.0 in
         let number : r.1.key ≡ key = eqb-true r.1.key key two.1 in
         let known : refers bases r.1 ≡ true = all_in (refers bases) b.1.references r.1 (all_in (λ a. list_all (refers bases) a.references) bases b.1 refer (b.0, b.2, b.3)) (r.0, r.2, r.3) in
         sym (λ i. nat_lt (number i) (length (keys i))) ∙ ap (λ (p : ℕ). nat_lt r.1.key (length (keys_at (keys_of_bases bases) p))) (sym table) ∙ known
-      where
-        parts : (a b : Bool) → (a && b) ≡ true → (a ≡ true) × (b ≡ true)
-        parts true b h = (refl, h)
-        parts false b h = cc
 
 -- ---- a row that is not there after changes was under a number of one of them
 
@@ -191,14 +188,10 @@ nulls_same [] [] h = refl
 nulls_same [] (w ∷ ws) h = cc
 nulls_same (v ∷ vs) [] h = cc
 nulls_same (v ∷ vs) (w ∷ ws) h =
-    let two = parts (is_same v w) (pointwise is_same vs ws) h in
+    let two = and_parts (is_same v w) (pointwise is_same vs ws) h in
     let first : is_null v ≡ is_null w = null_same v w two.0 in
     let rest : has_null vs ≡ has_null ws = nulls_same vs ws two.1 in
     (λ i. first i || rest i)
-  where
-    parts : (a b : Bool) → (a && b) ≡ true → (a ≡ true) × (b ≡ true)
-    parts true b h = (refl, h)
-    parts false b h = cc
 
 -- a row is found by values that are the same
 pub found_same : (t : Table) (columns : List ℕ) (vs ws : List Value) → pointwise is_same vs ws ≡ true → with_key t columns vs ≡ with_key t columns ws
@@ -256,10 +249,6 @@ none_lost bases content table lost none =
     ap (λ (ls : List LostKey). are_free bases content table ls) none
     ∙ each_meets (table_free (keys_of_bases bases) content table [])
     (λ p. each_meets (free_by (keys_of_bases bases) content table [] p.0) (λ r. or_true (not (nat_eq r.table table))) p.1.references) (enumerate_from 0 bases)
-  where
-    or_true : (b : Bool) → (b || true) ≡ true
-    or_true true = refl
-    or_true false = refl
 
 -- ---- the values of one key more
 

@@ -2,11 +2,12 @@
 use Rattle.std.proofs.Common.{◌≡◌, ℕ, ◌<◌, ◌⊎◌, inl, inr, Bool, true, false, ◌&&◌, ◌||◌, not, nat_eq, List, [], ◌∷◌, length, slice_get, slice_index_or, is_some, if◌then◌else◌, Option, None, Some, refl, sym, ap, subst, ◌∙◌, arith}
 use Rattle.std.specs.List.{Any, Contains, enumerate_from, flat_map, list_all, list_any}
 use Rattle.std.specs.Cmp.Lexicographic.{pointwise}
-use Rattle.std.proofs.lemmas.Bool.{and_from, and_parts, eq-eqb, eqb-false, eqb-true, or_right}
+use Rattle.std.proofs.lemmas.Bool.{and_from, and_parts, eq-eqb, eqb-false, eqb-true, or_right, not-true}
 use Rattle.std.proofs.lemmas.Grind.{common_steps}
 use Rattle.std.proofs.lemmas.List.{get_or-set_other, get_or-set_same}
 use Rattle.std.proofs.lemmas.List.Folds.{list_all-append}
 use Rattle.std.proofs.lemmas.Option.{slice_get-get_or}
+use Rattle.sq_value.proofs.Truths.{alike as same_tests, and_true}
 use Rattle.sq_value.specs.Comparison.{is_same}
 use Rattle.sq_value.specs.Key.{in_columns}
 use Rattle.sq_value.specs.declared.value.Value.{Value}
@@ -27,7 +28,7 @@ use Rattle.sq_change.specs.Constraints.{is_met_in, reference_met_in, references_
 use Rattle.sq_change.specs.Lost.{are_free, free_by, is_free, lost_by, number_changed, referred_keys, row_changed}
 use Rattle.sq_change.specs.Reference.{KeepsKeys, are_rows_there, is_row_there, referred, referred_by}
 use Rattle.sq_change.specs.declared.lost.LostKey.{LostKey}
-use Rattle.sq_change.proofs.Among.{all_from, all_in, any_from, at_there, each_so, found_any, found_there, placed_at, placed_there, same_tests}
+use Rattle.sq_change.proofs.Among.{all_from, all_in, any_from, at_there, each_so, found_any, found_there, placed_at, placed_there}
 use Rattle.sq_change.proofs.Held.{is_there, keys_at_base}
 use Rattle.sq_change.proofs.KeptValues.{old_or_put}
 use Rattle.sq_change.proofs.LostValues.{changed_under, found_same, lost_there, none_null, nulls_same, referred_there, same_back, stays_or_goes}
@@ -45,14 +46,6 @@ unless_so false b h k = cc
 if_so : (a b : Bool) → (a ≡ true → b ≡ true) → (not a || b) ≡ true
 if_so true b h = h refl
 if_so false b h = refl
-
-not_so : (a : Bool) → not a ≡ true → a ≡ false
-not_so true h = cc
-not_so false h = refl
-
-and_true : (b : Bool) → (b && true) ≡ b
-and_true true = refl
-and_true false = refl
 
 all_over : {X Y : Type 0} (p : Y → Bool) (f : X → List Y) (xs : List X) → list_all p (flat_map f xs) ≡ list_all (λ x. list_all p (f x)) xs
 all_over p f [] = refl
@@ -275,7 +268,7 @@ module _ (bases : List BaseTable) (before after : Content) (t : BaseTable) (lost
             still = with_key (table_at after r.table) (key_at (keys_of_bases bases) r.table r.key) l.values
 
             some : has_null l.values ≡ false
-            some = not_so (has_null l.values) (all_in (λ (k : LostKey). not (has_null k.values)) losts l nulls e)
+            some = not-true (has_null l.values) (all_in (λ (k : LostKey). not (has_null k.values)) losts l nulls e)
 
             on : (found : Option Numbered) → with_key (table_at after place) r.by_key l.values ≡ found → is_some found ≡ true → is_some still ≡ true
             on None f h = cc

@@ -1,5 +1,6 @@
 -- The truth of a condition without a subquery, part by part.
-use Rattle.std.proofs.Common.{◌≡◌, ℕ, zero, suc, ◌<◌, Bool, true, false, ◌||◌, List, [], ◌∷◌, length, map, get_or, Result, arith, refl, sym, ◌∙◌, ap, subst}
+use Rattle.std.proofs.Common.{◌≡◌, ℕ, zero, suc, ◌<◌, Bool, true, false, List, [], ◌∷◌, length, map, get_or, Result, arith, refl, sym, ◌∙◌, ap, subst}
+pub use Rattle.sq_value.proofs.Truths.{neither_left, neither_right}
 use Rattle.sq_value.specs.declared.truth.Truth.{Truth}
 use Rattle.sq_value.specs.declared.truth.Truth.TheVariants.{False, True}
 use Rattle.sq_tree.specs.declared.cond.Comparison.{Comparison}
@@ -38,14 +39,6 @@ Holds false = ⊥
 pub not_both : {A : Type 0} → true ≡ false → A
 unfolding Holds
 not_both same = absurd (subst Holds same tt)
-
-pub neither_left : (a b : Bool) → (a || b) ≡ false → a ≡ false
-neither_left false b h = refl
-neither_left true b h = not_both h
-
-pub neither_right : (a b : Bool) → (a || b) ≡ false → b ≡ false
-neither_right false b h = h
-neither_right true b h = not_both h
 
 -- ---- trees of one truth
 

@@ -6,6 +6,7 @@ use Rattle.std.specs.Cmp.Lexicographic.{lists_equiv}
 use Rattle.std.specs.List.{list_any}
 use Rattle.std.specs.Ordering.{is_eq}
 use Rattle.std.proofs.lemmas.List.Folds.{list_any-append}
+use Rattle.sq_value.proofs.Truths.{or_false, or_true}
 use Rattle.indexmap.specs.IndexSet.{insert_key}
 use Rattle.sq_value.specs.Arithmetic.{compared}
 use Rattle.sq_value.specs.Comparison.{texts_compared}
@@ -23,18 +24,6 @@ use Rattle.sq_meaning.specs.Query.{comparison, first_value, compared_with_rows}
 use Rattle.sq_expression.specs.Index.{alone}
 use Rattle.sq_condition.specs.Members.{with_key, with_row, keys_among, no_kinds, with_kind, with_row_kind, kinds_among, has_unknown, is_among, truth_among}
 use Rattle.sq_condition.specs.declared.members.Kinds.{Kinds}
-
-or_false : (b : Bool) → (b || false) ≡ b
-or_false true = refl
-or_false false = refl
-
-or_true : (b : Bool) → (b || true) ≡ true
-or_true true = refl
-or_true false = refl
-
-and_true : (b : Bool) → (b && true) ≡ b
-and_true true = refl
-and_true false = refl
 
 -- ---- a key more
 

@@ -1,11 +1,12 @@
 -- The classes of elements that are the same, as one element more comes.
-use Rattle.std.proofs.Common.{◌≡◌, ℕ, ◌+◌, Bool, true, false, not, ◌&&◌, ◌||◌, List, [], ◌∷◌, ◌++◌, map, cond, get_or, set, refl, sym, ap, ◌∙◌, true≢false, one-add}
+use Rattle.std.proofs.Common.{◌≡◌, ℕ, ◌+◌, Bool, true, false, not, ◌||◌, List, [], ◌∷◌, ◌++◌, map, cond, get_or, set, refl, sym, ap, ◌∙◌, true≢false, one-add}
 use Rattle.std.specs.Prelude.{filter, if◌then◌else◌}
 use Rattle.std.specs.Cmp.{IsEquivalence}
 use Rattle.std.specs.List.{list_any, list_all, position_or_len}
 use Rattle.std.proofs.lemmas.List.{map_push}
 use Rattle.std.proofs.lemmas.List.Elements.{filter-append}
 use Rattle.std.proofs.lemmas.Map.Views.{any-filter_same}
+use Rattle.std.proofs.lemmas.Bool.{or_parts, and_parts, not-true}
 use Rattle.sq_meaning.specs.Rows.{firsts, classes}
 use Rattle.sq_meaning.proofs.RowLaws.{are_apart, firsts_are_apart}
 use Rattle.sq_expression.proofs.Firsts.{firsts_more}
@@ -13,18 +14,6 @@ use Rattle.sq_expression.proofs.Firsts.{firsts_more}
 append_nothing : {A : Type 0} (xs : List A) → xs ++ [] ≡ xs
 append_nothing [] = refl
 append_nothing (x ∷ xs) = ap (λ ys. x ∷ ys) (append_nothing xs)
-
-neither : (a b : Bool) → (a || b) ≡ false → (a ≡ false) × (b ≡ false)
-neither false b h = (refl, h)
-neither true b h = absurd (true≢false h)
-
-both : (a b : Bool) → (a && b) ≡ true → (a ≡ true) × (b ≡ true)
-both true b h = (refl, h)
-both false b h = absurd (true≢false (sym h))
-
-not_true : (b : Bool) → not b ≡ true → b ≡ false
-not_true false h = refl
-not_true true h = absurd (true≢false (sym h))
 
 -- with one element more, the lists of those places: at the first that passes, or behind the others
 abbrev pub with_element : {X : Type 0} → List (List X) → ℕ → X → List (List X)
@@ -44,15 +33,15 @@ module _ {A : Type 0} (same : A → A → Bool) (laws : IsEquivalence same) wher
   all_stay : (xs : List A) (e : A) (fs : List A) → list_any (same e) fs ≡ false → map (λ f. filter (same f) (xs ++ e ∷ [])) fs ≡ map (λ f. filter (same f) xs) fs
   all_stay xs e [] h = refl
   all_stay xs e (f ∷ fs) h =
-      let apart = neither (same e f) (list_any (same e) fs) h in
+      let apart = or_parts (same e f) (list_any (same e) fs) h in
       (λ i. stays xs e f apart.0 i ∷ all_stay xs e fs apart.1 i)
 
   -- what is like the first of a list is like none of the others
   none_behind : (e f : A) (fs : List A) → same e f ≡ true → list_all (λ y. not (same f y)) fs ≡ true → list_any (same e) fs ≡ false
   none_behind e f [] h k = refl
   none_behind e f (g ∷ gs) h k =
-      let apart = both (not (same f g)) (list_all (λ y. not (same f y)) gs) k in
-      (λ i. (laws.congr e f g h ∙ not_true (same f g) apart.0) i || none_behind e f gs h apart.1 i)
+      let apart = and_parts (not (same f g)) (list_all (λ y. not (same f y)) gs) k in
+      (λ i. (laws.congr e f g h ∙ not-true (same f g) apart.0) i || none_behind e f gs h apart.1 i)
 
   one_grows : (xs : List A) (e : A) (fs : List A) → are_apart same fs ≡ true → list_any (same e) fs ≡ true
       → with_element (map (λ f. filter (same f) xs) fs) (position_or_len (same e) fs) e ≡ map (λ f. filter (same f) (xs ++ e ∷ [])) fs
@@ -60,7 +49,7 @@ module _ {A : Type 0} (same : A → A → Bool) (laws : IsEquivalence same) wher
   one_grows xs e (f ∷ fs) apart h = split (same e f) refl (one_grows xs e fs parts.1) h
     where
       parts : (list_all (λ y. not (same f y)) fs ≡ true) × (are_apart same fs ≡ true)
-      parts = both (list_all (λ y. not (same f y)) fs) (are_apart same fs) apart
+      parts = and_parts (list_all (λ y. not (same f y)) fs) (are_apart same fs) apart
 
       split : (b : Bool) → same e f ≡ b
           → (list_any (same e) fs ≡ true → with_element (map (λ g. filter (same g) xs) fs) (position_or_len (same e) fs) e ≡ map (λ g. filter (same g) (xs ++ e ∷ [])) fs)
@@ -87,7 +76,7 @@ module _ {A : Type 0} (same : A → A → Bool) (laws : IsEquivalence same) wher
   none_pass : (e : A) (xs : List A) → list_any (same e) xs ≡ false → filter (same e) xs ≡ []
   none_pass e [] h = refl
   none_pass e (x ∷ xs) h =
-      let apart = neither (same e x) (list_any (same e) xs) h in
+      let apart = or_parts (same e x) (list_any (same e) xs) h in
       ap (λ t. cond t (x ∷ filter (same e) xs) (filter (same e) xs)) apart.0 ∙ none_pass e xs apart.1
 
   alone_passes : (xs : List A) (e : A) → list_any (same e) (firsts same xs) ≡ false → filter (same e) (xs ++ e ∷ []) ≡ e ∷ []

@@ -1,11 +1,12 @@
 -- What is left by first occurrence, as one element more comes.
-use Rattle.std.proofs.Common.{◌≡◌, Bool, true, false, not, ◌&&◌, ◌||◌, List, [], ◌∷◌, ◌++◌, map, cond, refl, sym, ap, ◌∙◌}
+use Rattle.std.proofs.Common.{◌≡◌, Bool, true, false, not, ◌||◌, List, [], ◌∷◌, ◌++◌, map, cond, refl, sym, ap, ◌∙◌}
 use Rattle.std.specs.Prelude.{filter, if◌then◌else◌}
 use Rattle.std.specs.Cmp.{IsEquivalence}
 use Rattle.std.specs.Cmp.Lexicographic.{lists_equiv}
 use Rattle.std.specs.List.{list_any}
 use Rattle.std.proofs.lemmas.List.Elements.{filter-append}
 use Rattle.std.proofs.lemmas.Map.Views.{any-filter_same}
+use Rattle.sq_value.proofs.Truths.{and_true}
 use Rattle.indexmap.specs.IndexSet.{insert_key}
 use Rattle.sq_value.specs.Comparison.{is_same}
 use Rattle.sq_value.specs.declared.value.Value.{Value}
@@ -58,11 +59,6 @@ values_more = firsts_more is_same same_equiv
 pub found_alone : (v : Value) (vs : List Value) → list_any (same_row (alone v)) (map alone vs) ≡ list_any (is_same v) vs
 found_alone v [] = refl
 found_alone v (w ∷ vs) = (λ i. and_true (is_same v w) i || found_alone v vs i)
-  where
-    and_true : (b : Bool) → (b && true) ≡ b
-    and_true true = refl
-    and_true false = refl
-
 pub alone_more : (vs : List Value) (v : Value) → insert_key same_row (map alone vs) (alone v) ≡ map alone (insert_key is_same vs v)
 alone_more vs v = ap (λ b. if b then map alone vs else map alone vs ++ alone v ∷ []) (found_alone v vs) ∙ split (list_any (is_same v) vs)
   where

@@ -1,5 +1,6 @@
 -- What may not follow, so that a parser ends where the tokens of its tree do: the tokens that would go on with it.
-use Rattle.std.proofs.Common.{◌≡◌, Bool, true, false, ◌||◌, None, refl}
+use Rattle.std.proofs.Common.{◌≡◌, Bool, false, ◌||◌, None}
+use Rattle.std.proofs.lemmas.Bool.{or_parts}
 use Rattle.sq_lex.specs.declared.lexeme.Lexeme.TheVariants as lexeme
 use Rattle.sq_lex.specs.declared.symbol.Symbol.TheVariants as symbol
 use Rattle.sq_lex.specs.declared.word.Word.TheVariants as word
@@ -60,10 +61,6 @@ pub record EndsQuery (rest : Tokens) : Type 0 where
 
 -- ---- the same as one test of the token that comes next
 
-either_false : (a b : Bool) → (a || b) ≡ false → (a ≡ false) × (b ≡ false)
-either_false true b h = cc
-either_false false b h = (refl, h)
-
 -- the next token goes on with an expression, a condition or a table expression
 abbrev pub goes_on_expr : Tokens → Bool
 goes_on_expr ts = sees (lexeme.Symbol symbol.Dot) ts || (sees (lexeme.Symbol symbol.Colon) ts || (sees (lexeme.Word word.Indicator) ts || (sees (lexeme.Symbol symbol.Star) ts || (sees (lexeme.Symbol symbol.Slash) ts || (sees (lexeme.Symbol symbol.Plus) ts || sees (lexeme.Symbol symbol.Minus) ts)))))
@@ -76,26 +73,26 @@ goes_on_table ts = sees (lexeme.Symbol symbol.Comma) ts || (sees (lexeme.Word wo
 
 pub ends_expr : (ts : Tokens) → goes_on_expr ts ≡ false → EndsExpr ts
 ends_expr ts none =
-    let dot = either_false _ _ none in
-    let colon = either_false _ _ dot.1 in
-    let indicator = either_false _ _ colon.1 in
-    let star = either_false _ _ indicator.1 in
-    let slash = either_false _ _ star.1 in
-    let plus = either_false _ _ slash.1 in
+    let dot = or_parts _ _ none in
+    let colon = or_parts _ _ dot.1 in
+    let indicator = or_parts _ _ colon.1 in
+    let star = or_parts _ _ indicator.1 in
+    let slash = or_parts _ _ star.1 in
+    let plus = or_parts _ _ slash.1 in
     record { term = record { factor = record { dot = dot.0; colon = colon.0; indicator = indicator.0 }; star = star.0; slash = slash.0 }; plus = plus.0; minus = plus.1 }
 
 pub ends_cond : (ts : Tokens) → goes_on_cond ts ≡ false → EndsCond ts
 ends_cond ts none =
-    let escape = either_false _ _ none in
-    let and = either_false _ _ escape.1 in
-    let or = either_false _ _ and.1 in
+    let escape = or_parts _ _ none in
+    let and = or_parts _ _ escape.1 in
+    let or = or_parts _ _ and.1 in
     record { conj = record { test = record { expr = ends_expr ts or.1; escape = escape.0 }; and = and.0 }; or = or.0 }
 
 pub ends_table : (ts : Tokens) → goes_on_table ts ≡ false → first_of name_of ts ≡ None → EndsTable ts
 ends_table ts none no_name =
-    let comma = either_false _ _ none in
-    let as_word = either_false _ _ comma.1 in
-    let where_word = either_false _ _ as_word.1 in
-    let group = either_false _ _ where_word.1 in
-    let having = either_false _ _ group.1 in
+    let comma = or_parts _ _ none in
+    let as_word = or_parts _ _ comma.1 in
+    let where_word = or_parts _ _ as_word.1 in
+    let group = or_parts _ _ where_word.1 in
+    let having = or_parts _ _ group.1 in
     record { cond = ends_cond ts having.1; comma = comma.0; as_word = as_word.0; name = no_name; where_word = where_word.0; group = group.0; having = having.0 }

@@ -3,12 +3,13 @@ use Rattle.std.proofs.Common.{◌≡◌, ℕ, zero, suc, ◌+◌, ◌≤◌, ◌
 use Rattle.std.specs.List.{list_all, list_any}
 use Rattle.std.proofs.lemmas.Grind.{common_steps}
 use Rattle.std.proofs.lemmas.List.{get_or-set_same}
+use Rattle.std.proofs.lemmas.Bool.{or_right, or_left, and_from}
+use Rattle.sq_value.proofs.Truths.{both_left, both_right}
 use Rattle.sq_heap.specs.Chain.{are_falling, chain, chain_of, entry_at, is_entry, is_within}
 use Rattle.sq_heap.specs.Index.{bucket_of, has_entry}
 use Rattle.sq_heap.specs.declared.index.Entry.{Entry}
 use Rattle.sq_heap.specs.declared.index.Index.{Index}
-use Rattle.sq_heap.proofs.Distinct.{by_test, or_left, or_right}
-use Rattle.sq_heap.proofs.Holds.{both, left_of, right_of}
+use Rattle.sq_heap.proofs.Distinct.{by_test}
 
 -- ---- one chain
 
@@ -26,10 +27,10 @@ chain_none es (suc m) = chain_below es m 0 (omega arith) ∙ chain_none es m
 falls_at : (n : ℕ) (es : List Entry) (k : ℕ) → are_falling n es ≡ true → k < length es → (entry_at es k).next ≤ n + k
 falls_at n [] k h lt = absurd (omega arith)
 falls_at n (e ∷ es) zero h lt =
-    let first : nat_le e.next n ≡ true = left_of (nat_le e.next n) (are_falling (n + 1) es) h in
+    let first : nat_le e.next n ≡ true = both_left (nat_le e.next n) (are_falling (n + 1) es) h in
     let le : e.next ≤ n = grind (arith, common_steps) in omega arith
 falls_at n (e ∷ es) (suc k) h lt =
-    let rest : (entry_at es k).next ≤ n + 1 + k = falls_at (n + 1) es k (right_of (nat_le e.next n) (are_falling (n + 1) es) h) (omega arith) in omega arith
+    let rest : (entry_at es k).next ≤ n + 1 + k = falls_at (n + 1) es k (both_right (nat_le e.next n) (are_falling (n + 1) es) h) (omega arith) in omega arith
 
 chain_step : (es : List Entry) (m k : ℕ) → are_falling 0 es ≡ true → k < m → m ≤ length es → chain es m (suc k) ≡ entry_at es k ∷ chain es m (entry_at es k).next
 chain_step es zero k h lt le = absurd (omega arith)
@@ -110,33 +111,33 @@ chain_other es e link le =
 -- ---- what holds of all links
 
 pub falling_more : (n : ℕ) (es : List Entry) (e : Entry) → are_falling n es ≡ true → e.next ≤ n + length es → are_falling n (es ++ e ∷ []) ≡ true
-falling_more n [] e h le = let first : nat_le e.next n ≡ true = grind (arith, common_steps) in both first refl
+falling_more n [] e h le = let first : nat_le e.next n ≡ true = grind (arith, common_steps) in and_from _ _ first refl
 falling_more n (x ∷ es) e h le =
-    both (left_of (nat_le x.next n) (are_falling (n + 1) es) h) (falling_more (n + 1) es e (right_of (nat_le x.next n) (are_falling (n + 1) es) h) (omega arith))
+    and_from _ _ (both_left (nat_le x.next n) (are_falling (n + 1) es) h) (falling_more (n + 1) es e (both_right (nat_le x.next n) (are_falling (n + 1) es) h) (omega arith))
 
 pub within_at : (n : ℕ) (ls : List ℕ) (i : ℕ) → list_all (is_within n) ls ≡ true → slice_index_or ls i 0 ≤ n
 within_at n [] i h = omega arith
-within_at n (l ∷ ls) zero h = let first : nat_le l n ≡ true = left_of (nat_le l n) (list_all (is_within n) ls) h in grind (arith, common_steps)
-within_at n (l ∷ ls) (suc i) h = within_at n ls i (right_of (nat_le l n) (list_all (is_within n) ls) h)
+within_at n (l ∷ ls) zero h = let first : nat_le l n ≡ true = both_left (nat_le l n) (list_all (is_within n) ls) h in grind (arith, common_steps)
+within_at n (l ∷ ls) (suc i) h = within_at n ls i (both_right (nat_le l n) (list_all (is_within n) ls) h)
 
 within_more : (n m : ℕ) (ls : List ℕ) → n ≤ m → list_all (is_within n) ls ≡ true → list_all (is_within m) ls ≡ true
 within_more n m [] le h = refl
 within_more n m (l ∷ ls) le h =
-    let first : nat_le l n ≡ true = left_of (nat_le l n) (list_all (is_within n) ls) h in
+    let first : nat_le l n ≡ true = both_left (nat_le l n) (list_all (is_within n) ls) h in
     let more : nat_le l m ≡ true = grind (arith, common_steps) in
-    both more (within_more n m ls le (right_of (nat_le l n) (list_all (is_within n) ls) h))
+    and_from _ _ more (within_more n m ls le (both_right (nat_le l n) (list_all (is_within n) ls) h))
 
 pub within_set : (n m : ℕ) (ls : List ℕ) (i : ℕ) → n ≤ m → list_all (is_within n) ls ≡ true → list_all (is_within m) (slice_set ls i m) ≡ true
 within_set n m [] i le h = refl
-within_set n m (l ∷ ls) zero le h = let first : nat_le m m ≡ true = grind (arith, common_steps) in both first (within_more n m ls le (right_of (nat_le l n) (list_all (is_within n) ls) h))
+within_set n m (l ∷ ls) zero le h = let first : nat_le m m ≡ true = grind (arith, common_steps) in and_from _ _ first (within_more n m ls le (both_right (nat_le l n) (list_all (is_within n) ls) h))
 within_set n m (l ∷ ls) (suc i) le h =
-    let first : nat_le l n ≡ true = left_of (nat_le l n) (list_all (is_within n) ls) h in
+    let first : nat_le l n ≡ true = both_left (nat_le l n) (list_all (is_within n) ls) h in
     let more : nat_le l m ≡ true = grind (arith, common_steps) in
-    both more (within_set n m ls i le (right_of (nat_le l n) (list_all (is_within n) ls) h))
+    and_from _ _ more (within_set n m ls i le (both_right (nat_le l n) (list_all (is_within n) ls) h))
 
 pub within_none : (n k : ℕ) → list_all (is_within n) (replicate k 0) ≡ true
 within_none n zero = refl
-within_none n (suc k) = let first : nat_le 0 n ≡ true = grind (arith, common_steps) in both first (within_none n k)
+within_none n (suc k) = let first : nat_le 0 n ≡ true = grind (arith, common_steps) in and_from _ _ first (within_none n k)
 
 length_of_set : (ls : List ℕ) (i l : ℕ) → length (slice_set ls i l) ≡ length ls
 length_of_set [] i l = refl
@@ -205,4 +206,4 @@ has_more x entries heads hash at e m under place =
     let one : nat_eq e.hash hash ≡ true = grind (arith, common_steps) in
     let two : nat_eq e.at at ≡ true = grind (arith, common_steps) in
     ap (list_any (is_entry hash at)) (bucket_same x entries heads hash e m hash (same_test (hash % length x.heads.items)))
-    ∙ or_left (is_entry hash at e) (list_any (is_entry hash at) (bucket_of x hash)) (both one two)
+    ∙ or_left (is_entry hash at e) (list_any (is_entry hash at) (bucket_of x hash)) (and_from _ _ one two)

@@ -1,9 +1,10 @@
 -- Whether two rows have the same key can be seen from the changed rows, where no two had before.
 use Rattle.std.proofs.Common.{◌≡◌, ℕ, zero, suc, ◌+◌, ◌≤◌, Bool, true, false, ◌&&◌, ◌||◌, not, nat_eq, List, [], ◌∷◌, ◌++◌, length, take, slice_set, Some, None, ◌⊎◌, inl, inr, arith, refl, sym, ap, ◌∙◌}
 use Rattle.std.specs.List.{list_all, list_any}
-use Rattle.std.proofs.lemmas.Bool.{false≢true}
+use Rattle.std.proofs.lemmas.Bool.{false≢true, and_from, false_from_ne_true, or_right, or_left}
 use Rattle.std.proofs.lemmas.Grind.{common_steps}
 use Rattle.std.specs.Cmp.Lexicographic.{lists_equiv, pointwise}
+use Rattle.sq_value.proofs.Truths.{both_left, both_right, alike}
 use Rattle.sq_value.specs.Comparison.{is_same}
 use Rattle.sq_value.specs.Key.{in_columns}
 use Rattle.sq_value.specs.laws.ValueOrder.{same_equiv}
@@ -16,27 +17,6 @@ use Rattle.sq_heap.proofs.Back.{fits_last, fits_pop}
 use Rattle.sq_heap.specs.declared.undo.Undo.{Undo}
 
 -- ---- tests
-
-both : {a b : Bool} → a ≡ true → b ≡ true → (a && b) ≡ true
-both {a = true} p q = q
-both {a = false} p q = p
-
-left_of : (a b : Bool) → (a && b) ≡ true → a ≡ true
-left_of true b h = refl
-left_of false b h = h
-
-right_of : (a b : Bool) → (a && b) ≡ true → b ≡ true
-right_of true b h = h
-right_of false b h = cc
-
-pub same_from : (a b : Bool) → (a ≡ true → b ≡ true) → (b ≡ true → a ≡ true) → a ≡ b
-same_from true b p q = sym (p refl)
-same_from false true p q = q refl
-same_from false false p q = refl
-
-pub not_true : (a : Bool) → (a ≡ true → ⊥) → a ≡ false
-not_true true h = absurd (h refl)
-not_true false h = refl
 
 pub by_test : (a : Bool) {P : Type 0} → (a ≡ true → P) → (a ≡ false → P) → P
 by_test true p q = p refl
@@ -68,7 +48,7 @@ distinct_from_apart columns n (None ∷ ss) apart = distinct_from_apart columns 
 distinct_from_apart columns n (Some row ∷ ss) apart =
     let rest : are_distinct columns (rows_from (n + 1) ss) ≡ true = distinct_from_apart columns (n + 1) ss (λ i j r q e f h. let k : suc i ≡ suc j = apart (suc i) (suc j) r q e f h in omega arith) in
     let none : list_any (has_key columns (in_columns row columns)) (rows_from (n + 1) ss) ≡ false
-    = not_true (list_any (has_key columns (in_columns row columns)) (rows_from (n + 1) ss)) (λ t. let found = any_slot columns (in_columns row columns) (n + 1) ss t in
+    = false_from_ne_true (list_any (has_key columns (in_columns row columns)) (rows_from (n + 1) ss)) (λ t. let found = any_slot columns (in_columns row columns) (n + 1) ss t in
     let k : 0 ≡ suc found.0 = apart 0 (suc found.0) row found.1 refl found.2 found.3 in absurd (omega arith)) in
     grind (arith, common_steps)
 
@@ -85,12 +65,12 @@ apart_from_distinct columns n (None ∷ ss) h (suc i) (suc j) r q e f s = ap suc
 apart_from_distinct columns n (Some row ∷ ss) h zero zero r q e f s = refl
 apart_from_distinct columns n (Some row ∷ ss) h zero (suc j) r q e f s =
     let here : row ≡ r = cc in
-    absurd (none_later columns row (n + 1) ss (left_of (not (list_any (has_key columns (in_columns row columns)) (rows_from (n + 1) ss))) (are_distinct columns (rows_from (n + 1) ss)) h) j q f (ap (λ (x : List Value). same_key columns x q) here ∙ s))
+    absurd (none_later columns row (n + 1) ss (both_left (not (list_any (has_key columns (in_columns row columns)) (rows_from (n + 1) ss))) (are_distinct columns (rows_from (n + 1) ss)) h) j q f (ap (λ (x : List Value). same_key columns x q) here ∙ s))
 apart_from_distinct columns n (Some row ∷ ss) h (suc i) zero r q e f s =
     let here : row ≡ q = cc in
-    absurd (none_later columns row (n + 1) ss (left_of (not (list_any (has_key columns (in_columns row columns)) (rows_from (n + 1) ss))) (are_distinct columns (rows_from (n + 1) ss)) h) i r e (ap (λ (x : List Value). same_key columns x r) here ∙ same_symm columns r q s))
+    absurd (none_later columns row (n + 1) ss (both_left (not (list_any (has_key columns (in_columns row columns)) (rows_from (n + 1) ss))) (are_distinct columns (rows_from (n + 1) ss)) h) i r e (ap (λ (x : List Value). same_key columns x r) here ∙ same_symm columns r q s))
 apart_from_distinct columns n (Some row ∷ ss) h (suc i) (suc j) r q e f s =
-    ap suc (apart_from_distinct columns (n + 1) ss (right_of (not (list_any (has_key columns (in_columns row columns)) (rows_from (n + 1) ss))) (are_distinct columns (rows_from (n + 1) ss)) h) i j r q e f s)
+    ap suc (apart_from_distinct columns (n + 1) ss (both_right (not (list_any (has_key columns (in_columns row columns)) (rows_from (n + 1) ss))) (are_distinct columns (rows_from (n + 1) ss)) h) i j r q e f s)
 
 -- ---- one row
 
@@ -106,10 +86,10 @@ alone_at columns row at n (None ∷ ss) (suc j) q h e s = let k : n + 1 + j ≡ 
 alone_at columns row at n (Some r ∷ ss) zero q h e s =
     let same : r ≡ q = cc in
     let here : same_key columns row r ≡ true = ap (λ (x : List Value). same_key columns row x) same ∙ s in
-    let equal : nat_eq n at ≡ true = only_at (nat_eq n at) (same_key columns row r) (left_of (nat_eq n at || not (same_key columns row r)) (is_alone columns row at (n + 1) ss) h) here in
+    let equal : nat_eq n at ≡ true = only_at (nat_eq n at) (same_key columns row r) (both_left (nat_eq n at || not (same_key columns row r)) (is_alone columns row at (n + 1) ss) h) here in
     grind (arith, common_steps)
 alone_at columns row at n (Some r ∷ ss) (suc j) q h e s =
-    let k : n + 1 + j ≡ at = alone_at columns row at (n + 1) ss j q (right_of (nat_eq n at || not (same_key columns row r)) (is_alone columns row at (n + 1) ss) h) e s in omega arith
+    let k : n + 1 + j ≡ at = alone_at columns row at (n + 1) ss j q (both_right (nat_eq n at || not (same_key columns row r)) (is_alone columns row at (n + 1) ss) h) e s in omega arith
 
 or_not : (a b : Bool) → b ≡ false → (a || not b) ≡ true
 or_not true b f = refl
@@ -118,14 +98,6 @@ or_not false b f = ap not f
 pub or_rest : (a b : Bool) → a ≡ false → (a || b) ≡ true → b ≡ true
 or_rest true b f h = absurd (false≢true (sym f))
 or_rest false b f h = h
-
-pub or_right : (a b : Bool) → b ≡ true → (a || b) ≡ true
-or_right true b h = refl
-or_right false b h = h
-
-pub or_left : (a b : Bool) → a ≡ true → (a || b) ≡ true
-or_left true b h = refl
-or_left false b h = absurd (false≢true h)
 
 pub alone_from : (columns : List ℕ) (row : List Value) (at n : ℕ) (ss : List Slot) → ((j : ℕ) (q : List Value) → slot_at ss j ≡ Some q → same_key columns row q ≡ true → n + j ≡ at) → is_alone columns row at n ss ≡ true
 alone_from columns row at n [] only = refl
@@ -136,7 +108,7 @@ alone_from columns row at n (Some r ∷ ss) only =
     (λ t. let k : n + 0 ≡ at = only 0 r refl t in let same : nat_eq n at ≡ true = grind (arith, common_steps) in or_left (nat_eq n at) (not (same_key columns row r)) same)
     (λ f. or_not (nat_eq n at) (same_key columns row r) f) in
     let rest : is_alone columns row at (n + 1) ss ≡ true = alone_from columns row at (n + 1) ss (λ j q e s. let k : n + suc j ≡ at = only (suc j) q e s in omega arith) in
-    both first rest
+    and_from _ _ first rest
 
 -- ---- changed slots
 
@@ -161,8 +133,8 @@ undone_fits ss us u h = ap (λ (n : ℕ). fits n us) (before_length ss u.at u.ol
 back_length : (ss : List Slot) (us : List Undo) → fits (length ss) us ≡ true → length (back ss us) ≡ length_back (length ss) us
 back_length ss [] h = refl
 back_length ss (u ∷ us) h =
-    let rest : fits (length ss) us ≡ true = right_of (is_last_or_in (length_back (length ss) us) u.at u.old) (fits (length ss) us) h in
-    let first : is_last_or_in (length_back (length ss) us) u.at u.old ≡ true = left_of (is_last_or_in (length_back (length ss) us) u.at u.old) (fits (length ss) us) h in
+    let rest : fits (length ss) us ≡ true = both_right (is_last_or_in (length_back (length ss) us) u.at u.old) (fits (length ss) us) h in
+    let first : is_last_or_in (length_back (length ss) us) u.at u.old ≡ true = both_left (is_last_or_in (length_back (length ss) us) u.at u.old) (fits (length ss) us) h in
     let same : length (back ss us) ≡ length_back (length ss) us = back_length ss us rest in
     before_length (back ss us) u.at u.old (ap (λ (n : ℕ). is_last_or_in n u.at u.old) same ∙ first) ∙ ap (λ (n : ℕ). length_before n u.at u.old) same
 
@@ -189,8 +161,8 @@ before_other ss at (Some row) i h ne = set_other ss at i (Some row) ne
 changed_or_same : (ss : List Slot) (us : List Undo) (i : ℕ) → fits (length ss) us ≡ true → (list_any (λ u. nat_eq u.at i) us ≡ true) ⊎ (slot_at (back ss us) i ≡ slot_at ss i)
 changed_or_same ss [] i h = inr refl
 changed_or_same ss (u ∷ us) i h =
-    let rest : fits (length ss) us ≡ true = right_of (is_last_or_in (length_back (length ss) us) u.at u.old) (fits (length ss) us) h in
-    let first : is_last_or_in (length_back (length ss) us) u.at u.old ≡ true = left_of (is_last_or_in (length_back (length ss) us) u.at u.old) (fits (length ss) us) h in
+    let rest : fits (length ss) us ≡ true = both_right (is_last_or_in (length_back (length ss) us) u.at u.old) (fits (length ss) us) h in
+    let first : is_last_or_in (length_back (length ss) us) u.at u.old ≡ true = both_left (is_last_or_in (length_back (length ss) us) u.at u.old) (fits (length ss) us) h in
     let in' : is_last_or_in (length (back ss us)) u.at u.old ≡ true = ap (λ (n : ℕ). is_last_or_in n u.at u.old) (back_length ss us rest) ∙ first in
     by_test (nat_eq u.at i)
     (λ t. inl (or_left (nat_eq u.at i) (list_any (λ v. nat_eq v.at i) us) t))
@@ -203,8 +175,8 @@ changed_or_same ss (u ∷ us) i h =
 alone_one : (columns : List ℕ) (ss : List Slot) (us : List Undo) (i : ℕ) (r : List Value) → all_alone columns ss us ≡ true → list_any (λ u. nat_eq u.at i) us ≡ true → slot_at ss i ≡ Some r → is_alone columns r i 0 ss ≡ true
 alone_one columns ss [] i r h t e = cc
 alone_one columns ss (u ∷ us) i r h t e =
-    let here : slot_alone columns ss u.at (slot_at ss u.at) ≡ true = left_of (slot_alone columns ss u.at (slot_at ss u.at)) (all_alone columns ss us) h in
-    let rest : all_alone columns ss us ≡ true = right_of (slot_alone columns ss u.at (slot_at ss u.at)) (all_alone columns ss us) h in
+    let here : slot_alone columns ss u.at (slot_at ss u.at) ≡ true = both_left (slot_alone columns ss u.at (slot_at ss u.at)) (all_alone columns ss us) h in
+    let rest : all_alone columns ss us ≡ true = both_right (slot_alone columns ss u.at (slot_at ss u.at)) (all_alone columns ss us) h in
     by_test (nat_eq u.at i)
     (λ y.
     let at : u.at ≡ i = grind (arith, common_steps) in
@@ -218,7 +190,7 @@ alone_slot columns ss at (Some row) apart e = alone_from columns row at 0 ss (λ
 
 alone_each : (columns : List ℕ) (ss : List Slot) (us : List Undo) → ((i j : ℕ) (r q : List Value) → slot_at ss i ≡ Some r → slot_at ss j ≡ Some q → same_key columns r q ≡ true → i ≡ j) → all_alone columns ss us ≡ true
 alone_each columns ss [] apart = refl
-alone_each columns ss (u ∷ us) apart = both (alone_slot columns ss u.at (slot_at ss u.at) apart refl) (alone_each columns ss us apart)
+alone_each columns ss (u ∷ us) apart = and_from _ _ (alone_slot columns ss u.at (slot_at ss u.at) apart refl) (alone_each columns ss us apart)
 
 -- no two rows have the same key exactly where all changed rows are alone
 apart_later : (columns : List ℕ) (ss : List Slot) (us : List Undo) → fits (length ss) us ≡ true → are_distinct columns (rows_from 1 (back ss us)) ≡ true → all_alone columns ss us ≡ true
@@ -232,7 +204,7 @@ apart_later columns ss us h before alone i j r q e f s = elim (changed_or_same s
 ]
 
 pub distinct_is_alone : (columns : List ℕ) (ss : List Slot) (us : List Undo) → fits (length ss) us ≡ true → are_distinct columns (rows_from 1 (back ss us)) ≡ true → are_distinct columns (rows_from 1 ss) ≡ all_alone columns ss us
-distinct_is_alone columns ss us h before = same_from (are_distinct columns (rows_from 1 ss)) (all_alone columns ss us)
+distinct_is_alone columns ss us h before = alike (are_distinct columns (rows_from 1 ss)) (all_alone columns ss us)
     (λ t. alone_each columns ss us (λ i j r q e f s. apart_from_distinct columns 1 ss t i j r q e f s))
     (λ alone. distinct_from_apart columns 1 ss (λ i j r q e f s. apart_later columns ss us h before alone i j r q e f s))
 
@@ -240,7 +212,7 @@ pub distinct_keys_alone : (keys : Keys) (ss : List Slot) (us : List Undo) → fi
 distinct_keys_alone [] ss us h before = refl
 distinct_keys_alone (columns ∷ keys) ss us h before =
     let here : are_distinct columns (rows_from 1 ss) ≡ all_alone columns ss us
-    = distinct_is_alone columns ss us h (left_of (are_distinct columns (rows_from 1 (back ss us))) (has_distinct_keys keys (table_of (back ss us))) before) in
+    = distinct_is_alone columns ss us h (both_left (are_distinct columns (rows_from 1 (back ss us))) (has_distinct_keys keys (table_of (back ss us))) before) in
     let rest : has_distinct_keys keys (table_of ss) ≡ list_all (λ columns. all_alone columns ss us) keys
-    = distinct_keys_alone keys ss us h (right_of (are_distinct columns (rows_from 1 (back ss us))) (has_distinct_keys keys (table_of (back ss us))) before) in
+    = distinct_keys_alone keys ss us h (both_right (are_distinct columns (rows_from 1 (back ss us))) (has_distinct_keys keys (table_of (back ss us))) before) in
     λ i. here i && rest i

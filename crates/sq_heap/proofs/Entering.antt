@@ -1,5 +1,7 @@
 -- Changes whose rows have their entries.
 use Rattle.std.proofs.Common.{◌≡◌, ℕ, zero, suc, ◌+◌, ◌-◌, ◌≤◌, ◌<◌, true, List, [], ◌∷◌, length, drop, get_or, arith, refl, sym, ap, ◌∙◌}
+use Rattle.std.proofs.lemmas.Bool.{and_from}
+use Rattle.sq_value.proofs.Truths.{both_left, both_right}
 use Rattle.sq_value.specs.declared.value.Value.{Value}
 use Rattle.sq_store.specs.declared.change.Change.{Change}
 use Rattle.sq_store.specs.declared.change.Change.TheVariants.{Insert, Replace, Remove}
@@ -7,7 +9,6 @@ use Rattle.sq_store.specs.Content.{changed}
 use Rattle.sq_heap.specs.Entered.{change_holds, changes_hold, next_slot}
 use Rattle.sq_heap.specs.Index.{Test}
 use Rattle.sq_heap.specs.Slots.{Slot, table_of}
-use Rattle.sq_heap.proofs.Holds.{both, left_of, right_of}
 
 -- where one thing gives another
 pub change_gives : (P Q : Test) → ((r : List Value) (k : ℕ) → P r k ≡ true → Q r k ≡ true) → (n : ℕ) (change : Change) → change_holds P n change ≡ true → change_holds Q n change ≡ true
@@ -24,13 +25,13 @@ split_at P n (x ∷ cs) (suc i) c lt e =
     split_at P n cs i c (omega arith) e ∙ ap (λ (k : ℕ). changes_hold P n (c ∷ drop k (x ∷ cs))) more
 
 pub holds_here : (P : Test) (n : ℕ) (cs : List Change) (i : ℕ) (c : Change) → i < length cs → c ≡ get_or cs i c → changes_hold P n (drop i cs) ≡ true → change_holds P n c ≡ true
-holds_here P n cs i c lt e h = left_of (change_holds P n c) (changes_hold P (next_slot n c) (drop (i + 1) cs)) (sym (split_at P n cs i c lt e) ∙ h)
+holds_here P n cs i c lt e h = both_left (change_holds P n c) (changes_hold P (next_slot n c) (drop (i + 1) cs)) (sym (split_at P n cs i c lt e) ∙ h)
 
 pub holds_behind : (P : Test) (n : ℕ) (cs : List Change) (i : ℕ) (c : Change) → i < length cs → c ≡ get_or cs i c → changes_hold P n (drop i cs) ≡ true → changes_hold P (next_slot n c) (drop (i + 1) cs) ≡ true
-holds_behind P n cs i c lt e h = right_of (change_holds P n c) (changes_hold P (next_slot n c) (drop (i + 1) cs)) (sym (split_at P n cs i c lt e) ∙ h)
+holds_behind P n cs i c lt e h = both_right (change_holds P n c) (changes_hold P (next_slot n c) (drop (i + 1) cs)) (sym (split_at P n cs i c lt e) ∙ h)
 
 pub holds_from : (P : Test) (n : ℕ) (cs : List Change) (i : ℕ) (c : Change) → i < length cs → c ≡ get_or cs i c → change_holds P n c ≡ true → changes_hold P (next_slot n c) (drop (i + 1) cs) ≡ true → changes_hold P n (drop i cs) ≡ true
-holds_from P n cs i c lt e h rest = split_at P n cs i c lt e ∙ both h rest
+holds_from P n cs i c lt e h rest = split_at P n cs i c lt e ∙ and_from _ _ h rest
 
 pub holds_none : (P : Test) (n : ℕ) (cs : List Change) (i : ℕ) → length cs ≤ i → changes_hold P n (drop i cs) ≡ true
 holds_none P n [] zero le = refl

@@ -1,11 +1,12 @@
 -- The indexes of a table, and the entries of one of them.
 use Rattle.std.proofs.Common.{◌≡◌, ℕ, zero, suc, ◌+◌, ◌<◌, Bool, true, nat_eq, List, [], ◌∷◌, length, take, get_or, slice_set, arith, refl, sym, ap, ◌∙◌}
 use Rattle.std.specs.List.{list_all, fold}
-use Rattle.std.proofs.lemmas.Bool.{eqb-true}
+use Rattle.std.proofs.lemmas.Bool.{eqb-true, and_from}
 use Rattle.std.proofs.lemmas.List.{take-map}
 use Rattle.std.specs.Cmp.Lexicographic.{pointwise}
 use Rattle.std.specs.Hash.{items_Alike}
 use Rattle.std.specs.Hash.FoldHasher as folding
+use Rattle.sq_value.proofs.Truths.{both_left, both_right}
 use Rattle.sq_value.specs.Comparison.{is_same}
 use Rattle.sq_value.specs.Key.{in_columns}
 use Rattle.sq_value.specs.laws.ValueOrder.{same_fed}
@@ -13,7 +14,6 @@ use Rattle.sq_value.specs.declared.value.Value.{Value}
 use Rattle.sq_store.specs.Keys.{Keys}
 use Rattle.sq_heap.specs.Index.{columns_of, has_entry, hash_of, is_in, keys_of}
 use Rattle.sq_heap.specs.declared.index.Index.{Index}
-use Rattle.sq_heap.proofs.Holds.{both, left_of, right_of}
 
 -- keys that are the same have one hash
 pub same_hash : (key other : List Value) → pointwise is_same key other ≡ true → hash_of key ≡ hash_of other
@@ -34,26 +34,26 @@ keys_set (z ∷ xs) (suc i) x y lt e same = ap (λ (ks : Keys). z.columns ∷ ks
 
 pub all_set : (P : Index → Bool) (xs : List Index) (i : ℕ) (x y : Index) → i < length xs → x ≡ get_or xs i x → (P x ≡ true → P y ≡ true) → list_all P xs ≡ true → list_all P (slice_set xs i y) ≡ true
 all_set P [] i x y lt e keeps h = refl
-all_set P (z ∷ xs) zero x y lt e keeps h = both (keeps (ap P e ∙ left_of (P z) (list_all P xs) h)) (right_of (P z) (list_all P xs) h)
-all_set P (z ∷ xs) (suc i) x y lt e keeps h = both (left_of (P z) (list_all P xs) h) (all_set P xs i x y (omega arith) e keeps (right_of (P z) (list_all P xs) h))
+all_set P (z ∷ xs) zero x y lt e keeps h = and_from _ _ (keeps (ap P e ∙ both_left (P z) (list_all P xs) h)) (both_right (P z) (list_all P xs) h)
+all_set P (z ∷ xs) (suc i) x y lt e keeps h = and_from _ _ (both_left (P z) (list_all P xs) h) (all_set P xs i x y (omega arith) e keeps (both_right (P z) (list_all P xs) h))
 
 pub all_taken : (P : Index → Bool) (xs : List Index) (i : ℕ) (y : Index) → list_all P (take i xs) ≡ true → P y ≡ true → list_all P (take (i + 1) (slice_set xs i y)) ≡ true
 all_taken P xs i y h p = let k : i + 1 ≡ suc i = omega arith in ap (λ (m : ℕ). list_all P (take m (slice_set xs i y))) k ∙ one_more xs i h
   where
     one_more : (xs : List Index) (i : ℕ) → list_all P (take i xs) ≡ true → list_all P (take (suc i) (slice_set xs i y)) ≡ true
     one_more [] i h = refl
-    one_more (z ∷ xs) zero h = both p refl
-    one_more (z ∷ xs) (suc i) h = both (left_of (P z) (list_all P (take i xs)) h) (one_more xs i (right_of (P z) (list_all P (take i xs)) h))
+    one_more (z ∷ xs) zero h = and_from _ _ p refl
+    one_more (z ∷ xs) (suc i) h = and_from _ _ (both_left (P z) (list_all P (take i xs)) h) (one_more xs i (both_right (P z) (list_all P (take i xs)) h))
 
 pub all_at : (P : Index → Bool) (xs : List Index) (i : ℕ) (x : Index) → i < length xs → x ≡ get_or xs i x → list_all P xs ≡ true → P x ≡ true
 all_at P [] i x lt e h = absurd (omega arith)
-all_at P (z ∷ xs) zero x lt e h = ap P e ∙ left_of (P z) (list_all P xs) h
-all_at P (z ∷ xs) (suc i) x lt e h = all_at P xs i x (omega arith) e (right_of (P z) (list_all P xs) h)
+all_at P (z ∷ xs) zero x lt e h = ap P e ∙ both_left (P z) (list_all P xs) h
+all_at P (z ∷ xs) (suc i) x lt e h = all_at P xs i x (omega arith) e (both_right (P z) (list_all P xs) h)
 
 pub all_put : (P : Index → Bool) (xs : List Index) (i : ℕ) (y : Index) → list_all P xs ≡ true → P y ≡ true → list_all P (slice_set xs i y) ≡ true
 all_put P [] i y h p = refl
-all_put P (z ∷ xs) zero y h p = both p (right_of (P z) (list_all P xs) h)
-all_put P (z ∷ xs) (suc i) y h p = both (left_of (P z) (list_all P xs) h) (all_put P xs i y (right_of (P z) (list_all P xs) h) p)
+all_put P (z ∷ xs) zero y h p = and_from _ _ p (both_right (P z) (list_all P xs) h)
+all_put P (z ∷ xs) (suc i) y h p = and_from _ _ (both_left (P z) (list_all P xs) h) (all_put P xs i y (both_right (P z) (list_all P xs) h) p)
 
 pub length_put : (xs : List Index) (i : ℕ) (y : Index) → length (slice_set xs i y) ≡ length xs
 length_put [] i y = refl
@@ -75,7 +75,7 @@ keys_first n xs = sym (take-map columns_of n xs)
 pub all_first : (P : Index → Bool) (n : ℕ) (xs : List Index) → list_all P xs ≡ true → list_all P (take n xs) ≡ true
 all_first P zero xs h = refl
 all_first P (suc n) [] h = refl
-all_first P (suc n) (x ∷ xs) h = both (left_of (P x) (list_all P xs) h) (all_first P n xs (right_of (P x) (list_all P xs) h))
+all_first P (suc n) (x ∷ xs) h = and_from _ _ (both_left (P x) (list_all P xs) h) (all_first P n xs (both_right (P x) (list_all P xs) h))
 
 -- ---- lists of columns
 
@@ -84,6 +84,6 @@ same_numbers [] [] h = refl
 same_numbers [] (n ∷ ns) h = cc
 same_numbers (m ∷ ms) [] h = cc
 same_numbers (m ∷ ms) (n ∷ ns) h =
-    let first : m ≡ n = eqb-true m n (left_of (nat_eq m n) (pointwise nat_eq ms ns) h) in
-    let rest : ms ≡ ns = same_numbers ms ns (right_of (nat_eq m n) (pointwise nat_eq ms ns) h) in
+    let first : m ≡ n = eqb-true m n (both_left (nat_eq m n) (pointwise nat_eq ms ns) h) in
+    let rest : ms ≡ ns = same_numbers ms ns (both_right (nat_eq m n) (pointwise nat_eq ms ns) h) in
     λ i. first i ∷ rest i

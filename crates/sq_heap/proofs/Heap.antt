@@ -3,13 +3,14 @@ use Rattle.std.proofs.Math.Seq.{take-append_seam}
 use Rattle.std.proofs.Common.{◌≡◌, ℕ, zero, suc, ◌+◌, ◌<◌, ◌≤◌, Bool, true, false, ◌&&◌, ◌||◌, nat_eq, nat_lt, List, [], ◌∷◌, ◌++◌, length, drop, take, map, get_or, get_or-take, slice_index_or, slice_set, Option, Some, None, arith, refl, sym, ap, ◌∙◌}
 use Rattle.std.specs.List.{list_any}
 use Rattle.std.proofs.lemmas.List.{replicate_more}
-use Rattle.std.proofs.lemmas.Bool.{false≢true}
+use Rattle.std.proofs.lemmas.Bool.{false≢true, and_from}
 use Rattle.std.proofs.lemmas.Grind.{common_steps}
 use Rattle.sq_store.specs.declared.table.Table.{Table}
 use Rattle.sq_store.specs.declared.change.Change.{Change}
 use Rattle.sq_store.specs.Content.{Content, changed_by, empty, no_rows, table_at}
 use Rattle.std.specs.Prelude.{Vec}
 use Rattle.std.specs.declared.alloc.Global.{Global}
+use Rattle.sq_value.proofs.Truths.{both_left, both_right, or_without}
 use Rattle.sq_store.specs.Keys.{keys_of as given_keys}
 use Rattle.sq_store.specs.Keys.{Keys, are_keyed, has_distinct_keys, have_keys, keys_at}
 use Rattle.sq_store.specs.Sound.{is_sound}
@@ -56,22 +57,6 @@ map_set_same f ts i t u lt e same = map_set f ts i u ∙ set_same (map f ts) i (
 
 -- ---- tests
 
-both : {a b : Bool} → a ≡ true → b ≡ true → (a && b) ≡ true
-both {a = true} p q = q
-both {a = false} p q = p
-
-left_of : (a b : Bool) → (a && b) ≡ true → a ≡ true
-left_of true b h = refl
-left_of false b h = h
-
-right_of : (a b : Bool) → (a && b) ≡ true → b ≡ true
-right_of true b h = h
-right_of false b h = cc
-
-or_false : (a b : Bool) → b ≡ false → (a || b) ≡ a
-or_false true b e = refl
-or_false false b e = e
-
 -- ---- which tables were changed
 
 any_push : (n i : ℕ) (listed : List ℕ) → list_any (nat_eq n) (listed ++ i ∷ []) ≡ (list_any (nat_eq n) listed || nat_eq n i)
@@ -99,8 +84,8 @@ listed_push listed k n (u ∷ ts) (suc i) t e h =
 pub listed_set : (listed : List ℕ) (n : ℕ) (ts : List HeapTable) (i : ℕ) (t u : HeapTable) → i < length ts → t ≡ get_or ts i t → (has_none t.undo.items ≡ true → has_none u.undo.items ≡ true) → are_listed listed n ts ≡ true → are_listed listed n (slice_set ts i u) ≡ true
 listed_set listed n [] i t u lt e keeps h = refl
 listed_set listed n (v ∷ ts) zero t u lt e keeps h =
-    both (kept (has_none v.undo.items) (has_none u.undo.items) (λ k. keeps (ap (λ (w : HeapTable). has_none w.undo.items) e ∙ k)) (left_of (has_none v.undo.items || list_any (nat_eq n) listed) (are_listed listed (n + 1) ts) h))
-    (right_of (has_none v.undo.items || list_any (nat_eq n) listed) (are_listed listed (n + 1) ts) h)
+    and_from _ _ (kept (has_none v.undo.items) (has_none u.undo.items) (λ k. keeps (ap (λ (w : HeapTable). has_none w.undo.items) e ∙ k)) (both_left (has_none v.undo.items || list_any (nat_eq n) listed) (are_listed listed (n + 1) ts) h))
+    (both_right (has_none v.undo.items || list_any (nat_eq n) listed) (are_listed listed (n + 1) ts) h)
   where
     kept : (a b : Bool) → (a ≡ true → b ≡ true) → (a || list_any (nat_eq n) listed) ≡ true → (b || list_any (nat_eq n) listed) ≡ true
     kept true true k h = refl
@@ -108,32 +93,32 @@ listed_set listed n (v ∷ ts) zero t u lt e keeps h =
     kept false true k h = refl
     kept false false k h = h
 listed_set listed n (v ∷ ts) (suc i) t u lt e keeps h =
-    both (left_of (has_none v.undo.items || list_any (nat_eq n) listed) (are_listed listed (n + 1) ts) h)
-    (listed_set listed (n + 1) ts i t u (omega arith) e keeps (right_of (has_none v.undo.items || list_any (nat_eq n) listed) (are_listed listed (n + 1) ts) h))
+    and_from _ _ (both_left (has_none v.undo.items || list_any (nat_eq n) listed) (are_listed listed (n + 1) ts) h)
+    (listed_set listed (n + 1) ts i t u (omega arith) e keeps (both_right (has_none v.undo.items || list_any (nat_eq n) listed) (are_listed listed (n + 1) ts) h))
 
 not_listed : (n k : ℕ) (listed : List ℕ) → nat_eq n k ≡ false → list_any (nat_eq n) (listed ++ k ∷ []) ≡ list_any (nat_eq n) listed
-not_listed n k listed other = any_push n k listed ∙ or_false (list_any (nat_eq n) listed) (nat_eq n k) other
+not_listed n k listed other = any_push n k listed ∙ or_without (list_any (nat_eq n) listed) (nat_eq n k) other
 
 listed_narrower : (listed : List ℕ) (k n : ℕ) (ts : List HeapTable) → k < n → are_listed (listed ++ k ∷ []) n ts ≡ true → are_listed listed n ts ≡ true
 listed_narrower listed k n [] lt h = refl
 listed_narrower listed k n (t ∷ ts) lt h =
     let other : nat_eq n k ≡ false = grind (arith, common_steps) in
-    let first : (has_none t.undo.items || list_any (nat_eq n) (listed ++ k ∷ [])) ≡ true = left_of (has_none t.undo.items || list_any (nat_eq n) (listed ++ k ∷ [])) (are_listed (listed ++ k ∷ []) (n + 1) ts) h in
-    let rest : are_listed listed (n + 1) ts ≡ true = listed_narrower listed k (n + 1) ts (omega arith) (right_of (has_none t.undo.items || list_any (nat_eq n) (listed ++ k ∷ [])) (are_listed (listed ++ k ∷ []) (n + 1) ts) h) in
-    both (ap (λ (b : Bool). has_none t.undo.items || b) (sym (not_listed n k listed other)) ∙ first) rest
+    let first : (has_none t.undo.items || list_any (nat_eq n) (listed ++ k ∷ [])) ≡ true = both_left (has_none t.undo.items || list_any (nat_eq n) (listed ++ k ∷ [])) (are_listed (listed ++ k ∷ []) (n + 1) ts) h in
+    let rest : are_listed listed (n + 1) ts ≡ true = listed_narrower listed k (n + 1) ts (omega arith) (both_right (has_none t.undo.items || list_any (nat_eq n) (listed ++ k ∷ [])) (are_listed (listed ++ k ∷ []) (n + 1) ts) h) in
+    and_from _ _ (ap (λ (b : Bool). has_none t.undo.items || b) (sym (not_listed n k listed other)) ∙ first) rest
 
 -- a table without changes need not be listed
 pub listed_pop : (listed : List ℕ) (k n : ℕ) (ts : List HeapTable) (i : ℕ) (t : HeapTable) → k ≡ n + i → has_none t.undo.items ≡ true → are_listed (listed ++ k ∷ []) n ts ≡ true → are_listed listed n (slice_set ts i t) ≡ true
 listed_pop listed k n [] i t e none h = refl
 listed_pop listed k n (u ∷ ts) zero t e none h =
-    let rest : are_listed listed (n + 1) ts ≡ true = listed_narrower listed k (n + 1) ts (omega arith) (right_of (has_none u.undo.items || list_any (nat_eq n) (listed ++ k ∷ [])) (are_listed (listed ++ k ∷ []) (n + 1) ts) h) in
+    let rest : are_listed listed (n + 1) ts ≡ true = listed_narrower listed k (n + 1) ts (omega arith) (both_right (has_none u.undo.items || list_any (nat_eq n) (listed ++ k ∷ [])) (are_listed (listed ++ k ∷ []) (n + 1) ts) h) in
     let first : (has_none t.undo.items || list_any (nat_eq n) listed) ≡ true = ap (λ (b : Bool). b || list_any (nat_eq n) listed) none in
-    both first rest
+    and_from _ _ first rest
 listed_pop listed k n (u ∷ ts) (suc i) t e none h =
     let other : nat_eq n k ≡ false = grind (arith, common_steps) in
-    let first : (has_none u.undo.items || list_any (nat_eq n) (listed ++ k ∷ [])) ≡ true = left_of (has_none u.undo.items || list_any (nat_eq n) (listed ++ k ∷ [])) (are_listed (listed ++ k ∷ []) (n + 1) ts) h in
-    let rest : are_listed listed (n + 1) (slice_set ts i t) ≡ true = listed_pop listed k (n + 1) ts i t (omega arith) none (right_of (has_none u.undo.items || list_any (nat_eq n) (listed ++ k ∷ [])) (are_listed (listed ++ k ∷ []) (n + 1) ts) h) in
-    both (ap (λ (b : Bool). has_none u.undo.items || b) (sym (not_listed n k listed other)) ∙ first) rest
+    let first : (has_none u.undo.items || list_any (nat_eq n) (listed ++ k ∷ [])) ≡ true = both_left (has_none u.undo.items || list_any (nat_eq n) (listed ++ k ∷ [])) (are_listed (listed ++ k ∷ []) (n + 1) ts) h in
+    let rest : are_listed listed (n + 1) (slice_set ts i t) ≡ true = listed_pop listed k (n + 1) ts i t (omega arith) none (both_right (has_none u.undo.items || list_any (nat_eq n) (listed ++ k ∷ [])) (are_listed (listed ++ k ∷ []) (n + 1) ts) h) in
+    and_from _ _ (ap (λ (b : Bool). has_none u.undo.items || b) (sym (not_listed n k listed other)) ∙ first) rest
 
 none_made : (ss : List Slot) (us : List Undo) → (has_none us || false) ≡ true → table_of (back ss us) ≡ table_of ss
 none_made ss [] h = refl
@@ -143,23 +128,23 @@ none_made ss (u ∷ us) h = absurd (false≢true h)
 pub none_listed : (n : ℕ) (ts : List HeapTable) → are_listed [] n ts ≡ true → all_committed ts ≡ all_now ts
 none_listed n [] h = refl
 none_listed n (t ∷ ts) h =
-    let here : table_of (back t.slots.list.items t.undo.items) ≡ table_of t.slots.list.items = none_made t.slots.list.items t.undo.items (left_of (has_none t.undo.items || false) (are_listed [] (n + 1) ts) h) in
-    let rest : all_committed ts ≡ all_now ts = none_listed (n + 1) ts (right_of (has_none t.undo.items || false) (are_listed [] (n + 1) ts) h) in
+    let here : table_of (back t.slots.list.items t.undo.items) ≡ table_of t.slots.list.items = none_made t.slots.list.items t.undo.items (both_left (has_none t.undo.items || false) (are_listed [] (n + 1) ts) h) in
+    let rest : all_committed ts ≡ all_now ts = none_listed (n + 1) ts (both_right (has_none t.undo.items || false) (are_listed [] (n + 1) ts) h) in
     λ i. here i ∷ rest i
 
 -- ---- listed tables are there
 
 pub within_last : (n : ℕ) (listed : List ℕ) (k : ℕ) → are_within n (listed ++ k ∷ []) ≡ true → k < n
 within_last n [] k h = grind (arith, common_steps)
-within_last n (j ∷ listed) k h = within_last n listed k (right_of (nat_lt j n) (are_within n (listed ++ k ∷ [])) h)
+within_last n (j ∷ listed) k h = within_last n listed k (both_right (nat_lt j n) (are_within n (listed ++ k ∷ [])) h)
 
 pub within_rest : (n : ℕ) (listed : List ℕ) (k : ℕ) → are_within n (listed ++ k ∷ []) ≡ true → are_within n listed ≡ true
 within_rest n [] k h = refl
-within_rest n (j ∷ listed) k h = both (left_of (nat_lt j n) (are_within n (listed ++ k ∷ [])) h) (within_rest n listed k (right_of (nat_lt j n) (are_within n (listed ++ k ∷ [])) h))
+within_rest n (j ∷ listed) k h = and_from _ _ (both_left (nat_lt j n) (are_within n (listed ++ k ∷ [])) h) (within_rest n listed k (both_right (nat_lt j n) (are_within n (listed ++ k ∷ [])) h))
 
 pub within_push : (n : ℕ) (listed : List ℕ) (k : ℕ) → k < n → are_within n listed ≡ true → are_within n (listed ++ k ∷ []) ≡ true
 within_push n [] k lt h = grind (arith, common_steps)
-within_push n (j ∷ listed) k lt h = both (left_of (nat_lt j n) (are_within n listed) h) (within_push n listed k lt (right_of (nat_lt j n) (are_within n listed) h))
+within_push n (j ∷ listed) k lt h = and_from _ _ (both_left (nat_lt j n) (are_within n listed) h) (within_push n listed k lt (both_right (nat_lt j n) (are_within n listed) h))
 
 -- ---- tables without rows
 
@@ -184,7 +169,7 @@ committed_push ts t n e f h = map_push committed_of ts t n (committed_new t e f)
 
 pub listed_new : (n : ℕ) (ts : List HeapTable) (t : HeapTable) → t.undo.items ≡ [] → are_listed [] n ts ≡ true → are_listed [] n (ts ++ t ∷ []) ≡ true
 listed_new n [] t e h = (λ i. (has_none (e i) || false) && true)
-listed_new n (u ∷ ts) t e h = both (left_of (has_none u.undo.items || false) (are_listed [] (n + 1) ts) h) (listed_new (n + 1) ts t e (right_of (has_none u.undo.items || false) (are_listed [] (n + 1) ts) h))
+listed_new n (u ∷ ts) t e h = and_from _ _ (both_left (has_none u.undo.items || false) (are_listed [] (n + 1) ts) h) (listed_new (n + 1) ts t e (both_right (has_none u.undo.items || false) (are_listed [] (n + 1) ts) h))
 
 -- ---- one table is changed
 
@@ -265,9 +250,9 @@ keyed_distinct [] [] i h lt = absurd (omega arith)
 keyed_distinct [] (t ∷ ts) i h lt = absurd (false≢true h)
 keyed_distinct (k ∷ keys) [] i h lt = absurd (false≢true h)
 keyed_distinct (k ∷ keys) (t ∷ ts) zero h lt =
-    left_of (has_distinct_keys k t) (are_keyed keys ts) (right_of (have_keys k t.rows) (has_distinct_keys k t && are_keyed keys ts) h)
+    both_left (has_distinct_keys k t) (are_keyed keys ts) (both_right (have_keys k t.rows) (has_distinct_keys k t && are_keyed keys ts) h)
 keyed_distinct (k ∷ keys) (t ∷ ts) (suc i) h lt =
-    keyed_distinct keys ts i (right_of (has_distinct_keys k t) (are_keyed keys ts) (right_of (have_keys k t.rows) (has_distinct_keys k t && are_keyed keys ts) h)) (omega arith)
+    keyed_distinct keys ts i (both_right (has_distinct_keys k t) (are_keyed keys ts) (both_right (have_keys k t.rows) (has_distinct_keys k t && are_keyed keys ts) h)) (omega arith)
 
 pub distinct_at : (row_numbers : ℕ) (keys : List Keys) (ts : Content) (i : ℕ) → is_sound row_numbers keys ts ≡ true → i < length ts → has_distinct_keys (keys_at keys i) (table_at ts i) ≡ true
 distinct_at row_numbers keys ts i h lt = keyed_distinct keys ts i (keyed_of row_numbers keys ts h) lt

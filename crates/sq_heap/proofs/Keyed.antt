@@ -1,9 +1,10 @@
 -- Rows found through an index, and whether they share its key.
 use Rattle.std.proofs.Common.{◌≡◌, ℕ, zero, suc, ◌+◌, ◌<◌, Bool, true, false, ◌&&◌, not, nat_eq, drop, find, List, [], ◌∷◌, length, get_or, slice_index_or, cond, if◌then◌else◌, is_some, Option, Some, None, arith, refl, sym, ap, ◌∙◌}
 use Rattle.std.specs.List.{list_all, list_any}
-use Rattle.std.proofs.lemmas.Bool.{false≢true}
+use Rattle.std.proofs.lemmas.Bool.{false≢true, false_from_ne_true, or_right, or_left, not-true, and_from}
 use Rattle.std.proofs.lemmas.Grind.{common_steps}
 use Rattle.std.specs.Cmp.Lexicographic.{pointwise}
+use Rattle.sq_value.proofs.Truths.{alike, both_left, both_right}
 use Rattle.sq_value.specs.Comparison.{is_same}
 use Rattle.sq_value.specs.Key.{in_columns}
 use Rattle.sq_value.specs.declared.value.Value.{Value}
@@ -18,8 +19,8 @@ use Rattle.sq_heap.specs.declared.undo.Undo.{Undo}
 use Rattle.sq_store.proofs.Unique.{found_with as unique_found}
 use Rattle.sq_heap.proofs.Columns.{columns_of_slot}
 use Rattle.sq_heap.proofs.Rows.{row_there}
-use Rattle.sq_heap.proofs.Distinct.{alone_at, alone_from, by_test, not_true, or_left, or_rest, or_right, same_from}
-use Rattle.sq_heap.proofs.Holds.{both, holds_at, left_of, right_of, slots_give}
+use Rattle.sq_heap.proofs.Distinct.{alone_at, alone_from, by_test, or_rest}
+use Rattle.sq_heap.proofs.Holds.{holds_at, slots_give}
 use Rattle.sq_heap.proofs.Entries.{same_hash}
 
 -- ---- one of the indexes
@@ -33,8 +34,8 @@ columns_at_index (z ∷ xs) (suc i) x lt e = columns_at_index xs i x (omega arit
 pub each_holds : (xs : List Index) (ss : List Slot) → slots_hold (in_all xs) 0 ss ≡ true → list_all (enters ss) xs ≡ true
 each_holds [] ss h = refl
 each_holds (z ∷ xs) ss h =
-    both (slots_give (in_all (z ∷ xs)) (is_in z) (λ r k t. left_of (is_in z r k) (in_all xs r k) t) 0 ss h)
-    (each_holds xs ss (slots_give (in_all (z ∷ xs)) (in_all xs) (λ r k t. right_of (is_in z r k) (in_all xs r k) t) 0 ss h))
+    and_from _ _ (slots_give (in_all (z ∷ xs)) (is_in z) (λ r k t. both_left (is_in z r k) (in_all xs r k) t) 0 ss h)
+    (each_holds xs ss (slots_give (in_all (z ∷ xs)) (in_all xs) (λ r k t. both_right (is_in z r k) (in_all xs r k) t) 0 ss h))
 
 -- ---- an entry and its slot
 
@@ -49,8 +50,8 @@ columns_of_named columns ss hash e q h n = columns_of_slot columns ss e.at q h (
 -- an entry of a row with the key names it
 is_named : (columns : List ℕ) (key : List Value) (ss : List Slot) (hash j : ℕ) (q : List Value) (e : Entry) → slot_at ss j ≡ Some q → pointwise is_same key (in_columns q columns) ≡ true → is_entry hash j e ≡ true → names_key columns key ss hash e ≡ true
 is_named columns key ss hash j q e s same h =
-    let under : nat_eq e.hash hash ≡ true = left_of (nat_eq e.hash hash) (nat_eq e.at j) h in
-    let place : nat_eq e.at j ≡ true = right_of (nat_eq e.hash hash) (nat_eq e.at j) h in
+    let under : nat_eq e.hash hash ≡ true = both_left (nat_eq e.hash hash) (nat_eq e.at j) h in
+    let place : nat_eq e.at j ≡ true = both_right (nat_eq e.hash hash) (nat_eq e.at j) h in
     let at : e.at ≡ j = grind (arith, common_steps) in
     ap (λ (b : Bool). slot_has_key columns key (if b then slot_at ss e.at else None)) under
     ∙ ap (λ (k : ℕ). slot_has_key columns key (slot_at ss k)) at ∙ ap (slot_has_key columns key) s ∙ same
@@ -65,27 +66,23 @@ names_another : (columns : List ℕ) (key : List Value) (at : ℕ) (ss : List Sl
 names_another columns key at ss hash j q [] other s same h = cc
 names_another columns key at ss hash j q (e ∷ es) other s same h = by_test (is_entry hash j e)
     (λ t.
-    let place : nat_eq e.at j ≡ true = right_of (nat_eq e.hash hash) (nat_eq e.at j) t in
+    let place : nat_eq e.at j ≡ true = both_right (nat_eq e.hash hash) (nat_eq e.at j) t in
     let same_place : e.at ≡ j = grind (arith, common_steps) in
     let elsewhere : not (nat_eq e.at at) ≡ true = ap (λ (k : ℕ). not (nat_eq k at)) same_place ∙ ap not other in
-    or_left (names_other columns key at ss hash e) (list_any (names_other columns key at ss hash) es) (both elsewhere (is_named columns key ss hash j q e s same t)))
+    or_left (names_other columns key at ss hash e) (list_any (names_other columns key at ss hash) es) (and_from _ _ elsewhere (is_named columns key ss hash j q e s same t)))
     (λ f. or_right (names_other columns key at ss hash e) (list_any (names_other columns key at ss hash) es) (names_another columns key at ss hash j q es other s same (or_rest (is_entry hash j e) (list_any (is_entry hash j) es) f h)))
 
 row_of_slot : (columns : List ℕ) (key : List Value) (s : Slot) → slot_has_key columns key s ≡ true → (q : List Value) × (s ≡ Some q) × (pointwise is_same key (in_columns q columns) ≡ true)
 row_of_slot columns key None h = cc
 row_of_slot columns key (Some q) h = (q, refl, h)
 
-not_false : (a : Bool) → not a ≡ true → a ≡ false
-not_false true h = cc
-not_false false h = refl
-
 other_row : (columns : List ℕ) (key : List Value) (at : ℕ) (ss : List Slot) (hash : ℕ) (es : List Entry) → list_any (names_other columns key at ss hash) es ≡ true
     → (j : ℕ) × (q : List Value) × (nat_eq j at ≡ false) × (slot_at ss j ≡ Some q) × (pointwise is_same key (in_columns q columns) ≡ true)
 other_row columns key at ss hash [] h = cc
 other_row columns key at ss hash (e ∷ es) h = by_test (names_other columns key at ss hash e)
     (λ t.
-    let found = row_of_slot columns key (named ss hash e) (right_of (not (nat_eq e.at at)) (names_key columns key ss hash e) t) in
-    (e.at, found.0, not_false (nat_eq e.at at) (left_of (not (nat_eq e.at at)) (names_key columns key ss hash e) t), slot_of_named ss hash e found.0 found.1, found.2))
+    let found = row_of_slot columns key (named ss hash e) (both_right (not (nat_eq e.at at)) (names_key columns key ss hash e) t) in
+    (e.at, found.0, not-true (nat_eq e.at at) (both_left (not (nat_eq e.at at)) (names_key columns key ss hash e) t), slot_of_named ss hash e found.0 found.1, found.2))
     (λ f. other_row columns key at ss hash es (or_rest (names_other columns key at ss hash e) (list_any (names_other columns key at ss hash) es) f h))
 
 -- ---- a row in a slot has its entry under the hash of a key that is the same
@@ -109,7 +106,7 @@ no_key columns key n (Some r ∷ ss) f =
 
 pub none_with : (index : Index) (key : List Value) (ss : List Slot) (hash : ℕ) → hash ≡ hash_of key → slots_hold (is_in index) 0 ss ≡ true → list_any (names_key index.columns key ss hash) (bucket_of index hash) ≡ false
     → find (has_key index.columns key) (rows_from 1 ss) ≡ None
-none_with index key ss hash e h none = no_key index.columns key 1 ss (λ j q s. not_true (pointwise is_same key (in_columns q index.columns)) (λ same.
+none_with index key ss hash e h none = no_key index.columns key 1 ss (λ j q s. false_from_ne_true (pointwise is_same key (in_columns q index.columns)) (λ same.
     let some : list_any (names_key index.columns key ss hash) (bucket_of index hash) ≡ true
     = names_one index.columns key ss hash j q (bucket_of index hash) s same (entry_under index key ss hash j q e h s same) in
     false≢true (sym none ∙ some)))
@@ -153,12 +150,12 @@ alone_in index row at ss hash e h =
     let key = in_columns row index.columns in
     let es = bucket_of index hash in
     let any = list_any (names_other index.columns (in_columns row index.columns) at ss hash) (bucket_of index hash) in
-    same_from (not any) (is_alone columns row at 0 ss)
+    alike (not any) (is_alone columns row at 0 ss)
     (λ none. alone_from columns row at 0 ss (λ j q s same. by_test (nat_eq j at)
     (λ t. let k : 0 + j ≡ at = grind (arith, common_steps) in k)
     (λ f.
     let some : any ≡ true = names_another columns key at ss hash j q es f s same (entry_under index key ss hash j q e h s same) in
-    absurd (false≢true (sym (not_false any none) ∙ some)))))
+    absurd (false≢true (sym (not-true any none) ∙ some)))))
     (λ alone. by_test any
     (λ some.
     let found = other_row columns key at ss hash es some in

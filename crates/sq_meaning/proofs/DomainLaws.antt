@@ -1,6 +1,6 @@
 -- A law of changes (ISO/IEC 9075:1992, 4.10 and 9.2): each value that a statement puts into a table is null or of its column's domain.
 use Rattle.std.proofs.Common.{ap, arith, eqb, inl, inr, subst, sym, ◌∙◌}
-use Rattle.std.proofs.lemmas.Bool.{ltb-true}
+use Rattle.std.proofs.lemmas.Bool.{ltb-true, and_parts}
 use Rattle.std.proofs.lemmas.Bool.Decides.{eqb_tells}
 use Rattle.std.proofs.lemmas.List.{length-append, length-replicate, length-take}
 use Rattle.std.specs.Bool.{passes}
@@ -93,10 +93,6 @@ found_or P test otherwise o (x ∷ xs) h = split (test x) (found_or P test other
 
 -- ---- what is assigned is of the domain (9.2)
 
-and_true : (a b : Bool) → (a && b) ≡ true → (a ≡ true) × (b ≡ true)
-and_true true b e = (refl, e)
-and_true false b e = cc
-
 chosen_if : (b : Bool) (s : Status) (n : Number) (w : Value) → or_status s (option_map value.Num (if b then Some n else None)) ≡ Ok w → (b ≡ true) × (w ≡ value.Num n)
 chosen_if true s n w e = (refl, cc)
 chosen_if false s n w e = cc
@@ -109,7 +105,7 @@ between : (low high : ℤ) (n : Number) (s : Status) (w : Value) → or_status s
     → (w ≡ value.Num n) × (low ≤ℤ n.unscaled) × (n.unscaled ≤ℤ high)
 between low high n s w e =
     let c = chosen_if (int_le low n.unscaled && int_le n.unscaled high) s n w e in
-    let b = and_true (int_le low n.unscaled) (int_le n.unscaled high) c.0 in
+    let b = and_parts (int_le low n.unscaled) (int_le n.unscaled high) c.0 in
     (c.1, record { le = passes (int_le low n.unscaled) b.0 }, record { le = passes (int_le n.unscaled high) b.1 })
 
 number_in : (d : Domain) (n : Number) (w : Value) → assigned d (value.Num n) ≡ Ok w → IsInDomain d w

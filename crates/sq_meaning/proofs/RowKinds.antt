@@ -1,8 +1,9 @@
 -- The phases of a well-formed query specification (ISO/IEC 9075:1992, 7.4 to 7.9): lines, groups and shown rows are of the
 -- kinds of their tables and expressions.
 use Rattle.std.proofs.Common.{◌≡◌, Bool, true, false, List, [], ◌∷◌, ◌++◌, map, refl, ap, ◌∙◌, Ok, Err}
-use Rattle.std.specs.Prelude.{⊤, IsTrue, IsFalse, if◌then◌else◌, not, ◌||◌, ◌&&◌, filter}
+use Rattle.std.specs.Prelude.{⊤, IsTrue, IsFalse, if◌then◌else◌, not, ◌||◌, filter}
 use Rattle.std.specs.List.{AllByRecursion, AllZip, flat_map}
+use Rattle.std.proofs.lemmas.Bool.{and_from}
 use Rattle.sq_value.specs.Comparison.{is_same}
 use Rattle.sq_value.specs.Domain.{IsOfKind}
 use Rattle.sq_value.specs.declared.domain.Kind.{Kind}
@@ -44,13 +45,9 @@ class_of P same itself xs h =
     all_mapped (λ x. IsSome (filter (same x) xs)) (λ ys. AllByRecursion P ys × IsSome ys) (λ x. filter (same x) xs) (λ x s. (all_filtered P (same x) xs h, s))
     (firsts same xs) (all_firsts (λ x. IsSome (filter (same x) xs)) same xs (each_in_class same itself xs))
 
-both_so : (a b : Bool) → a ≡ true → b ≡ true → (a && b) ≡ true
-both_so true b p q = q
-both_so false b p q = cc
-
 row_itself : (r : Row) → same_row r r ≡ true
 row_itself [] = refl
-row_itself (v ∷ r) = both_so (is_same v v) (same_row r r) (same_equiv.refl v) (row_itself r)
+row_itself (v ∷ r) = and_from (is_same v v) (same_row r r) (same_equiv.refl v) (row_itself r)
 
 -- ---- kinds of several rows
 

@@ -1,5 +1,5 @@
 -- Laws of lists of rows: what DISTINCT leaves, and that ORDER BY keeps ties as they were.
-use Rattle.std.proofs.Common.{◌≡◌, ℕ, zero, suc, Bool, true, false, ◌&&◌, not, List, [], ◌∷◌, ◌++◌, map, replicate, refl, sym, ap, subst, ◌∙◌, cond}
+use Rattle.std.proofs.Common.{◌≡◌, ℕ, zero, suc, Bool, true, false, ◌&&◌, not, List, [], ◌∷◌, ◌++◌, map, replicate, refl, sym, ap, ◌∙◌, cond}
 use Rattle.std.specs.Prelude.{filter, if◌then◌else◌}
 use Rattle.std.specs.List.{list_all}
 use Rattle.std.specs.Cmp.{IsTotalOrder, on_total, back_total, then_total}
@@ -8,6 +8,7 @@ use Rattle.std.specs.declared.cmp.Ordering.{Ordering}
 use Rattle.std.specs.declared.cmp.Ordering.TheVariants.{Less, Equal, Greater}
 use Rattle.std.specs.Ordering.{nat_cmp, is_eq, is_lt, is_gt, ordering_then, ordering_reverse}
 use Rattle.std.proofs.lemmas.Cmp.{nat_cmp_total}
+use Rattle.std.proofs.lemmas.Bool.{false≢true, and_parts}
 use Rattle.sq_value.specs.Comparison.{is_same}
 use Rattle.sq_value.specs.declared.value.Value.{Value}
 use Rattle.sq_value.specs.declared.value.Value.TheVariants.{Chars}
@@ -27,9 +28,6 @@ abbrev told : Bool → Type 0
 told true = ⊥
 told false = Unit {0}
 
-false_is_not_true : false ≡ true → ⊥
-false_is_not_true h = subst told h tt
-
 all_filtered : {A : Type 0} (p : A → Bool) (xs : List A) → list_all p (filter p xs) ≡ true
 all_filtered p [] = refl
 all_filtered p (x ∷ xs) = split (all_filtered p xs) (p x) refl
@@ -45,7 +43,7 @@ still_all p q (x ∷ xs) h = split (still_all p q xs) (p x) refl (q x) h
     split : (list_all p xs ≡ true → list_all p (filter q xs) ≡ true) → (b : Bool) → p x ≡ b → (c : Bool) → (b && list_all p xs) ≡ true → list_all p (cond c (x ∷ filter q xs) (filter q xs)) ≡ true
     split f true e true k = (λ i. e i && f k i)
     split f true e false k = f k
-    split f false e c k = absurd (false_is_not_true k)
+    split f false e c k = absurd (false≢true k)
 
 still_apart : {A : Type 0} (same : A → A → Bool) (q : A → Bool) (xs : List A) → are_apart same xs ≡ true → are_apart same (filter q xs) ≡ true
 still_apart same q [] h = refl
@@ -54,7 +52,7 @@ still_apart same q (x ∷ xs) h = split (still_apart same q xs) (list_all (λ y.
     split : (are_apart same xs ≡ true → are_apart same (filter q xs) ≡ true) → (b : Bool) → list_all (λ y. not (same x y)) xs ≡ b → (c : Bool) → (b && are_apart same xs) ≡ true → are_apart same (cond c (x ∷ filter q xs) (filter q xs)) ≡ true
     split f true e true k = (λ i. still_all (λ y. not (same x y)) q xs e i && f k i)
     split f true e false k = f k
-    split f false e c k = absurd (false_is_not_true k)
+    split f false e c k = absurd (false≢true k)
 
 -- rows that DISTINCT leaves are not the same
 pub firsts_are_apart : {A : Type 0} (same : A → A → Bool) (xs : List A) → are_apart same (firsts same xs) ≡ true
@@ -65,8 +63,8 @@ firsts_are_apart same (x ∷ xs) = (λ i. all_filtered (λ y. not (same x y)) (f
 
 reflexive : (o : Ordering) → o ≡ ordering_reverse o → o ≡ Equal
 reflexive Equal h = refl
-reflexive Less h = absurd (false_is_not_true (ap is_gt h))
-reflexive Greater h = absurd (false_is_not_true (ap is_lt h))
+reflexive Less h = absurd (false≢true (ap is_gt h))
+reflexive Greater h = absurd (false≢true (ap is_lt h))
 
 code_equal : (x : ℕ) → nat_cmp x x ≡ Equal
 code_equal x = reflexive (nat_cmp x x) (nat_cmp_total.antisymm x x)
@@ -100,11 +98,11 @@ ties cmp z y = is_eq (cmp z y)
 
 equal_of : (o : Ordering) → is_eq o ≡ true → o ≡ Equal
 equal_of Equal h = refl
-equal_of Less h = absurd (false_is_not_true h)
-equal_of Greater h = absurd (false_is_not_true h)
+equal_of Less h = absurd (false≢true h)
+equal_of Greater h = absurd (false≢true h)
 
 not_both : {A : Type 0} (cmp : A → A → Ordering) → IsTotalOrder cmp → (x y z : A) → cmp x y ≡ Greater → ties cmp z y ≡ true → ties cmp z x ≡ true → ⊥
-not_both cmp total x y z h p q = false_is_not_true (ap is_eq (sym h ∙ sym (total.congr z x y (equal_of (cmp z x) q)) ∙ equal_of (cmp z y) p))
+not_both cmp total x y z h p q = false≢true (ap is_eq (sym h ∙ sym (total.congr z x y (equal_of (cmp z x) q)) ∙ equal_of (cmp z y) p))
 
 exchanged : {A : Type 0} (x y : A) (ys : List A) (a b : Bool) → (a ≡ true → b ≡ true → ⊥) → cond a (y ∷ cond b (x ∷ ys) ys) (cond b (x ∷ ys) ys) ≡ cond b (x ∷ cond a (y ∷ ys) ys) (cond a (y ∷ ys) ys)
 exchanged x y ys false b h = refl
@@ -166,25 +164,21 @@ all_before_higher {A} cmp p x (y ∷ ys) = split (all_before_higher cmp p x ys) 
     split h Equal = refl
     split h Greater = ap (λ b. p y && b) h ∙ front_exchanged (p y) (p x) (list_all p ys)
 
-both_true : (a b : Bool) → (a && b) ≡ true → (a ≡ true) × (b ≡ true)
-both_true true b h = (refl, h)
-both_true false b h = absurd (false_is_not_true h)
-
 all_of_more : {A : Type 0} (p q : A → Bool) → ((z : A) → p z ≡ true → q z ≡ true) → (ys : List A) → list_all p ys ≡ true → list_all q ys ≡ true
 all_of_more p q f [] h = refl
-all_of_more p q f (y ∷ ys) h = let both = both_true (p y) (list_all p ys) h in (λ i. f y (both.0) i && all_of_more p q f ys (both.1) i)
+all_of_more p q f (y ∷ ys) h = let both = and_parts (p y) (list_all p ys) h in (λ i. f y (both.0) i && all_of_more p q f ys (both.1) i)
 
 below_all : {A : Type 0} (cmp : A → A → Ordering) → IsTotalOrder cmp → (x y z : A) → cmp x y ≡ Less → (o : Ordering) → cmp y z ≡ o → not (is_gt o) ≡ true → not_above cmp x z ≡ true
 below_all cmp total x y z p Less q h = ap (λ o. not (is_gt o)) (total.trans x y z p q)
 below_all cmp total x y z p Equal q h = ap (λ o. not (is_gt o)) (total.antisymm x z ∙ ap ordering_reverse (sym (total.congr y z x q)) ∙ sym (total.antisymm x y) ∙ p)
-below_all cmp total x y z p Greater q h = absurd (false_is_not_true h)
+below_all cmp total x y z p Greater q h = absurd (false≢true h)
 
 stays_in_order : {A : Type 0} (cmp : A → A → Ordering) → IsTotalOrder cmp → (x : A) (ys : List A) → is_in_order cmp ys ≡ true → is_in_order cmp (before_higher cmp x ys) ≡ true
 stays_in_order cmp total x [] h = refl
-stays_in_order {A} cmp total x (y ∷ ys) h = split (stays_in_order cmp total x ys ((both_true (list_all (not_above cmp y) ys) (is_in_order cmp ys) h).1)) (cmp x y) refl
+stays_in_order {A} cmp total x (y ∷ ys) h = split (stays_in_order cmp total x ys ((and_parts (list_all (not_above cmp y) ys) (is_in_order cmp ys) h).1)) (cmp x y) refl
   where
     after : list_all (not_above cmp y) ys ≡ true
-    after = (both_true (list_all (not_above cmp y) ys) (is_in_order cmp ys) h).0
+    after = (and_parts (list_all (not_above cmp y) ys) (is_in_order cmp ys) h).0
 
     split : is_in_order cmp (before_higher cmp x ys) ≡ true → (o : Ordering) → cmp x y ≡ o → is_in_order cmp (if is_gt o then y ∷ before_higher cmp x ys else x ∷ y ∷ ys) ≡ true
     split k Less e = (λ i. (not (is_gt (e i)) && all_of_more (not_above cmp y) (not_above cmp x) (λ z n. below_all cmp total x y z e (cmp y z) refl n) ys after i) && h i)

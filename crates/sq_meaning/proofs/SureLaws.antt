@@ -3,6 +3,8 @@
 use Rattle.std.proofs.Common.{◌≡◌, inl, inr, ℕ, Bool, true, false, ◌&&◌, List, [], ◌∷◌, ◌++◌, map, Option, Some, None, refl, Ok, Err}
 use Rattle.std.specs.Prelude.{⊤, Result, if◌then◌else◌, not}
 use Rattle.std.specs.List.{AllByRecursion, list_all, flat_map}
+use Rattle.std.proofs.lemmas.Bool.{not-true}
+use Rattle.sq_value.proofs.Truths.{both_left, both_right}
 use Rattle.sq_value.specs.Pattern.{liked, pattern_items, cut_as_read, plain, with_item}
 use Rattle.sq_value.specs.SetFunctions.{is_null as is_null_value}
 use Rattle.sq_value.specs.Truth.{negation, known as known_truth, both, either}
@@ -31,18 +33,6 @@ use Rattle.sq_meaning.specs.Sure.{IsSureOutcome, is_extreme, is_sure_expr, is_su
 use Rattle.sq_meaning.proofs.AnswerLaws.{all_appended}
 
 -- ---- tests
-
-pub both_left : (a b : Bool) → (a && b) ≡ true → a ≡ true
-both_left true b h = refl
-both_left false b h = h
-
-pub both_right : (a b : Bool) → (a && b) ≡ true → b ≡ true
-both_right true b h = h
-both_right false b h = cc
-
-not_true : (b : Bool) → not b ≡ true → b ≡ false
-not_true true h = cc
-not_true false h = refl
 
 pub all_passed : {A : Type 0} (p : A → Bool) (xs : List A) → list_all p xs ≡ true → AllByRecursion (λ x. p x ≡ true) xs
 all_passed p [] h = tt
@@ -341,7 +331,7 @@ module _ {T : Type 0} (may_fail : T → Bool) (tables : T → Outcome (List Row)
   from_there : (from : List T) → list_all (λ t. not (may_fail t)) from ≡ true → AllByRecursion (λ t. IsSureOutcome (tables t)) from
   from_there [] h = tt
   from_there (t ∷ from) h =
-      (there t (not_true (may_fail t) (both_left (not (may_fail t)) (list_all (λ t. not (may_fail t)) from) h)), from_there from (both_right (not (may_fail t)) (list_all (λ t. not (may_fail t)) from) h))
+      (there t (not-true (may_fail t) (both_left (not (may_fail t)) (list_all (λ t. not (may_fail t)) from) h)), from_there from (both_right (not (may_fail t)) (list_all (λ t. not (may_fail t)) from) h))
 
   mutual
     truth_no_fault : (c : Cond (Placed T)) (env : Env (Unit {0})) → is_sure may_fail c ≡ true → IsSureOutcome (truth (by_place tables) c env)

@@ -11,6 +11,7 @@ use Rattle.std.specs.Result.{result_ok}
 use Rattle.std.specs.List.{cons_option}
 use Rattle.std.specs.Borrow.{Bor}
 use Rattle.std.proofs.lemmas.Cmp.{nat_list_eq_equiv}
+use Rattle.sq_value.proofs.Truths.{or_false, or_true}
 use Rattle.indexmap.specs.IndexMap.{insert_entry}
 use Rattle.sq_lex.specs.declared.name.Name.{Name}
 use Rattle.sq_tree.specs.declared.module.Cursor.{Cursor}
@@ -48,7 +49,6 @@ use Rattle.sq_module.specs.declared.admission.AdmittedProcedure.{AdmittedProcedu
 use Rattle.sq_module.specs.declared.program.DeclaredCursor.{DeclaredCursor}
 use Rattle.sq_module.proofs.Apart.{any_mapped, count_cons, count_mapped, counted_any, none_before, none_counted, once_found}
 use Rattle.sq_module.proofs.Listed.{found_named, found_written}
-use Rattle.sq_module.proofs.Openers.{or_false, or_true}
 use Rattle.sq_module.proofs.Opening.{lookup_inserted, lookup_other, number_there}
 use Rattle.sq_module.proofs.Written.{all_at}
 

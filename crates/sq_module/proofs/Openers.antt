@@ -5,6 +5,7 @@ use Rattle.std.proofs.lemmas.List.Folds.{list_any-append}
 use Rattle.std.proofs.lemmas.List.Sums.{sum_by-append}
 use Rattle.std.specs.List.{list_any}
 use Rattle.std.specs.Prelude.{nat_lt}
+use Rattle.sq_value.proofs.Truths.{or_false, or_true}
 use Rattle.indexmap.specs.IndexSet.{insert_key}
 use Rattle.sq_lex.specs.declared.name.Name.{Name}
 use Rattle.sq_tree.specs.declared.module.ModuleItem.{ModuleItem}
@@ -12,14 +13,6 @@ use Rattle.sq_meaning.specs.Environment.{same_name}
 use Rattle.sq_binding.proofs.SameParameters.{names_equal}
 use Rattle.sq_module.specs.declared.opener.Openers.{Openers}
 use Rattle.sq_module.specs.Refusal.{AreOpeners, is_some_name, opened_in, opener_count}
-
-pub or_false : (b : Bool) → (b || false) ≡ b
-or_false true = refl
-or_false false = refl
-
-pub or_true : (b : Bool) → (b || true) ≡ true
-or_true true = refl
-or_true false = refl
 
 -- a name is among those with one more if it was, or is that one
 inserted : (keys : List Name) (name c : Name) → list_any (same_name c) (insert_key same_name keys name) ≡ (list_any (same_name c) keys || same_name c name)

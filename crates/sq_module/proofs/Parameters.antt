@@ -7,6 +7,7 @@ use Rattle.std.proofs.lemmas.List.{append-nil, length-map, map-append, take-appe
 use Rattle.std.proofs.lemmas.List.Elements.{filter_map-append}
 use Rattle.std.proofs.lemmas.List.Folds.{list_any-append}
 use Rattle.std.specs.List.{list_any}
+use Rattle.sq_value.proofs.Truths.{or_false, or_true}
 use Rattle.sq_lex.specs.declared.name.Name.{Name}
 use Rattle.sq_tree.specs.declared.module.Declaration.{Declaration}
 use Rattle.sq_tree.specs.declared.module.Declaration.TheVariants as declaration
@@ -19,14 +20,6 @@ use Rattle.sq_bound.specs.declared.names.ParameterDesc.{ParameterDesc}
 use Rattle.sq_module.specs.Written.{named_as, named_in}
 
 -- ---- names used twice
-
-or_false : (a : Bool) → (a || false) ≡ a
-or_false true = refl
-or_false false = refl
-
-or_true : (a : Bool) → (a || true) ≡ true
-or_true true = refl
-or_true false = refl
 
 middle : (a b c d : Bool) → ((a || b) || (c || d)) ≡ ((a || c) || (b || d))
 middle true b c d = refl
@@ -154,6 +147,3 @@ many n m same lt = grind (arith, nat_tests, same, lt)
 -- which are refused
 pub bad_declared : (ds : List ParameterDeclaration) (are many : Bool) → are_bad ds ≡ are → nat_lt 64 (length ds) ≡ many → has_bad_declared ds ≡ (are || many)
 bad_declared ds are many e h = ap₂ (λ a b. a || b) e h
-
-pub is_bad_either : (b : Bool) → (b || true) ≡ true
-is_bad_either b = or_true b

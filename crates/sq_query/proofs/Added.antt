@@ -3,7 +3,7 @@ use Rattle.std.proofs.Common.{◌≡◌, ◌∙◌, ℕ, ◌+◌, ◌<◌, ◌�
 use Rattle.std.specs.List.{AllByRecursion, list_any}
 use Rattle.std.specs.Option.{option_map}
 use Rattle.std.specs.Prelude.{◌||◌, if◌then◌else◌, OnOk}
-use Rattle.std.proofs.lemmas.Bool.{eqb-true, eq-eqb}
+use Rattle.std.proofs.lemmas.Bool.{eqb-true, eq-eqb, or_left}
 use Rattle.std.proofs.lemmas.List.{drop_more}
 use Rattle.std.proofs.lemmas.List.Folds.{list_any-append}
 use Rattle.std.proofs.lemmas.List.Sums.{fold-append}
@@ -42,10 +42,6 @@ Places = List ℕ × List ℕ
 abbrev pub is : ℕ → ℕ → Bool
 is place other = nat_eq other place
 
-or_more : (a b : Bool) → a ≡ true → (a || b) ≡ true
-or_more true b h = refl
-or_more false b h = absurd cc
-
 or_last : (a b : Bool) → b ≡ true → (a || (b || false)) ≡ true
 or_last true b h = refl
 or_last false true h = refl
@@ -58,7 +54,7 @@ one_of false false h first second = absurd cc
 
 any_kept : (places : List ℕ) (p q : ℕ) (there : Bool) → list_any (is p) places ≡ true → list_any (is p) (if there then places else places ++ q ∷ []) ≡ true
 any_kept places p q true h = h
-any_kept places p q false h = list_any-append (is p) places (q ∷ []) ∙ or_more (list_any (is p) places) (list_any (is p) (q ∷ [])) h
+any_kept places p q false h = list_any-append (is p) places (q ∷ []) ∙ or_left (list_any (is p) places) (list_any (is p) (q ∷ [])) h
 
 any_own : (places : List ℕ) (q : ℕ) (there : Bool) → list_any (is q) places ≡ there → list_any (is q) (if there then places else places ++ q ∷ []) ≡ true
 any_own places q true h = h

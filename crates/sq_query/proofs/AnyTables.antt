@@ -1,6 +1,7 @@
 -- What reads no table means the same over any tables.
 use Rattle.std.proofs.Common.{◌≡◌, false, List, [], ◌∷◌, ◌++◌, map, Option, Some, None, refl, Ok}
 use Rattle.std.specs.Prelude.{if◌then◌else◌}
+use Rattle.sq_value.proofs.Truths.{neither_left, neither_right}
 use Rattle.sq_value.specs.Pattern.{liked}
 use Rattle.sq_value.specs.SetFunctions.{is_null as is_null_value}
 use Rattle.sq_value.specs.Truth.{negation, known}
@@ -16,7 +17,7 @@ use Rattle.sq_meaning.specs.Target.{has_subquery, have_subquery}
 use Rattle.sq_bound.specs.Condition.{PlacedCond, PlacedClause}
 use Rattle.sq_bound.specs.Expression.{PlacedExpr}
 use Rattle.sq_bound.specs.declared.condition.TablePlace.{TablePlace}
-use Rattle.sq_condition.proofs.Conditions.{not_both, neither_left, neither_right}
+use Rattle.sq_condition.proofs.Conditions.{not_both}
 
 module _ (here there : TablePlace → Outcome (List Row)) where
   pub value_over : (e : PlacedExpr) (env : Env (Unit {0})) → value (by_place here) e env ≡ value (by_place there) e env

@@ -2,7 +2,7 @@
 use Rattle.std.proofs.Common.{◌≡◌, ◌∙◌, ◌+◌, ◌-◌, ◌⊎◌, inl, inr, ℕ, zero, suc, arith, Bool, true, false, not, ◌||◌, List, [], ◌∷◌, cond, drop, filter, fold, length, map, nat_eq, take, Option, Some, None, Bor, refl, sym, ap, subst}
 use Rattle.std.specs.Prelude.{IfSome, IsSomeAnd, Vec}
 use Rattle.std.specs.declared.alloc.Global.{Global}
-use Rattle.std.proofs.lemmas.Bool.{eqb-true}
+use Rattle.std.proofs.lemmas.Bool.{eqb-true, or_right}
 use Rattle.std.proofs.lemmas.List.{take_all}
 use Rattle.std.specs.List.{AllByRecursion, Contains, list_any}
 use Rattle.sq_meaning.specs.Environment.{Line, Row, alone}
@@ -100,10 +100,6 @@ module _ (q : BoundSpecification) (a : Around) (found : List BaseRows) (ts : Lis
 
 -- ---- what was not found
 
-or_either : (a b : Bool) → b ≡ true → (a || b) ≡ true
-or_either true b h = refl
-or_either false b h = h
-
 any_fewer : {A : Type 0} (P test : A → Bool) (xs : List A) → list_any P (filter test xs) ≡ true → list_any P xs ≡ true
 any_fewer P test [] h = h
 any_fewer {A} P test (x ∷ xs) h = so (test x) h (any_fewer P test xs)
@@ -114,7 +110,7 @@ any_fewer {A} P test (x ∷ xs) h = so (test x) h (any_fewer P test xs)
         one : (a : Bool) → (a || list_any P (filter test xs)) ≡ true → (list_any P (filter test xs) ≡ true → list_any P xs ≡ true) → (a || list_any P xs) ≡ true
         one true h later = refl
         one false h later = later h
-    so false h later = or_either (P x) (list_any P xs) (later h)
+    so false h later = or_right (P x) (list_any P xs) (later h)
 
 any_left : (test : ℕ → Bool) (p : ℕ) → test p ≡ true → (xs : List ℕ) → list_any (λ x. nat_eq x p) xs ≡ true → list_any (λ x. nat_eq x p) (filter test xs) ≡ true
 any_left test p passes [] h = h
@@ -127,7 +123,7 @@ any_left test p passes (x ∷ xs) h = so (nat_eq x p) refl h (any_left test p pa
     so false e h later = pick (test x) (later h)
       where
         pick : (b : Bool) → list_any (λ y. nat_eq y p) (filter test xs) ≡ true → list_any (λ y. nat_eq y p) (cond b (x ∷ filter test xs) (filter test xs)) ≡ true
-        pick true h = or_either (nat_eq x p) (list_any (λ y. nat_eq y p) (filter test xs)) h
+        pick true h = or_right (nat_eq x p) (list_any (λ y. nat_eq y p) (filter test xs)) h
         pick false h = h
 
 module _ (before : Needed) (bases : Vec ℕ Global) (found : List BaseRows) (is : bases.items ≡ filter (λ b. not (is_found b found)) before.bases.items) where

@@ -1,6 +1,6 @@
 -- The kinds of a query expression, term by term (ISO/IEC 9075:1992, 7.10).
-use Rattle.std.proofs.Common.{◌≡◌, ℕ, zero, suc, ◌<◌, Bool, true, false, ◌&&◌, List, [], ◌∷◌, ◌++◌, length, take, get_or, arith, refl, sym, subst, ap, ◌∙◌, Ok, Err}
-use Rattle.std.proofs.lemmas.Bool.{eqb-true}
+use Rattle.std.proofs.Common.{◌≡◌, ℕ, zero, suc, ◌<◌, Bool, true, false, List, [], ◌∷◌, ◌++◌, length, take, get_or, arith, refl, sym, subst, ap, ◌∙◌, Ok, Err}
+use Rattle.std.proofs.lemmas.Bool.{eqb-true, and_parts}
 use Rattle.std.specs.Prelude.{if◌then◌else◌, fold, flat_map}
 use Rattle.std.specs.Cmp.Lexicographic.{pointwise}
 use Rattle.std.specs.List.{AllByRecursion}
@@ -36,15 +36,11 @@ one_kind (kind.Vary m) (kind.Num t) h = absurd cc
 one_kind (kind.Vary m) (kind.Chars n) h = absurd cc
 one_kind (kind.Vary m) (kind.Vary n) h = ap kind.Vary (eqb-true m n h)
 
-pub both_true : (a b : Bool) → (a && b) ≡ true → (a ≡ true) × (b ≡ true)
-both_true true b h = (refl, h)
-both_true false b h = absurd cc
-
 all_kinds : (ks ls : List Kind) → pointwise same_kind ks ls ≡ true → ks ≡ ls
 all_kinds [] [] h = refl
 all_kinds [] (l ∷ ls) h = absurd cc
 all_kinds (k ∷ ks) [] h = absurd cc
-all_kinds (k ∷ ks) (l ∷ ls) h = let b = both_true (same_kind k l) (pointwise same_kind ks ls) h in (λ i. one_kind k l b.0 i ∷ all_kinds ks ls b.1 i)
+all_kinds (k ∷ ks) (l ∷ ls) h = let b = and_parts (same_kind k l) (pointwise same_kind ks ls) h in (λ i. one_kind k l b.0 i ∷ all_kinds ks ls b.1 i)
 
 abbrev kept_if : Bool → List Kind → Kinds
 kept_if b ks = if b then Ok ks else not_well_formed

@@ -1,7 +1,8 @@
 -- The columns of a key of a base table are NOT NULL, and so no row of the base table is null in them (ISO/IEC 9075:1992, 11.7).
-use Rattle.std.proofs.Common.{◌≡◌, ℕ, zero, suc, ◌+◌, ◌<◌, Bool, true, false, not, List, [], ◌∷◌, length, map, refl, Some, sym, ap, subst, ◌∙◌, arith, Ok}
+use Rattle.std.proofs.Common.{◌≡◌, ℕ, zero, suc, ◌+◌, ◌<◌, Bool, true, false, List, [], ◌∷◌, length, map, Some, sym, ap, subst, ◌∙◌, arith, Ok}
 use Rattle.std.specs.Prelude.{slice_get, slice_index_or}
 use Rattle.std.specs.List.{AllByRecursion, Contains, enumerate_from, list_all, list_any, zip}
+use Rattle.std.proofs.lemmas.Bool.{not-true}
 use Rattle.sq_value.specs.SetFunctions.{is_null}
 use Rattle.sq_value.specs.declared.value.Value.{Value}
 use Rattle.sq_store.specs.Content.{Content, table_at}
@@ -45,10 +46,6 @@ rows_have_values content bases place b nulls at =
 
 -- ---- a key
 
-pub is_not : (b : Bool) → not b ≡ true → b ≡ false
-is_not true h = cc
-is_not false h = refl
-
 abbrev pub flags : BaseTable → List Bool
 flags b = map (λ (c : BaseColumn). c.not_null) b.columns
 
@@ -63,4 +60,4 @@ key_not_null bases keys place b key keys_are at within =
 pub key_value : (b : BaseTable) (columns : List ℕ) (row : Row) → list_all (is_not_null (flags b)) columns ≡ true → has_its_values b row ≡ true → (n : ℕ) (x : Value) → Contains columns n → well_formed (slice_get row n) ≡ Ok x
     → is_null x ≡ false
 key_value b columns row not_null has_values n x among there =
-    value_there b.columns row n x there (subst (λ m. is_not_null (flags b) m ≡ true) among.2 (test_at (is_not_null (flags b)) columns among.0 n not_null among.1)) (is_not (list_any lacks_value (zip b.columns row)) has_values)
+    value_there b.columns row n x there (subst (λ m. is_not_null (flags b) m ≡ true) among.2 (test_at (is_not_null (flags b)) columns among.0 n not_null among.1)) (not-true (list_any lacks_value (zip b.columns row)) has_values)

@@ -4,13 +4,13 @@ use Rattle.std.specs.List.{AllByRecursion, list_any}
 use Rattle.std.specs.Prelude.{if◌then◌else◌}
 use Rattle.std.proofs.lemmas.List.{drop_more, take_more, map_push}
 use Rattle.std.proofs.Math.ListN.{drop_of_length-le}
+use Rattle.sq_value.proofs.Truths.{neither_left, neither_right}
 use Rattle.sq_value.specs.declared.truth.Truth.{Truth}
 use Rattle.sq_value.specs.declared.truth.Truth.TheVariants.{False, Unknown, True}
 use Rattle.sq_meaning.specs.Status.{Outcome, ◌>>=◌}
 use Rattle.sq_meaning.specs.Query.{is_true}
 use Rattle.sq_expression.specs.Fault.{Meets, status_of}
 use Rattle.sq_query.specs.Target.{are_true}
-use Rattle.sq_condition.proofs.Conditions.{neither_left, neither_right}
 use Rattle.sq_expression.specs.declared.fault.Fault.{Fault}
 use Rattle.sq_expression.specs.declared.fault.Fault.TheVariants as fault
 

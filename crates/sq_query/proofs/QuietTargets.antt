@@ -3,6 +3,7 @@ use Rattle.std.proofs.Common.{◌≡◌, ℕ, zero, suc, ◌<◌, Bool, true, fa
 use Rattle.std.proofs.lemmas.List.Folds.{list_any-append}
 use Rattle.std.specs.Prelude.{if◌then◌else◌, IfSome, IsErrAnd}
 use Rattle.std.specs.List.{AllByRecursion, list_any}
+use Rattle.sq_value.proofs.Truths.{neither_left, neither_right}
 use Rattle.sq_lex.specs.declared.name.Name.{Name}
 use Rattle.sq_value.specs.declared.truth.Truth.{Truth}
 use Rattle.sq_value.specs.declared.value.Value.{Value}
@@ -21,7 +22,6 @@ use Rattle.sq_expression.specs.Fault.{Meets}
 use Rattle.sq_expression.specs.declared.fault.Fault.{Fault}
 use Rattle.sq_expression.specs.declared.fault.Fault.TheVariants as fault
 use Rattle.sq_expression.proofs.Expressions.{handed_on}
-use Rattle.sq_condition.proofs.Conditions.{neither_left, neither_right}
 use Rattle.sq_query.specs.Keyed.{IsKeyedTarget, ReadsNoTable}
 use Rattle.sq_query.specs.Row.{truth_on_row}
 use Rattle.sq_query.specs.Target.{IsChosen, and_own, are_true, conditions_of}

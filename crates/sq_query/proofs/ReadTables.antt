@@ -1,7 +1,7 @@
 -- The base tables and views that a statement needs are read as they are meant (ISO/IEC 9075:1992, 11.19).
 use Rattle.std.proofs.Common.{◌≡◌, arith, ℕ, ◌+◌, ◌<◌, ◌≤◌, nat_eq, Bool, true, false, List, [], ◌∷◌, ◌++◌, length, map, find, cond, Option, Some, None, Result, Vec, refl, sym, ap, subst, ◌∙◌, Ok, Err, slice_get, ⊎_elim, nat_lt}
 use Rattle.std.proofs.Math.Nat.{eq-or-lt_of_le}
-use Rattle.std.proofs.lemmas.Bool.{eqb-true, eq-eqb}
+use Rattle.std.proofs.lemmas.Bool.{eqb-true, eq-eqb, or_right}
 use Rattle.std.proofs.lemmas.Bool.Decides.{nat_tests}
 use Rattle.std.specs.declared.alloc.Global.{Global}
 use Rattle.std.specs.List.{AllByRecursion, list_any}
@@ -176,12 +176,8 @@ module _ (content : Content) where
   each_stored [] h = refl
   each_stored (p ∷ ps) h =
       let here : table_there content p ≡ Ok (table_at content p) = h p (ap (λ b. b || list_any (is p) ps) (eq-eqb p p refl)) in
-      let later : each (stored_base content) ps ≡ Ok (map stored_pair ps) = each_stored ps (λ n among. h n (or_later (nat_eq p n) (list_any (is n) ps) among)) in
+      let later : each (stored_base content) ps ≡ Ok (map stored_pair ps) = each_stored ps (λ n among. h n (or_right (nat_eq p n) (list_any (is n) ps) among)) in
       (λ i. and_then (stored_by p (here i)) (λ y. and_then (later i) (λ ys. Ok (y ∷ ys))))
-    where
-      or_later : (a b : Bool) → b ≡ true → (a || b) ≡ true
-      or_later true b e = refl
-      or_later false b e = e
 
   pair_place : (b : BaseRows) (q : ℕ) → base_seen b ≡ stored_pair q → b.place ≡ q
   pair_place b q e = ap (λ (x : ℕ × List Row). x.0) e

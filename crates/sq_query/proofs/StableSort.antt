@@ -8,13 +8,10 @@ use Rattle.std.specs.Ordering.{is_lt, is_gt, is_eq, ordering_reverse}
 use Rattle.std.specs.declared.cmp.Ordering.{Ordering}
 use Rattle.std.specs.declared.cmp.Ordering.TheVariants.{Less, Equal, Greater}
 use Rattle.std.proofs.lemmas.List.MinMax.{ranks_by}
+use Rattle.std.proofs.lemmas.Bool.{and_parts}
 use Rattle.sq_meaning.specs.Rows.{sorted}
 use Rattle.sq_meaning.proofs.RowLaws.{is_in_order, not_above, is_sorted, ties_stay}
 use Rattle.sq_meaning.proofs.RowLaws as law
-
-both_true : (a b : Bool) → (a && b) ≡ true → (a ≡ true) × (b ≡ true)
-both_true true b h = (refl, h)
-both_true false b h = cc
 
 module _ {A : Type 0} (lt : A → A → Bool) where
   -- none is below x
@@ -111,13 +108,13 @@ module _ {A : Type 0} (cmp : A → A → Ordering) (total : IsTotalOrder cmp) wh
   all_up : (x : A) (ys : List A) → list_all (not_above cmp x) ys ≡ true → AllUp below x ys
   all_up x [] h = tt
   all_up x (y ∷ ys) h =
-      let b = both_true (not_above cmp x y) (list_all (not_above cmp x) ys) h in
+      let b = and_parts (not_above cmp x y) (list_all (not_above cmp x) ys) h in
       (not_lower (cmp x y) (cmp y x) (total.antisymm y x) b.0, all_up x ys b.1)
 
   in_order_up : (ys : List A) → is_in_order cmp ys ≡ true → IsUp below ys
   in_order_up [] h = tt
   in_order_up (y ∷ ys) h =
-      let b = both_true (list_all (not_above cmp y) ys) (is_in_order cmp ys) h in
+      let b = and_parts (list_all (not_above cmp y) ys) (is_in_order cmp ys) h in
       (all_up y ys b.0, in_order_up ys b.1)
 
   same_ties : (w : A) (ys : List A) → filter (law.ties cmp w) ys ≡ filter (ties below w) ys

@@ -3,6 +3,7 @@
 use Rattle.std.proofs.Common.{◌≡◌, ◌∙◌, ℕ, Bool, true, false, ◌||◌, List, [], ◌∷◌, ◌++◌, map, cond, find, Option, Some, None, Vec, Global, Bor, Result, refl, sym, ap, subst, Ok, Err}
 use Rattle.std.specs.Prelude.{IfErr, IfOk, if◌then◌else◌}
 use Rattle.std.specs.List.{AllByRecursion, list_any}
+use Rattle.sq_value.proofs.Truths.{neither_left, neither_right}
 use Rattle.sq_lex.specs.declared.name.Name.{Name}
 use Rattle.sq_value.specs.declared.domain.Kind.{Kind}
 use Rattle.sq_value.specs.declared.truth.Truth.{Truth}
@@ -32,7 +33,6 @@ use Rattle.sq_bound.proofs.Wider.{is_cond_wider}
 use Rattle.sq_expression.specs.Fault.{Meets, MeetsAs}
 use Rattle.sq_expression.specs.declared.fault.Fault.{Fault}
 use Rattle.sq_expression.specs.declared.fault.Fault.TheVariants as fault
-use Rattle.sq_condition.proofs.Conditions.{neither_left, neither_right}
 use Rattle.sq_query.specs.Key.{StandsOn}
 use Rattle.sq_query.specs.Meant.{IsKeyUnder}
 use Rattle.sq_query.specs.Row.{truth_on_row}

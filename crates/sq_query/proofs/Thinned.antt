@@ -4,6 +4,8 @@ use Rattle.std.proofs.Common.{◌≡◌, ◌∙◌, ℕ, zero, suc, ◌<◌, Boo
 use Rattle.std.specs.Prelude.{if◌then◌else◌, option_to_list, slice_get, slice_index_or}
 use Rattle.std.specs.Cmp.Lexicographic.{pointwise}
 use Rattle.std.specs.List.{AllByRecursion, AllZip, Contains, list_any, zip}
+use Rattle.std.proofs.lemmas.Bool.{not-true}
+use Rattle.sq_value.proofs.Truths.{neither_left, neither_right, or_false}
 use Rattle.sq_value.specs.Comparison.{is_same}
 use Rattle.sq_value.specs.Domain.{kind_of}
 use Rattle.sq_value.specs.Key.{in_columns}
@@ -24,12 +26,11 @@ use Rattle.sq_bound.specs.WellFormed.{base_kinds}
 use Rattle.sq_bound.specs.declared.expression.BoundExpr.{BoundExpr}
 use Rattle.sq_bound.specs.declared.names.BaseColumn.{BaseColumn}
 use Rattle.sq_bound.specs.declared.names.BaseTable.{BaseTable}
-use Rattle.sq_condition.proofs.Conditions.{neither_left, neither_right}
 use Rattle.sq_query.specs.Search.{rows_by_key}
 use Rattle.sq_query.specs.Shown.{Shows}
 use Rattle.sq_query.specs.ValueScan.{may_have}
 use Rattle.sq_query.specs.declared.key.KnownKey.{KnownKey}
-use Rattle.sq_query.proofs.KeyColumns.{flags, is_not, key_not_null, rows_have_values}
+use Rattle.sq_query.proofs.KeyColumns.{flags, key_not_null, rows_have_values}
 use Rattle.sq_query.proofs.KeyLacked.{unnull}
 use Rattle.sq_query.proofs.KeyOut.{all_both}
 use Rattle.sq_query.proofs.KeySearch.{itself}
@@ -128,12 +129,8 @@ none_null [] row known = refl
 none_null (c ∷ columns) row known =
     ap (λ b. b || list_any is_null (in_columns row columns)) (known c (0, omega arith, refl)) ∙ none_null columns row (λ n among. known n (suc among.0, omega (arith, among.1), among.2))
 
-or_none : (b : Bool) → (b || false) ≡ b
-or_none true = refl
-or_none false = refl
-
 may_known : (columns : List ℕ) (values : List Value) (row : Row) → IsKnownIn columns row → has_values columns values row ≡ may_have columns values row
-may_known columns values row known = sym (ap (λ b. has_values columns values row || b) (none_null columns row known) ∙ or_none (has_values columns values row))
+may_known columns values row known = sym (ap (λ b. has_values columns values row || b) (none_null columns row known) ∙ or_false (has_values columns values row))
 
 filter_alike : (test other : Row → Bool) (rows : List Row) → AllByRecursion (λ row. test row ≡ other row) rows → filter test rows ≡ filter other rows
 filter_alike test other [] same = refl
@@ -170,7 +167,7 @@ module _ (bases : List BaseTable) (content : Content) (keys : List Keys) (base :
   row_known row is_row has_values n among =
       let written : is_not_null (flags b) n ≡ true =
       subst (λ m. is_not_null (flags b) m ≡ true) among.2 (test_at (is_not_null (flags b)) own_columns among.0 n (key_not_null bases keys base b known.key keys_are at is_key) among.1) in
-      cell_known b.columns row n is_row written (is_not (list_any lacks_value (zip b.columns row)) has_values)
+      cell_known b.columns row n is_row written (not-true (list_any lacks_value (zip b.columns row)) has_values)
 
   rows_known : AllByRecursion (IsKnownIn own_columns) (rows_in (table_at content base))
   rows_known =

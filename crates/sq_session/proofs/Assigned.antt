@@ -5,6 +5,7 @@ use Rattle.std.proofs.lemmas.List.Folds.{list_any-append}
 use Rattle.std.specs.Prelude.{fold}
 use Rattle.std.specs.List.{list_any}
 use Rattle.std.specs.Option.{option_map}
+use Rattle.sq_value.proofs.Truths.{or_assoc, or_false}
 use Rattle.sq_value.specs.declared.value.Value.{Value}
 use Rattle.sq_value.proofs.Cutting.{any_map}
 use Rattle.sq_tree.specs.declared.cond.Comparison.{Comparison}
@@ -31,10 +32,6 @@ use Rattle.sq_bound.proofs.ConditionLaws.{cond_of-out, conj_of-out, test_of-out,
 use Rattle.sq_bound.proofs.ExpressionLaws.{expr_of-Literal, expr_of-Parameter, expr_of-User, expr_of-Column, expr_of-SetFunction, expr_of-Signed, expr_of-Operations, operation_of-out}
 use Rattle.sq_query.specs.Target.{and_own}
 use Rattle.sq_session.specs.Reads.{cond_reads, conds_read, escape_reads, expr_reads, is_assigned, one_reads}
-
-or_assoc : (a b c : Bool) → ((a || b) || c) ≡ (a || (b || c))
-or_assoc true b c = refl
-or_assoc false b c = refl
 
 -- ---- expressions
 
@@ -150,12 +147,8 @@ all_taken test xs i enough passes = ap (list_any test) (sym (take_all i xs enoug
 
 -- ---- the conditions of the views, and the target's own
 
-or_none : (b : Bool) → (b || false) ≡ b
-or_none true = refl
-or_none false = refl
-
 pub own_reads : (sets : List BoundAssignment) (conditions : List BoundCond) (c : BoundCond) → one_reads sets (and_own conditions (Some c)) ≡ (one_reads sets conditions || cond_reads sets (cond_of [] c))
-own_reads sets conditions c = list_any-append (λ d. cond_reads sets (cond_of [] d)) conditions (c ∷ []) ∙ ap (λ b. one_reads sets conditions || b) (or_none (cond_reads sets (cond_of [] c)))
+own_reads sets conditions c = list_any-append (λ d. cond_reads sets (cond_of [] d)) conditions (c ∷ []) ∙ ap (λ b. one_reads sets conditions || b) (or_false (cond_reads sets (cond_of [] c)))
 
 -- none of them does where neither those of the views nor the target's own do
 pub none_reads : (sets : List BoundAssignment) (conditions : List BoundCond) (own : Option BoundCond) (c : BoundCond) (views here : Bool) → own ≡ Some c → views ≡ one_reads sets conditions → views ≡ false

@@ -5,14 +5,11 @@ use Rattle.std.proofs.lemmas.Bool.{and_right, cases_lt}
 use Rattle.std.proofs.lemmas.Grind.{common_steps}
 use Rattle.std.proofs.Math.ListN.{set}
 use Rattle.std.specs.List.{list_any}
+use Rattle.sq_value.proofs.Truths.{or_false}
 use Rattle.sq_value.specs.Pattern.{can_be_cut, splits, fits}
 use Rattle.sq_value.specs.private.Pattern.{takes, AreCuts}
 use Rattle.sq_value.specs.declared.pattern.Item.{Item}
 use Rattle.sq_value.specs.declared.pattern.Item.TheVariants.{AnyRun, AnyOne, This}
-
-or_false : (b : Bool) → (b || false) ≡ b
-or_false true = refl
-or_false false = refl
 
 and_true : (b : Bool) → b ≡ (b && true)
 and_true true = refl

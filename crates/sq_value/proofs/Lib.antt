@@ -1,4 +1,5 @@
 pub mod Powers
+pub mod Truths
 pub mod Casts
 pub mod Digits
 pub mod Points
