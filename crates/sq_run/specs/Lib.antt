@@ -4,6 +4,7 @@ pub mod Answers
 pub mod Beside
 pub mod Committed
 pub mod Confined
+pub mod ConfinedCursors
 pub mod Defaults
 pub mod Faulty
 pub mod Integrity
@@ -15,6 +16,7 @@ pub mod Opens
 pub mod Processor
 pub mod Refused
 pub mod Reported
+pub mod RowNumbers
 pub mod ShownRows
 pub mod Stored
 pub mod TextRow
