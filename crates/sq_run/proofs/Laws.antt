@@ -18,4 +18,7 @@ pub mod IntegrityLaws
 pub mod ShownRowLaws
 pub mod DefaultLaws
 pub mod ConfinedLaws
+pub mod TargetColumns
+pub mod OpensAlike
+pub mod ConfinedCursorLaws
 pub mod RisingNumbers
