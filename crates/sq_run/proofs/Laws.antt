@@ -16,5 +16,6 @@ pub mod CalledAs
 pub mod IntegrityLaws
 pub mod ShownRowLaws
 pub mod DefaultLaws
+pub mod StoredDefaultLaws
 pub mod ConfinedLaws
 pub mod RisingNumbers

@@ -17,6 +17,7 @@ pub mod Refused
 pub mod Reported
 pub mod ShownRows
 pub mod Stored
+pub mod StoredDefaults
 pub mod TextRow
 pub mod Texts
 pub mod Trees
