@@ -17,6 +17,7 @@ pub mod CalledAs
 pub mod IntegrityLaws
 pub mod ShownRowLaws
 pub mod DefaultLaws
+pub mod StoredDefaultLaws
 pub mod ConfinedLaws
 pub mod TargetColumns
 pub mod OpensAlike

@@ -21,6 +21,7 @@ pub mod RowNumbers
 pub mod ShownRows
 pub mod Spelling
 pub mod Stored
+pub mod StoredDefaults
 pub mod TextRow
 pub mod Texts
 pub mod Trees
