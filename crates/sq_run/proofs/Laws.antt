@@ -17,5 +17,9 @@ pub mod CalledAs
 pub mod IntegrityLaws
 pub mod ShownRowLaws
 pub mod DefaultLaws
+pub mod StoredDefaultLaws
 pub mod ConfinedLaws
+pub mod TargetColumns
+pub mod OpensAlike
+pub mod ConfinedCursorLaws
 pub mod RisingNumbers

@@ -5,6 +5,7 @@ pub mod Asked
 pub mod Beside
 pub mod Committed
 pub mod Confined
+pub mod ConfinedCursors
 pub mod Defaults
 pub mod Faulty
 pub mod Integrity
@@ -16,9 +17,11 @@ pub mod Opens
 pub mod Processor
 pub mod Refused
 pub mod Reported
+pub mod RowNumbers
 pub mod ShownRows
 pub mod Spelling
 pub mod Stored
+pub mod StoredDefaults
 pub mod TextRow
 pub mod Texts
 pub mod Trees

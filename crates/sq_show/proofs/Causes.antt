@@ -33,6 +33,7 @@ close_cause s n vs ws state (cause.Select c) h = absurd h
 close_cause s n vs ws state (cause.NoRow c) h = absurd h
 close_cause s n vs ws state (cause.NoNumber table) h = absurd h
 close_cause s n vs ws state (cause.Clause c) h = absurd h
+close_cause s n vs ws state (cause.RowEnd r) h = let there = h.leaf_is in cc
 close_cause s n vs ws state (cause.General st) h = tt
 
 commit_cause : (s : Schemas) (vs ws : List Value) (state : State) (c : Cause) → IsStatementCause s (Kind.commits) vs state c → IsStatementCause s (Kind.commits) ws state c
@@ -46,6 +47,7 @@ commit_cause s vs ws state (cause.Select c) h = absurd h
 commit_cause s vs ws state (cause.NoRow c) h = absurd h
 commit_cause s vs ws state (cause.NoNumber table) h = absurd h
 commit_cause s vs ws state (cause.Clause c) h = absurd h
+commit_cause s vs ws state (cause.RowEnd r) h = let there = h.leaf_is in cc
 commit_cause s vs ws state (cause.General st) h = tt
 
 rollback_cause : (s : Schemas) (vs ws : List Value) (state : State) (c : Cause) → IsStatementCause s (Kind.rolls_back) vs state c → IsStatementCause s (Kind.rolls_back) ws state c
@@ -59,6 +61,7 @@ rollback_cause s vs ws state (cause.Select c) h = absurd h
 rollback_cause s vs ws state (cause.NoRow c) h = absurd h
 rollback_cause s vs ws state (cause.NoNumber table) h = absurd h
 rollback_cause s vs ws state (cause.Clause c) h = absurd h
+rollback_cause s vs ws state (cause.RowEnd r) h = let there = h.leaf_is in cc
 rollback_cause s vs ws state (cause.General st) h = tt
 
 of_update : (u : Updating) (t : ChangeTarget) → read_parameters (update_kind u t) ≡ u.caller.parameters
@@ -105,6 +108,7 @@ one_of_call s n vs k (cause.Select c) at h = record { kind = k; at = at; cause =
 one_of_call s n vs k (cause.NoRow c) at h = record { kind = k; at = at; cause = h }
 one_of_call s n vs k (cause.NoNumber table) at h = record { kind = k; at = at; cause = h }
 one_of_call s n vs k (cause.Clause c) at h = record { kind = k; at = at; cause = h }
+one_of_call s n vs k (cause.RowEnd r) at h = record { kind = k; at = at; cause = h }
 one_of_call s n vs k (cause.General st) at h = tt
 
 pub of_call : (s : Session) (n : ℕ) (vs : List Value) (k : Kind) (r : Result (Option Cause) AllocError) → kind_at s.procedures n ≡ Some k

@@ -19,6 +19,7 @@ use Rattle.sq_show.specs.Cursor.{IsCursorCause}
 use Rattle.sq_show.specs.Made.{IsMade, leaf_of}
 use Rattle.sq_show.specs.NoRow.{IsNoNumberCause, IsNoRowCause}
 use Rattle.sq_show.specs.Option.{IsOptionBreach}
+use Rattle.sq_show.specs.RowEnd.{IsRowEnd}
 use Rattle.sq_show.specs.Select.{IsSelectCause, status_of_select}
 use Rattle.sq_show.specs.Target.{IsTargetCause, status_of_target}
 use Rattle.sq_show.specs.Value.{IsValueCause}
@@ -38,6 +39,7 @@ status_of (cause.Select c) = status_of_select c
 status_of (cause.NoRow c) = status.NoData
 status_of (cause.NoNumber table) = status.NoRowNumberLeft
 status_of (cause.Clause c) = c.status
+status_of (cause.RowEnd e) = e.status
 status_of (cause.General st) = st
 
 -- ---- of changes that are made in the base table of a leaf; these are the columns of the keys of all tables
@@ -47,9 +49,10 @@ IsChangeCause s seen keys leaf changes (cause.Breach table b) =
     (table ≡ leaf.table.place) × IsBroken s seen keys leaf.table changes b
 IsChangeCause s seen keys leaf changes (cause.CheckOption table b) =
     (table ≡ leaf.table.place) × IsOptionBreach s seen leaf changes b
+IsChangeCause s seen keys leaf changes (cause.RowEnd e) = IsRowEnd s seen leaf changes e
 IsChangeCause s seen keys leaf changes _ = ⊥
 
--- the statement would make these changes, and this is what would not hold
+-- the statement would make these changes, and this is what would not hold, or would end with a status
 pub record ChangeCause (s : Schemas) (k : Kind) (values : List Value) (state : State) (c : Cause) : Type 0 where
   pub leaf : Leaf
   pub leaf_is : leaf_of k ≡ Some leaf
@@ -71,6 +74,7 @@ IsStatementCause s k values state (cause.Select c) = IsSelectCause s k values st
 IsStatementCause s k values state (cause.NoRow c) = IsNoRowCause s k values state c
 IsStatementCause s k values state (cause.NoNumber table) = IsNoNumberCause s k values state table
 IsStatementCause s k values state (cause.Clause c) = IsClauseCause s k values state c
+IsStatementCause s k values state (cause.RowEnd e) = ChangeCause s k values state (cause.RowEnd e)
 IsStatementCause s k values state (cause.General st) = ⊤
 
 -- the procedure has a statement without a fault, of which this is a cause
@@ -93,4 +97,5 @@ IsCause s procedure values (cause.Select c) = HasCause s procedure values (cause
 IsCause s procedure values (cause.NoRow c) = HasCause s procedure values (cause.NoRow c)
 IsCause s procedure values (cause.NoNumber table) = HasCause s procedure values (cause.NoNumber table)
 IsCause s procedure values (cause.Clause c) = HasCause s procedure values (cause.Clause c)
+IsCause s procedure values (cause.RowEnd e) = HasCause s procedure values (cause.RowEnd e)
 IsCause s procedure values (cause.General st) = ⊤

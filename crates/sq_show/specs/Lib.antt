@@ -18,6 +18,7 @@ pub mod Page
 pub mod Place
 pub mod Query
 pub mod QueryValue
+pub mod RowEnd
 pub mod Select
 pub mod Sessions
 pub mod SetValue

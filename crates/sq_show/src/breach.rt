@@ -1,4 +1,4 @@
-//! Which constraint or check option would not hold if a statement made its changes.
+//! Which constraint or check option would not hold, or would end with a status, if a statement made its changes.
 
 ghost use Rattle.std.specs.Prelude.{IfOk, IfSome};
 ghost use Rattle.sq_session.specs.Called.{IsWholeFor, MayPerform, kind_for};
@@ -17,7 +17,7 @@ use sq_session::{Called, Inside};
 use sq_store::Store;
 use std::alloc::AllocError;
 
-/// A constraint or a check option that would not hold if a statement made its changes.
+/// A constraint or a check option that would not hold if a statement made its changes, or would end with a status, as the status says.
 pub(crate) fn breach_of<S: Store>(
     called: &Called<'_>,
     inside: &Inside<'_, S>,

@@ -33,6 +33,8 @@ pub enum Cause {
     NoNumber(usize),
     /// A condition ends with a status on a row.
     Clause(ClauseCause),
+    /// A check option or a CHECK ends with a status on a row that the statement would put in.
+    RowEnd(RowEnd),
     /// The status alone.
     General(Status),
 }
@@ -229,6 +231,25 @@ pub enum Clause {
     Where,
 }
 
+/// A check option or a CHECK that ends with a status on a row that a statement would put in.
+#[derive(Clone, Copy)]
+pub struct RowEnd {
+    /// The place of the base table.
+    pub table: usize,
+    pub put: RowPut,
+    pub demand: Demand,
+    pub status: Status,
+}
+
+/// A condition that a row which is put in has to meet.
+#[derive(Clone, Copy)]
+pub enum Demand {
+    /// A check option: the condition of the view at this level over the base table, counted from 0 and from inside out.
+    View(usize),
+    /// The CHECK at this place in the definition of the base table, from 0.
+    Check(usize),
+}
+
 impl Cause {
     /// The status with which the call ended.
     pub fn status(&self) -> Status
@@ -245,6 +266,7 @@ impl Cause {
             Cause::NoRow(_) => Status::NoData,
             Cause::NoNumber(_) => Status::NoRowNumberLeft,
             Cause::Clause(clause) => clause.status,
+            Cause::RowEnd(end) => end.status,
             Cause::General(status) => *status,
         }
     }

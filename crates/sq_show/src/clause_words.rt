@@ -3,8 +3,8 @@
 ghost use Rattle.std.specs.Prelude.{◌≡◌, ◌++◌, IfSome, OnOk};
 ghost use Rattle.sq_show.specs.CauseWords.{words_of};
 
-use crate::breach_words::{write_column_of, write_table};
-use crate::cause::{Cause, Clause, ClauseCause, Given, NoRowCause, ValueCause};
+use crate::breach_words::{write_column_of, write_put, write_table};
+use crate::cause::{Cause, Clause, ClauseCause, Demand, Given, NoRowCause, RowEnd, ValueCause};
 use crate::cursors::{Stand, stand_of};
 use crate::option_words::only_view;
 use crate::words::{meaning, write_cursor};
@@ -78,18 +78,60 @@ pub(crate) fn write_clause<S: Store>(
 ) -> Result<(), AllocError> {
     match cause.clause {
         Clause::Where => words.extend_from_slice(b"WHERE")?,
-        Clause::View(level) => match only_view(session.catalog(), cause.table, level) {
-            Some(view) => {
-                words.extend_from_slice(b"WHERE of view ")?;
-                write_table(view, words)?;
-            }
-            None => words.extend_from_slice(b"WHERE of a view")?,
-        },
+        Clause::View(level) => write_where_of_view(session, cause.table, level, words)?,
     }
     write!(words, ", on row {} of ", cause.number).map_err(|_| AllocError)?;
     write_table_at(session, cause.table, words)?;
     words.extend_from_slice(b": ")?;
     words.extend_from_slice(meaning(cause.status))
+}
+
+/// `WHERE of view U1.V`
+fn write_where_of_view<S: Store>(
+    session: &Session<S>,
+    table: usize,
+    level: usize,
+    words: &mut Vec<u8>,
+) -> Result<(), AllocError> {
+    match only_view(session.catalog(), table, level) {
+        Some(view) => {
+            words.extend_from_slice(b"WHERE of view ")?;
+            write_table(view, words)
+        }
+        None => words.extend_from_slice(b"WHERE of a view"),
+    }
+}
+
+/// `CHECK 2 of U1.T, on new row 1: a division by zero`
+pub(crate) fn write_row_end<S: Store>(
+    session: &Session<S>,
+    end: RowEnd,
+    words: &mut Vec<u8>,
+) -> Result<(), AllocError> {
+    write_demand(session, end.table, end.demand, words)?;
+    words.extend_from_slice(b", on ")?;
+    write_put(end.put, words)?;
+    words.extend_from_slice(b": ")?;
+    words.extend_from_slice(meaning(end.status))
+}
+
+/// `CHECK 2 of U1.T`, or `check option, WHERE of view U1.V`
+fn write_demand<S: Store>(
+    session: &Session<S>,
+    table: usize,
+    demand: Demand,
+    words: &mut Vec<u8>,
+) -> Result<(), AllocError> {
+    match demand {
+        Demand::Check(check) => {
+            write!(words, "CHECK {} of ", check.saturating_add(1)).map_err(|_| AllocError)?;
+            write_table_at(session, table, words)
+        }
+        Demand::View(level) => {
+            words.extend_from_slice(b"check option, ")?;
+            write_where_of_view(session, table, level, words)
+        }
+    }
 }
 
 /// `value 2, for A of U1.T: a text is too long for its column`

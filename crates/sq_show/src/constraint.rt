@@ -1,4 +1,4 @@
-//! Which constraint or check option would not hold if changes were made (ISO/IEC 9075:1992, 4.10, 11.4, 11.7 to 11.9, 11.19).
+//! Which constraint or check option would not hold, or would end with a status, if changes were made (ISO/IEC 9075:1992, 4.10, 11.4, 11.7 to 11.9, 11.19).
 
 ghost use Rattle.std.specs.Prelude.{IfOk, IfSome};
 ghost use Rattle.sq_query.specs.Needed.{FindsConds};
@@ -15,6 +15,7 @@ use crate::key_breach::key_breach;
 use crate::option_breach::option_breach;
 use crate::reference_breach::{from_breach, to_breach};
 use crate::row_breach::row_breach;
+use crate::row_end::row_end;
 use sq_bound::{BaseTable, Leaf, Names};
 use sq_catalog::Catalog;
 use sq_change::Setting;
@@ -22,7 +23,7 @@ use sq_meaning::Status;
 use sq_store::{Change, Store};
 use std::alloc::AllocError;
 
-/// A constraint or a check option that would not hold if the changes were made, as the status says.
+/// A constraint or a check option that would not hold if the changes were made, or would end with a status, as the status says.
 pub(crate) fn cause_in<S: Store>(
     setting: &Setting<'_, Catalog, S>,
     leaf: &Leaf,
@@ -44,8 +45,12 @@ pub(crate) fn cause_in<S: Store>(
             Some(breach) => Ok(Some(Cause::CheckOption(table.place, breach))),
             None => Ok(None),
         },
-        _ => match breach_in(setting, table, changes)? {
+        Status::IntegrityConstraintViolation => match breach_in(setting, table, changes)? {
             Some(breach) => Ok(Some(Cause::Breach(table.place, breach))),
+            None => Ok(None),
+        },
+        _ => match row_end(setting, leaf, changes)? {
+            Some(end) => Ok(Some(Cause::RowEnd(end))),
             None => Ok(None),
         },
     }

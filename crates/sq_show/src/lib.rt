@@ -39,6 +39,7 @@ mod query_rows;
 mod query_value;
 mod reference_breach;
 mod row_breach;
+mod row_end;
 mod select;
 mod set_value;
 mod shell;
@@ -55,8 +56,8 @@ mod view;
 mod words;
 
 pub use cause::{
-    Breach, Cause, Clause, ClauseCause, CursorCause, Given, ItemFault, NoRowCause, OptionBreach,
-    Referring, RowPut, ValueCause, ValueFault,
+    Breach, Cause, Clause, ClauseCause, CursorCause, Demand, Given, ItemFault, NoRowCause,
+    OptionBreach, Referring, RowEnd, RowPut, ValueCause, ValueFault,
 };
 pub use item::item_size;
 pub use last::LastCall;

@@ -205,7 +205,7 @@ fn by_status<S: Store>(
             Some(table) => Ok(Some(Cause::NoNumber(table))),
             None => Ok(None),
         },
-        _ => of_values(called, inside, statement),
+        _ => of_values(called, inside, statement, status),
     }
 }
 
@@ -238,6 +238,7 @@ fn of_values<S: Store>(
     called: &Called<'_>,
     inside: &Inside<'_, S>,
     statement: &BoundStatement,
+    status: Status,
 ) -> Result<Option<Cause>, AllocError>
     requires may { MayPerform called.now statement.now }
     requires whole { IsWholeFor called.now
@@ -250,15 +251,17 @@ fn of_values<S: Store>(
 {
     match clause_cause(called, inside, statement)? {
         Some(cause) => Ok(Some(Cause::Clause(cause))),
-        None => value_or_target(called, inside, statement),
+        None => value_or_target(called, inside, statement, status),
     }
 }
 
-/// A value that the statement can't give its column, a target that can't take its value, or no only row for the targets.
+/// A value that the statement can't give its column, a target that can't take its value, no only row for the targets, or a condition
+/// that ends with the status on a row that the statement would put in.
 fn value_or_target<S: Store>(
     called: &Called<'_>,
     inside: &Inside<'_, S>,
     statement: &BoundStatement,
+    status: Status,
 ) -> Result<Option<Cause>, AllocError>
     requires may { MayPerform called.now statement.now }
     requires whole { IsWholeFor called.now
@@ -277,6 +280,6 @@ fn value_or_target<S: Store>(
     }
     match select_cause(called, inside, statement)? {
         Some(cause) => Ok(Some(Cause::Select(cause))),
-        None => Ok(None),
+        None => breach_of(called, inside, statement, status),
     }
 }

@@ -6,7 +6,9 @@ ghost use Rattle.sq_show.specs.Words.{IsContinued};
 
 use crate::breach_words::write_breach;
 use crate::cause::{Cause, CursorCause, SelectCause, TargetCause, TargetFault};
-use crate::clause_words::{write_clause, write_no_number, write_no_row, write_value_cause};
+use crate::clause_words::{
+    write_clause, write_no_number, write_no_row, write_row_end, write_value_cause,
+};
 use crate::option_words::write_option;
 use sq_lex::Name;
 use sq_meaning::Status;
@@ -78,6 +80,7 @@ fn write_words<S: Store>(
         Cause::NoRow(cause) => write_no_row(session, *cause, words),
         Cause::NoNumber(table) => write_no_number(session, *table, words),
         Cause::Clause(cause) => write_clause(session, *cause, words),
+        Cause::RowEnd(end) => write_row_end(session, *end, words),
         Cause::General(status) => words.extend_from_slice(meaning(*status)),
     }
 }

@@ -1,5 +1,5 @@
--- A SELECT INTO answers the same where the tables and views on which the user holds SELECT have the same rows (ISO/IEC
--- 9075:1992, 4.26 and 13.5).
+-- A query has the same rows, and a SELECT INTO answers the same, where the tables and views on which the user holds SELECT have
+-- the same rows (ISO/IEC 9075:1992, 4.26 and 13.5).
 use Rattle.std.proofs.Common.{ap, sym, subst, ◌∙◌}
 use Rattle.std.proofs.lemmas.Bool.{not-false}
 use Rattle.std.specs.List.{AllByRecursion}
@@ -19,11 +19,13 @@ use Rattle.sq_tree.specs.declared.statement.Statement.{Statement}
 use Rattle.sq_tree.specs.declared.statement.Statement.TheVariants as statement
 use Rattle.sq_meaning.specs.Environment.{Env, Item, Line, Row, TableName, TableReference, alone, within}
 use Rattle.sq_meaning.specs.Expression.{Reading, distinct_values, function_value, over_group, product_of, sum_of, value, with_sign}
+use Rattle.sq_meaning.specs.Kind.{Kinds, query_kinds}
 use Rattle.sq_meaning.specs.Query.{all_truth, and_also, any_in_turn, any_truth, clause_functions, clause_truth, compared, compared_with_rows, comparison, group_scope, groups_by, has_rows, is_grouped, is_true, like_truth, list_functions, listed_values, only_value, or_else, rows, scopes_of, truth}
+use Rattle.sq_meaning.specs.QueryExpression.{query_rows, row_brought_to}
 use Rattle.sq_meaning.specs.Rows.{firsts, product, same_row}
 use Rattle.sq_meaning.specs.Spelled.{Named}
 use Rattle.sq_meaning.specs.Status.{Outcome, and_then, each, kept, like_status, with_status}
-use Rattle.sq_meaning.specs.Syntax.{Clause, Cond, Conds, Expr, Select, SelectList, a_cond, absent, added, all_columns, between, bracketed, column, compare, compare_quantified, compare_subquery, conjunction, count_rows, disjunction, exists, expressions, in_list, in_subquery, is_null, like, literal, negated, no_cond, parameter, present, scaled, select, set_function, signed, user}
+use Rattle.sq_meaning.specs.Syntax.{Clause, Cond, Conds, Expr, Query, Select, SelectList, a_cond, absent, added, all_columns, between, bracketed, column, compare, compare_quantified, compare_subquery, conjunction, count_rows, disjunction, exists, expressions, in_list, in_subquery, is_null, like, literal, negated, no_cond, parameter, present, scaled, select, set_function, signed, specification, union, user}
 use Rattle.sq_meaning.specs.Tables.{Tables, reading_by_name, table_rows}
 use Rattle.sq_meaning.specs.Binding.{privilege_missing}
 use Rattle.sq_meaning.specs.Catalog.{tables_of}
@@ -31,7 +33,7 @@ use Rattle.sq_meaning.specs.Change.{outer_env}
 use Rattle.sq_meaning.specs.Machine.{Outcomes, Program, Running, State, performed, performed_if, running, select_reply, selected_row, setting, single_row, surroundings}
 use Rattle.sq_meaning.specs.Privilege.{Privilege}
 use Rattle.sq_meaning.specs.Privileges.{holds}
-use Rattle.sq_meaning.specs.Site.{Around, Known, Site, beside_subquery, clause_sites, cond_sites, conds_sites, inside, kinds_here, list_count, list_sites, outside, plain_query, select_count, select_sites, shown_query}
+use Rattle.sq_meaning.specs.Site.{Around, Known, Site, alike_pairs, beside_subquery, clause_sites, cond_sites, conds_sites, inside, kinds_here, list_count, list_sites, outside, plain_query, query_kinds_of, query_sites, select_count, select_sites, shown_query}
 use Rattle.sq_meaning.specs.WellFormedStatement.{into_sites, is_well_formed_procedure, known_in, select_of_statement}
 use Rattle.sq_run.specs.Confined.{LookAlike, SelectTellsWhatMayBeRead}
 use Rattle.sq_run.proofs.Laws.CalledAs.{called_as}
@@ -149,7 +151,7 @@ module _ (tables : Tables) (one other : TableName → Outcome (List Row)) (may :
         let parts = all_parts MayBeRead (cond_sites k a c) (conds_sites k a cs) h in
         (λ i. or_else (truth_alike k a c env parts.0 i) (any_alike k a cs env parts.1 i))
 
-    clause_alike : (k : Known) (a : Around) (c : Clause Named) (env : Env Item) → AllMay (clause_sites k a c) → clause_truth m c env ≡ clause_truth n c env
+    pub clause_alike : (k : Known) (a : Around) (c : Clause Named) (env : Env Item) → AllMay (clause_sites k a c) → clause_truth m c env ≡ clause_truth n c env
     clause_alike k a absent env h = refl
     clause_alike k a (present c) env h = truth_alike k a c env h
 
@@ -165,6 +167,16 @@ module _ (tables : Tables) (one other : TableName → Outcome (List Row)) (may :
         (scopes_alike list by having heads lines env i) (λ scopes. and_then
         (kept (λ scope. is_true (clause_alike k (inside a (shown_query from list by having) true) having (within scope env) last.1 i)) scopes) (λ left. and_then
         (each (λ scope. listed_alike list (within scope env) i) left) (λ shown. Ok (if distinct then firsts same_row shown else shown))))))))
+
+  -- ---- query expressions
+
+  pub query_alike : (k : Known) (kinds : Kinds Named) (q : Query Named) (env : Env Item) → AllMay (query_sites k q) → query_rows m kinds q env ≡ query_rows n kinds q env
+  query_alike k kinds (specification q) env h = rows_alike k outside q env h
+  query_alike k kinds (union all left right) env h =
+      let sides = all_parts MayBeRead (alike_pairs (query_kinds_of k left) (query_kinds_of k right) ++ query_sites k left) (query_sites k right) h.1 in
+      let first = all_parts MayBeRead (alike_pairs (query_kinds_of k left) (query_kinds_of k right)) (query_sites k left) sides.0 in
+      (λ i. and_then (query_alike k kinds left env first.1 i) (λ ls. and_then (query_alike k kinds right env sides.1 i) (λ rs. and_then (query_kinds kinds (union all left right)) (λ ks. and_then
+      (each (row_brought_to ks) (ls ++ rs)) (λ joined. Ok (if all then joined else firsts same_row joined))))))
 
 -- ---- SELECT INTO
 

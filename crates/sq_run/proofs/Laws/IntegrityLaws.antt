@@ -52,7 +52,7 @@ second_false true b e = cc
 second_false false b e = not-true b e
 
 -- no site of a well-formed statement lacks a privilege
-none_missing : (j : Judged) (sites : List Site) → is_well_formed j sites ≡ true
+pub none_missing : (j : Judged) (sites : List Site) → is_well_formed j sites ≡ true
     → AllByRecursion (λ x. privilege_missing j.holds x ≡ false) sites
 none_missing j sites e =
     none_passes (privilege_missing j.holds) sites (second_false (has_syntax_fault j sites) (lacks_privilege j sites) e)

@@ -20,6 +20,7 @@ use Rattle.sq_run.proofs.Laws.AskedLaws.{only_listed_rules_break}
 use Rattle.sq_run.proofs.Laws.CallLaws.{failed_changes_nothing}
 use Rattle.sq_run.proofs.Laws.CalledAs.{faults_change_nothing}
 use Rattle.sq_run.proofs.Laws.CommitLaws.{commit_alone_commits}
+use Rattle.sq_run.proofs.Laws.ConfinedCursorLaws.{cursors_tell_what_may_be_read}
 use Rattle.sq_run.proofs.Laws.ConfinedLaws.{select_tells_what_may_be_read}
 use Rattle.sq_run.proofs.Laws.DefaultLaws.{defaults_are_not_reached}
 use Rattle.sq_run.proofs.Laws.IntegrityLaws.{only_allowed_changes}
@@ -28,6 +29,7 @@ use Rattle.sq_run.proofs.Texts.RefusedLaws.{refusals_tell}
 use Rattle.sq_run.proofs.Rows.RowsRead.{readings_are_rows}
 use Rattle.sq_run.proofs.Texts.SpellingOnly.{spelled_is_spelling}
 use Rattle.sq_run.proofs.Laws.ShownRowLaws.{fetch_shows_rows_now}
+use Rattle.sq_run.proofs.Steps.StatesRise.{states_rise}
 use Rattle.sq_run.proofs.Tokens.UnexpectedTokens.{unexpected_tokens}
 
 failures : (p : Program) → FailuresChangeNothing p
@@ -52,6 +54,8 @@ module _ (schemas : List SchemaText) (modules : List ModuleText) (row_numbers : 
     fetched = fetch_shows_rows_now p;
     selected = select_tells_what_may_be_read p;
     rules = only_listed_rules_break;
+    cursors = cursors_tell_what_may_be_read p;
+    numbered = states_rise p;
     defaults = defaults_are_not_reached schemas modules row_numbers accepted admitted;
   }
 
