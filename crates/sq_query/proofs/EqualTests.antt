@@ -121,7 +121,7 @@ module _ (tables : TablePlace → Outcome (List Row)) (columns : TableKinds) (pa
           by (Some x) is_kind = tt
           by None is_kind = absurd is_kind
 
-      false_left : IsTestHere (compare Equal own e) → truth (by_place tables) (compare Equal own e) here ≡ Ok False
+      pub false_left : IsTestHere (compare Equal own e) → truth (by_place tables) (compare Equal own e) here ≡ Ok False
       false_left well =
           let agrees = places_agree tables columns parameters fitting in
           let step : truth (by_place tables) (compare Equal own e) here ≡ and_then cell (λ x. Ok (comparison Equal x v)) =

@@ -157,13 +157,13 @@ module _ (tables : TablePlace → Outcome (List Row)) (columns : TableKinds) (pa
         (take count tests) (all_first (λ x. IsOn (test_of [] x)) count tests all_well) firsts_quiet
 
     -- on a row that has another value in a column that the key has
-    pub column_false : (n : ℕ) (v : Value) → IsComparedWith (take count tests) values caller n v → HasOther row n v → truth (by_place tables) (cond_of [] own) here ≡ Ok False
+    pub column_false : (n : ℕ) (v : Value) → IsComparedWith (take count tests) values caller n v → HasOther row n (v ∷ []) → truth (by_place tables) (cond_of [] own) here ≡ Ok False
     column_false n v c other =
         let quiet : is_quiet (test_of [] c.test) ≡ true = all_contained (λ x. is_quiet (test_of [] x) ≡ true) (take count tests) c.among.0 c.test firsts_quiet c.among.1 c.among.2 in
         let on : IsOn (test_of [] c.test) = all_contained (λ x. IsOn (test_of [] x)) (take count tests) c.among.0 c.test (all_first (λ x. IsOn (test_of [] x)) count tests all_well) c.among.1 c.among.2 in
         let not_so : truth (by_place tables) (compare comparison.Equal (column (record { depth = 0; item = c.is.0; column = n })) (expr_of [] c.expr)) here ≡ Ok False =
         test_false tables columns parameters values caller row table fits given c.is.0 n (expr_of [] c.expr) v
-        (both_right true (is_quiet_expr (expr_of [] c.expr)) (sym (ap is_quiet c.is.1) ∙ quiet)) (subst IsOn c.is.1 on) (c.has_value tables) c.known other.not_null other.differs in
+        (both_right true (is_quiet_expr (expr_of [] c.expr)) (sym (ap is_quiet c.is.1) ∙ quiet)) (subst IsOn c.is.1 on) (c.has_value tables) c.known other.not_null other.differs.0 in
         let all_false : all_truth (by_place tables) (conds (map (test_of []) tests)) here ≡ Ok False =
         all_is tables here tests
         ∙ first_false truth_here count tests c.among.0 c.test firsts_answer c.among.1 c.among.2 (ap (λ (x : PlacedCond). truth (by_place tables) x here) c.is.1 ∙ not_so) in
@@ -192,4 +192,4 @@ module _ (values : List Value) (caller : Name) where
       → truth (by_place tables) c (outside (row ∷ []) values caller) ≡ Ok False
   false_without c key wanted all tables columns parameters table row given stands fits not_null lacks =
       let found = lacked {R = IsFalseUnless values caller c} key wanted row all lacks in
-      found.3 tables columns parameters table row given stands fits (record { not_null = λ x there. not_null found.0 x found.2 there; differs = found.4 })
+      found.3 tables columns parameters table row given stands fits (record { not_null = λ x there. not_null found.0 x found.2 there; differs = (found.4, tt) })

@@ -1,4 +1,5 @@
 pub mod Added
+pub mod AddedRows
 pub mod AnyTables
 pub mod AroundValues
 pub mod Bases
@@ -27,6 +28,7 @@ pub mod KeyTests
 pub mod KeyValues
 pub mod KeyedRows
 pub mod KeysOn
+pub mod KeysSearch
 pub mod KindsOfTables
 pub mod KnownConditions
 pub mod KnownKeys

@@ -23,7 +23,7 @@ from_lower : (low high : ℕ) (rows : List Numbered) → low ≤ high → AllByR
 from_lower low high [] lower all = tt
 from_lower low high (r ∷ rows) lower all = (omega (arith, all.0, lower), from_lower low high rows lower all.1)
 
-all_from : (low : ℕ) (rows : List Numbered) (next : ℕ) → rising_between low rows next ≡ true → AllByRecursion (λ (r : Numbered). low ≤ r.number) rows
+pub all_from : (low : ℕ) (rows : List Numbered) (next : ℕ) → rising_between low rows next ≡ true → AllByRecursion (λ (r : Numbered). low ≤ r.number) rows
 all_from low [] next rises = tt
 all_from low (x ∷ rows) next rises =
     let here : low ≤ x.number = leb-true low x.number (both_left (nat_le low x.number) (rising_between (x.number + 1) rows next) rises) in

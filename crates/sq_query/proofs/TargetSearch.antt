@@ -60,18 +60,18 @@ none_is has (r ∷ rows) h = ap (λ b. cond b (Some r) (find has rows)) (neither
 
 module _ (test : Numbered → Outcome Bool) where
   -- the rows that pass
-  abbrev passing : List Numbered → List Numbered
+  abbrev pub passing : List Numbered → List Numbered
   passing [] = []
   passing (r ∷ rows) = if is_passed (test r) then r ∷ passing rows else passing rows
 
-  abbrev HaveAnswers : List Numbered → Type 0
+  abbrev pub HaveAnswers : List Numbered → Type 0
   HaveAnswers rows = AllByRecursion (λ r. HasValue (test r)) rows
 
   abbrev if_passing : Option Numbered → Option Numbered
   if_passing None = None
   if_passing (Some r) = if is_passed (test r) then Some r else None
 
-  kept_passing : (rows : List Numbered) → HaveAnswers rows → kept test rows ≡ Ok (passing rows)
+  pub kept_passing : (rows : List Numbered) → HaveAnswers rows → kept test rows ≡ Ok (passing rows)
   kept_passing [] h = refl
   kept_passing (r ∷ rows) h =
       ap (λ (o : Outcome (List Numbered)). and_then (test r) (λ passes. and_then o (λ ys. Ok (if passes then r ∷ ys else ys)))) (kept_passing rows h.1) ∙ by (test r) h.0
@@ -80,7 +80,7 @@ module _ (test : Numbered → Outcome Bool) where
       by (Ok b) there = refl
       by (Err status) there = absurd there
 
-  passing_all : (P : Numbered → Type 0) (rows : List Numbered) → AllByRecursion P rows → AllByRecursion P (passing rows)
+  pub passing_all : (P : Numbered → Type 0) (rows : List Numbered) → AllByRecursion P rows → AllByRecursion P (passing rows)
   passing_all P [] h = tt
   passing_all P (r ∷ rows) h = by (is_passed (test r)) (passing_all P rows h.1)
     where
@@ -117,7 +117,7 @@ module _ (test : Numbered → Outcome Bool) where
         by false is false passed later = later
 
 module _ {X : Type 0} (truth_of : X → Numbered → Outcome Truth) where
-  abbrev tested : X → Numbered → Outcome Bool
+  abbrev pub tested : X → Numbered → Outcome Bool
   tested x r = is_true (truth_of x r)
 
   -- the one that is found, if all are true of it
@@ -125,7 +125,7 @@ module _ {X : Type 0} (truth_of : X → Numbered → Outcome Truth) where
   chosen_one xs None = Ok []
   chosen_one xs (Some r) = and_then (are_true (λ x. truth_of x r) xs) (λ all. Ok (if all then r ∷ [] else []))
 
-  abbrev HaveTruths : List Numbered → List X → Type 0
+  abbrev pub HaveTruths : List Numbered → List X → Type 0
   HaveTruths rows xs = AllByRecursion (λ x. HaveAnswers (tested x) rows) xs
 
   -- the first condition, on the one that is found
@@ -180,7 +180,7 @@ truth_there (Ok False) h = tt
 truth_there (Err status) h = absurd h
 
 module _ (tables : TablePlace → Outcome (List Row)) (columns : TableKinds) (parameters : List Kind) (values : List Value) (caller : Name) (given : IsRowOf parameters values) where
-  abbrev truth_at : BoundCond → Numbered → Outcome Truth
+  abbrev pub truth_at : BoundCond → Numbered → Outcome Truth
   truth_at c r = truth_on_row tables values caller r.row c
 
   -- a condition of a view that is never a fault has a truth on each row of the base table
@@ -196,7 +196,7 @@ module _ (tables : TablePlace → Outcome (List Row)) (columns : TableKinds) (pa
     row_truths r is_row [] well sure = tt
     row_truths r is_row (c ∷ cs) well sure = (view_truth c well.0 (both_left (is_quiet_cond c) (are_quiet_conds cs) sure) r is_row, row_truths r is_row cs well.1 (both_right (is_quiet_cond c) (are_quiet_conds cs) sure))
 
-    view_truths : (rows : List Numbered) → AllByRecursion (λ (r : Numbered). IsRowOf (base_kinds b) r.row) rows → (cs : List BoundCond) → AllByRecursion (IsCondOn columns b) cs → are_quiet_conds cs ≡ true → HaveTruths truth_at rows cs
+    pub view_truths : (rows : List Numbered) → AllByRecursion (λ (r : Numbered). IsRowOf (base_kinds b) r.row) rows → (cs : List BoundCond) → AllByRecursion (IsCondOn columns b) cs → are_quiet_conds cs ≡ true → HaveTruths truth_at rows cs
     view_truths rows rows_are [] well sure = tt
     view_truths rows rows_are (c ∷ cs) well sure = (
       all_weaker (λ (r : Numbered). IsRowOf (base_kinds b) r.row) (λ r. HasValue (tested truth_at c r)) (view_truth c well.0 (both_left (is_quiet_cond c) (are_quiet_conds cs) sure)) rows rows_are,

@@ -9,6 +9,7 @@ pub mod Needed
 pub mod Order
 pub mod Row
 pub mod Search
+pub mod Several
 pub mod Shown
 pub mod Table
 pub mod Target

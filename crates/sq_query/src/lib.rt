@@ -20,6 +20,7 @@ mod plain_view;
 mod row;
 mod scan;
 mod search;
+mod several;
 mod shown;
 mod table;
 mod target;

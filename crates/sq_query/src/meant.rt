@@ -1,4 +1,4 @@
-//! The rows of a base table that a target means: found by a key, or by a search over all rows.
+//! The rows of a base table that a target means: found by a key, by several, or by a search over all rows.
 
 ghost use Rattle.std.specs.Prelude.{◌≡◌, ◌<◌, ◌≤◌, ◌+◌, ◌∷◌, [], List, if◌then◌else◌, length, map, IfErr, IfOk, IfSome, IsSome, true};
 ghost use Rattle.sq_value.specs.declared.domain.Kind.{Kind};
@@ -22,7 +22,7 @@ ghost use Rattle.sq_query.specs.Target.{AreNumbersOf, AreRowsThere, HasTargetRow
 use crate::inputs::Inputs;
 use crate::key::{KnownKey, known_key};
 use crate::named::key_of_condition;
-use crate::scan::rows_by_scan;
+use crate::several::rows_by_values;
 use crate::target::meets_target;
 use sq_bound::{Names, Target};
 use sq_expression::{Context, Fault};
@@ -33,7 +33,8 @@ use std::alloc::Global;
 /// The rows that a target means, with their numbers, which rise: each condition in turn is true of them, over all rows.
 /// If the target names one row by a key, no other row is looked at: on each of them one of the first tests of its own
 /// condition, the tests of the key's columns, is false. It decides before a later test can end with a status or reads a
-/// table, and the conditions of views between have a truth. The meter counts the rows that are read.
+/// table, and the conditions of views between have a truth. So it is with several values of a key of one column. The meter
+/// counts the rows that are read.
 pub fn rows_of<'a, N: Names, S: Store>(
     alloc: Global,
     names: &N,
@@ -79,7 +80,7 @@ pub fn rows_of<'a, N: Names, S: Store>(
             drop(known);
             rows
         }
-        None => rows_by_scan(names, &*target, store, &call, meter),
+        None => rows_by_values(names, &*target, store, &call, meter),
     }
 }
 

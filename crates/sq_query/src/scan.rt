@@ -1,6 +1,6 @@
 //! The rows of a base table that a target means, found by a search over all rows.
 
-ghost use Rattle.std.specs.Prelude.{◌≡◌, ◌++◌, ◌∷◌, [], List, false, if◌then◌else◌, map, IfOk};
+ghost use Rattle.std.specs.Prelude.{ℕ, ⊤, ◌≡◌, ◌++◌, ◌∷◌, [], List, false, if◌then◌else◌, map, IfOk};
 ghost use Rattle.std.specs.List.{list_any, AllByRecursion};
 ghost use Rattle.sq_value.specs.declared.domain.Kind.{Kind};
 ghost use Rattle.sq_value.specs.declared.truth.Truth.{Truth as AnyTruth};
@@ -9,10 +9,10 @@ ghost use Rattle.sq_store.specs.declared.table.Numbered.{Numbered};
 ghost use Rattle.sq_meaning.specs.Query as meaning;
 ghost use Rattle.sq_meaning.specs.Status.{Outcome, and_then, kept};
 ghost use Rattle.sq_meaning.specs.Target.{has_subquery};
-ghost use Rattle.sq_meaning.specs.WellFormed.{HasValue};
+ghost use Rattle.sq_meaning.specs.WellFormed.{Answers, HasValue};
 ghost use Rattle.sq_bound.specs.Condition.{cond_of};
 ghost use Rattle.sq_bound.specs.Expression.{PlacedExpr};
-ghost use Rattle.sq_bound.specs.WellFormed.{TableKinds};
+ghost use Rattle.sq_bound.specs.WellFormed.{IsTarget, TableKinds};
 ghost use Rattle.sq_bound.specs.declared.condition.TablePlace.{TablePlace};
 ghost use Rattle.sq_expression.specs.Fault.{MeansAs, Meets, MeetsAs};
 ghost use Rattle.sq_expression.specs.Frame.{table_rows};
@@ -50,35 +50,67 @@ pub(crate) fn rows_by_scan<'a, N: Names, S: Store>(
         (N.column_kinds names.now) (S.content_now store.now) call.now.user call.now.parameters.now
         target.now }
 {
-    let levels = levels_of(call.alloc, target)?;
-    rows_meeting(levels.as_slice(), names, target.base, store, call, meter)
+    let all = numbered_rows(call.alloc, store, target.base, meter);
+    rows_among(names, target, all, store, call, meter)
 }
 
-/// The rows of a base table that meet each condition in turn.
+/// Those of some rows of its base table that meet each condition of a target in turn.
+pub(crate) fn rows_among<'a, N: Names, S: Store>(
+    names: &N,
+    target: &Target,
+    rows: Result<Vec<(u64, &'a Row)>, Fault>,
+    store: &'a S,
+    call: &Context<'_>,
+    meter: &mut Meter,
+) -> Result<Vec<(u64, &'a Row)>, Fault>
+    requires { FindsConds (N.base_tables names.now) (N.column_kinds names.now) (conditions_of target.now) }
+    ensures plain { (o : Outcome (List Numbered)) → MeetsAs numbered_in rows.entry o
+        → list_any (λ c. has_subquery (cond_of [] c)) (conditions_of target.now) ≡ false
+        → (tables : TablePlace → Outcome (List (List AnyValue)))
+        → MeetsAs numbered_in result (and_then o
+        (chosen (is_true_of tables call.now.parameters.now call.now.user) (conditions_of target.now))) }
+    ensures meant { (o : Outcome (List Numbered)) → MeetsAs numbered_in rows.entry o
+        → (parameters : List Kind) (tables : TablePlace → Outcome (List (List AnyValue)))
+        → MayRead (N.base_tables names.now) (N.view_queries names.now) (N.column_kinds names.now)
+        (S.content_now store.now) call.now.user call.now.parameters.now parameters tables
+        → IsTarget (N.column_kinds names.now) parameters target.now
+        → Answers (λ found. ⊤) (and_then o
+        (chosen (is_true_of tables call.now.parameters.now call.now.user) (conditions_of target.now)))
+        → MeetsAs numbered_in result (and_then o
+        (chosen (is_true_of tables call.now.parameters.now call.now.user) (conditions_of target.now))) }
+{
+    let levels = levels_of(call.alloc, target)?;
+    rows_meeting(levels.as_slice(), names, rows, store, call, meter)
+}
+
+/// The rows that meet each condition in turn.
 fn rows_meeting<'a, N: Names, S: Store>(
     levels: &[&BoundCond],
     names: &N,
-    base: usize,
+    rows: Result<Vec<(u64, &'a Row)>, Fault>,
     store: &'a S,
     call: &Context<'_>,
     meter: &mut Meter,
 ) -> Result<Vec<(u64, &'a Row)>, Fault>
     requires { FindsConds (N.base_tables names.now) (N.column_kinds names.now) (map (λ b. b.now) levels.now) }
-    ensures plain { list_any (λ c. has_subquery (cond_of [] c)) (map (λ b. b.now) levels.now) ≡ false
+    ensures plain { (o : Outcome (List Numbered)) → MeetsAs numbered_in rows.entry o
+        → list_any (λ c. has_subquery (cond_of [] c)) (map (λ b. b.now) levels.now) ≡ false
         → (tables : TablePlace → Outcome (List (List AnyValue)))
-        → MeetsAs numbered_in result (and_then (stored_numbered (S.content_now store.now) base)
+        → MeetsAs numbered_in result (and_then o
         (chosen (is_true_of tables call.now.parameters.now call.now.user) (map (λ b. b.now) levels.now))) }
-    ensures meant { (parameters : List Kind) (tables : TablePlace → Outcome (List (List AnyValue)))
+    ensures meant { (o : Outcome (List Numbered)) → MeetsAs numbered_in rows.entry o
+        → (parameters : List Kind) (tables : TablePlace → Outcome (List (List AnyValue)))
         → MayRead (N.base_tables names.now) (N.view_queries names.now) (N.column_kinds names.now)
         (S.content_now store.now) call.now.user
         call.now.parameters.now parameters tables
-        → AreOnBase (N.column_kinds names.now) parameters base (map (λ b. b.now) levels.now)
-        → MeetsAs numbered_in result (and_then (stored_numbered (S.content_now store.now) base)
+        → (base : ℕ) → AreOnBase (N.column_kinds names.now) parameters base (map (λ b. b.now) levels.now)
+        → Answers (λ found. ⊤) (and_then o
+        (chosen (is_true_of tables call.now.parameters.now call.now.user) (map (λ b. b.now) levels.now)))
+        → MeetsAs numbered_in result (and_then o
         (chosen (is_true_of tables call.now.parameters.now call.now.user) (map (λ b. b.now) levels.now))) }
 {
     let needed = needed_tables(call.alloc, levels);
     let tables = tables_of(names, needed, store, call, meter)?;
-    let rows = numbered_rows(call.alloc, store, base, meter);
     let context = Context {
         alloc: call.alloc,
         user: call.user,
