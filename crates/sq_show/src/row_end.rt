@@ -237,7 +237,6 @@ fn asked_options<S: Store>(
 }
 
 /// The condition of a view at a place.
-#[tactic(auto, using(crate::proofs::FirstEnd::one_more))]
 fn asked_option<S: Store>(
     setting: &Setting<'_, Catalog, S>,
     conditions: &[Shared<BoundCond>],
@@ -293,7 +292,6 @@ fn asked_checks<S: Store>(
 }
 
 /// The CHECK at a place.
-#[tactic(auto, using(crate::proofs::FirstEnd::one_more))]
 fn asked_check<S: Store>(
     setting: &Setting<'_, Catalog, S>,
     checks: &[BoundCond],
