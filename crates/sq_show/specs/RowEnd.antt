@@ -10,7 +10,7 @@ use Rattle.sq_bound.specs.declared.names.BaseTable.{BaseTable}
 use Rattle.sq_bound.specs.declared.names.Leaf.{Leaf}
 use Rattle.sq_change.specs.Made.{Seen}
 use Rattle.sq_session.specs.Schemas.{Schemas}
-use Rattle.sq_show.specs.Breach.{IsPut, LacksNone}
+use Rattle.sq_show.specs.Breach.{EachPutBefore, IsPut, LacksNone}
 use Rattle.sq_show.specs.Broken.{HasTruth}
 use Rattle.sq_show.specs.TargetEnd.{EndsOn}
 use Rattle.sq_show.specs.declared.cause.Demand.{Demand}
@@ -43,12 +43,6 @@ pub record IsFirstEnd (IsMet : BoundCond → Type 0) (Ends : BoundCond → Statu
   pub ends : Ends condition st
   pub before : AreMet IsMet cs place
 
--- what comes of asking those before a place
-abbrev pub IsAsked : (BoundCond → Type 0) → (BoundCond → Status → Type 0) → List BoundCond → ℕ → Asked → Type 0
-IsAsked IsMet Ends cs place asked.Met = AreMet IsMet cs place
-IsAsked IsMet Ends cs place asked.Unmet = ⊤
-IsAsked IsMet Ends cs place (asked.Ends n st) = IsFirstEnd IsMet Ends cs n st
-
 -- ---- rows that are put in, one after the other
 
 -- the conditions of views that rows have to meet, from inside out
@@ -61,27 +55,23 @@ MeetsOptions s seen leaf row = AreMet (IsTrueOn s seen row) (demanded_of leaf) (
 abbrev pub MeetsChecks : Schemas → Seen → BaseTable → List Value → Type 0
 MeetsChecks s seen t row = LacksNone t row × AreMet (IsNotFalseOn s seen row) t.checks (length t.checks)
 
--- rows that changes before a place put in are such
-abbrev pub ArePut : List Change → ℕ → (List Value → Type 0) → Type 0
-ArePut changes place IsSuch = (put : RowPut) (row : List Value) → put.place < place → IsPut changes put row → IsSuch row
-
--- of the row that is put in the condition of the view at a level ends with the status, and everything before it is met
+-- on the row that is put in, the condition of the view at a level ends with the status, and everything before it is met
 pub record IsOptionEnd (s : Schemas) (seen : Seen) (leaf : Leaf) (changes : List Change) (put : RowPut) (level : ℕ)
     (st : Status) : Type 0 where
   pub row : List Value
   pub is_put : IsPut changes put row
   pub first : IsFirstEnd (IsTrueOn s seen row) (EndsOn s seen row) (demanded_of leaf) level st
-  pub rows : ArePut changes put.place (MeetsOptions s seen leaf)
+  pub rows : EachPutBefore changes put.place (MeetsOptions s seen leaf)
 
--- so it is of a CHECK: all check options are met, and NOT NULL and CHECK of the rows before, and what is before it of this row
+-- so it is with a CHECK: all check options are met, NOT NULL and CHECK on the rows before, and on this row what is before it
 pub record IsCheckEnd (s : Schemas) (seen : Seen) (leaf : Leaf) (changes : List Change) (put : RowPut) (check : ℕ)
     (st : Status) : Type 0 where
   pub row : List Value
   pub is_put : IsPut changes put row
   pub whole : LacksNone leaf.table row
   pub first : IsFirstEnd (IsNotFalseOn s seen row) (EndsOn s seen row) leaf.table.checks check st
-  pub rows : ArePut changes put.place (MeetsChecks s seen leaf.table)
-  pub options : ArePut changes (length changes) (MeetsOptions s seen leaf)
+  pub rows : EachPutBefore changes put.place (MeetsChecks s seen leaf.table)
+  pub options : EachPutBefore changes (length changes) (MeetsOptions s seen leaf)
 
 abbrev pub IsEndOf : Schemas → Seen → Leaf → List Change → RowPut → Demand → Status → Type 0
 IsEndOf s seen leaf changes put (demand.View level) st = IsOptionEnd s seen leaf changes put level st
@@ -91,8 +81,16 @@ abbrev pub IsRowEnd : Schemas → Seen → Leaf → List Change → RowEnd → T
 IsRowEnd s seen leaf changes e =
     (e.table ≡ leaf.table.place) × IsEndOf s seen leaf changes e.put e.demand e.status
 
+-- ---- while it is looked for
+
+-- what comes of asking the conditions before a place of a row
+abbrev pub IsAsked : (BoundCond → Type 0) → (BoundCond → Status → Type 0) → List BoundCond → ℕ → Asked → Type 0
+IsAsked IsMet Ends cs place asked.Met = AreMet IsMet cs place
+IsAsked IsMet Ends cs place asked.Unmet = ⊤
+IsAsked IsMet Ends cs place (asked.Ends n st) = IsFirstEnd IsMet Ends cs n st
+
 -- what comes of asking the rows that changes before a place put in
 abbrev pub AreAsked : (List Value → Type 0) → (RowEnd → Type 0) → List Change → ℕ → RowsAsked → Type 0
-AreAsked IsSuch Ends changes place rows.Met = ArePut changes place IsSuch
+AreAsked IsSuch Ends changes place rows.Met = EachPutBefore changes place IsSuch
 AreAsked IsSuch Ends changes place rows.Unmet = ⊤
 AreAsked IsSuch Ends changes place (rows.Ends e) = Ends e

@@ -6,9 +6,9 @@ ghost use Rattle.sq_catalog.specs.Catalog.{column_kinds};
 ghost use Rattle.sq_change.specs.Made.{seen_by};
 ghost use Rattle.sq_query.specs.Needed.{FindsCond, FindsConds};
 ghost use Rattle.sq_session.specs.Schemas.{schemas_of};
-ghost use Rattle.sq_show.specs.Breach.{LacksNone};
+ghost use Rattle.sq_show.specs.Breach.{EachPutBefore, LacksNone};
 ghost use Rattle.sq_show.specs.Broken.{HasTruth};
-ghost use Rattle.sq_show.specs.RowEnd.{AreAsked, AreMet, ArePut, IsAsked, IsNotFalseOn, IsRowEnd, IsTrueOn, MeetsChecks, MeetsOptions, demanded_of};
+ghost use Rattle.sq_show.specs.RowEnd.{AreAsked, AreMet, IsAsked, IsNotFalseOn, IsRowEnd, IsTrueOn, MeetsChecks, MeetsOptions, demanded_of};
 ghost use Rattle.sq_show.specs.TargetEnd.{EndsOn};
 
 use crate::cause::{Demand, RowEnd};
@@ -75,7 +75,8 @@ fn options_end<S: Store>(
     leaf: &Leaf,
     changes: &[Change],
 ) -> Result<RowsAsked, AllocError>
-    requires { FindsConds setting.now.names.now.bases (column_kinds setting.now.names.now) leaf.now.conditions }
+    requires { FindsConds setting.now.names.now.bases (column_kinds setting.now.names.now)
+        leaf.now.conditions }
     ensures { IfOk result (AreAsked
         (MeetsOptions (schemas_of setting.now.names.now)
         (seen_by setting.now.names.now.views (S.content_now setting.now.store.now) setting.now.user
@@ -102,8 +103,9 @@ fn option_end<S: Store>(
     changes: &[Change],
     place: usize,
 ) -> Result<RowsAsked, AllocError>
-    requires finds { FindsConds setting.now.names.now.bases (column_kinds setting.now.names.now) leaf.now.conditions }
-    requires before { ArePut changes.now place (MeetsOptions (schemas_of setting.now.names.now)
+    requires finds { FindsConds setting.now.names.now.bases (column_kinds setting.now.names.now)
+        leaf.now.conditions }
+    requires before { EachPutBefore changes.now place (MeetsOptions (schemas_of setting.now.names.now)
         (seen_by setting.now.names.now.views (S.content_now setting.now.store.now) setting.now.user
         setting.now.parameters.now) leaf.now) }
     ensures { IfOk result (AreAsked
@@ -136,8 +138,9 @@ fn checks_end<S: Store>(
     leaf: &Leaf,
     changes: &[Change],
 ) -> Result<RowsAsked, AllocError>
-    requires finds { FindsConds setting.now.names.now.bases (column_kinds setting.now.names.now) leaf.now.table.checks }
-    requires options { ArePut changes.now (length changes.now)
+    requires finds { FindsConds setting.now.names.now.bases (column_kinds setting.now.names.now)
+        leaf.now.table.checks }
+    requires options { EachPutBefore changes.now (length changes.now)
         (MeetsOptions (schemas_of setting.now.names.now)
         (seen_by setting.now.names.now.views (S.content_now setting.now.store.now) setting.now.user
         setting.now.parameters.now) leaf.now) }
@@ -167,12 +170,13 @@ fn check_end<S: Store>(
     changes: &[Change],
     place: usize,
 ) -> Result<RowsAsked, AllocError>
-    requires finds { FindsConds setting.now.names.now.bases (column_kinds setting.now.names.now) leaf.now.table.checks }
-    requires options { ArePut changes.now (length changes.now)
+    requires finds { FindsConds setting.now.names.now.bases (column_kinds setting.now.names.now)
+        leaf.now.table.checks }
+    requires options { EachPutBefore changes.now (length changes.now)
         (MeetsOptions (schemas_of setting.now.names.now)
         (seen_by setting.now.names.now.views (S.content_now setting.now.store.now) setting.now.user
         setting.now.parameters.now) leaf.now) }
-    requires before { ArePut changes.now place (MeetsChecks (schemas_of setting.now.names.now)
+    requires before { EachPutBefore changes.now place (MeetsChecks (schemas_of setting.now.names.now)
         (seen_by setting.now.names.now.views (S.content_now setting.now.store.now) setting.now.user
         setting.now.parameters.now) leaf.now.table) }
     ensures { IfOk result (AreAsked
@@ -243,7 +247,8 @@ fn asked_option<S: Store>(
     row: &Row,
     place: usize,
 ) -> Result<Asked, AllocError>
-    requires finds { FindsConds setting.now.names.now.bases (column_kinds setting.now.names.now) conditions.now }
+    requires finds { FindsConds setting.now.names.now.bases (column_kinds setting.now.names.now)
+        conditions.now }
     requires there { place < length conditions.now }
     requires before { AreMet (IsTrueOn (schemas_of setting.now.names.now)
         (seen_by setting.now.names.now.views (S.content_now setting.now.store.now) setting.now.user
