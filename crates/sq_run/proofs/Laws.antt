@@ -18,6 +18,11 @@ pub mod ShownRowLaws
 pub mod DefaultLaws
 pub mod ConfinedLaws
 pub mod TargetColumns
+pub mod TargetRows
+pub mod PlainConditions
+pub mod ViewRows
+pub mod SoundTables
 pub mod OpensAlike
+pub mod CursorsAlike
 pub mod ConfinedCursorLaws
 pub mod RisingNumbers

@@ -16,7 +16,6 @@ pub mod Opens
 pub mod Processor
 pub mod Refused
 pub mod Reported
-pub mod RowNumbers
 pub mod ShownRows
 pub mod Stored
 pub mod TextRow

@@ -13,10 +13,10 @@ use Rattle.sq_meaning.specs.Machine.{Call, Outcomes, Program, State, first_state
 use Rattle.sq_meaning.specs.Module.{module_named, procedure_named}
 use Rattle.sq_meaning.specs.Run.{Item, after_item}
 use Rattle.sq_meaning.specs.WellFormedStatement.{is_well_formed_procedure}
-use Rattle.sq_run.specs.RowNumbers.{RowsAlwaysRise, RowsRise}
+use Rattle.sq_run.specs.ShownRows.{state_after}
 use Rattle.sq_run.proofs.Laws.CalledAs.{called_as, no_module, no_procedure}
 use Rattle.sq_run.proofs.Steps.FirstState.{empty_rise}
-use Rattle.sq_run.proofs.Steps.Moves.{InWhere, NamesOnly, kept_of_both, performed_goes, rise_kept}
+use Rattle.sq_run.proofs.Steps.Moves.{AllRise, InWhere, NamesOnly, kept_of_both, performed_goes, rise_kept}
 
 abbrev Any : Name → Type 0
 Any name = ⊤
@@ -38,13 +38,13 @@ any_named (statement.Commit work) = tt
 any_named (statement.Rollback work) = tt
 
 abbrev BothRise : State → Type 0
-BothRise s = RowsRise s.tables × RowsRise s.committed
+BothRise s = AllRise s.tables × AllRise s.committed
 
 module _ (p : Program) where
   module _ (s : State) (c : Call) (rise : BothRise s) where
     as_performed : (m : ModuleText) (q : Procedure) (b : Bool) → BothRise (performed_if b (running p s c.values m q)).0
     as_performed m q true =
-        kept_of_both RowsRise rise_kept s (performed_if true (running p s c.values m q)).0
+        kept_of_both AllRise rise_kept s (performed_if true (running p s c.values m q)).0
         (performed_goes Any (running p s c.values m q) q.statement (any_named q.statement)).0 rise
     as_performed m q false = rise
 
@@ -66,6 +66,5 @@ module _ (p : Program) where
   after_items s [] rise = rise
   after_items s (i ∷ items) rise = after_items (after_item p s i) items (one_item s i rise)
 
-pub states_rise : (p : Program) → RowsAlwaysRise p
-unfolding RowsAlwaysRise
-states_rise p = λ items. after_items p (first_state p) items (empty_rise (base_count p.elements), empty_rise (base_count p.elements))
+pub states_rise : (p : Program) (items : List Item) → AllRise (state_after p items).tables × AllRise (state_after p items).committed
+states_rise p items = after_items p (first_state p) items (empty_rise (base_count p.elements), empty_rise (base_count p.elements))
