@@ -11,7 +11,7 @@ use Rattle.sq_tree.specs.declared.statement.Statement.TheVariants as statement
 use Rattle.sq_meaning.specs.Environment.{Row}
 use Rattle.sq_meaning.specs.Target.{Target}
 use Rattle.sq_meaning.specs.Cursor.{CursorState}
-use Rattle.sq_meaning.specs.Machine.{Call, CursorEntry, Program, State, is_entry, replied, stepped}
+use Rattle.sq_meaning.specs.Machine.{Call, Program, State, cursor_at, replied, stepped}
 use Rattle.sq_meaning.specs.Module.{cursor_named, module_named, procedure_named}
 use Rattle.sq_meaning.specs.Run.{Item}
 use Rattle.sq_meaning.specs.Schema.{Elements}
@@ -20,10 +20,6 @@ use Rattle.sq_run.specs.Confined.{LookAlike}
 use Rattle.sq_run.specs.ShownRows.{state_after}
 
 -- ---- cursors
-
--- a cursor that a module declares, with its state
-abbrev pub entry_of : State → ModuleText → Name → Option CursorEntry
-entry_of s m name = find (is_entry m.name name) s.cursors
 
 -- what the cursor of this name is over, if it is updatable
 abbrev pub target_named : Elements → ModuleText → Name → Option Target
@@ -48,19 +44,13 @@ LooksAlike one other (CursorState.over_rows rows place) (CursorState.over_rows o
     (rows ≡ others) × (place ≡ beside)
 LooksAlike one other _ _ = ⊥
 
--- the cursor is there in both, and looks alike, or in none
-abbrev pub AreAlike : (one other : ℕ → Option Row) → Option CursorEntry → Option CursorEntry → Type 0
-AreAlike one other None None = ⊤
-AreAlike one other (Some here) (Some there) = LooksAlike one other here.state there.state
-AreAlike one other _ _ = ⊥
-
 -- ---- what a module may see
 
 -- Two states look alike to a module: its user reads the same rows, and its cursors look alike.
 pub record AlikeTo (p : Program) (m : ModuleText) (s t : State) : Type 0 where
   pub tables : LookAlike p.elements m.authorization s.tables t.tables
-  pub cursors : (name : Name) → AreAlike (shown_under (target_named p.elements m name) s.tables)
-      (shown_under (target_named p.elements m name) t.tables) (entry_of s m name) (entry_of t m name)
+  pub cursors : (name : Name) → LooksAlike (shown_under (target_named p.elements m name) s.tables)
+      (shown_under (target_named p.elements m name) t.tables) (cursor_at s m.name name) (cursor_at t m.name name)
 
 abbrev pub is_of_cursor : Statement → Bool
 is_of_cursor (statement.Open name) = true

@@ -26,7 +26,7 @@ use Rattle.sq_meaning.proofs.Bind.{bind_ok}
 use Rattle.sq_meaning.specs.Catalog.{tables_of}
 use Rattle.sq_meaning.specs.Change.{outer_env, reading}
 use Rattle.sq_meaning.specs.Cursor.{CursorState, Fetched, Move, before_rows, fetched, is_open}
-use Rattle.sq_meaning.specs.Machine.{CursorEntry, Outcomes, Program, Running, State, close_cursor, cursor_now, cursor_rows, ends_with, fetch_cursor, fetch_reply, fetch_to, move_of, moved, numbers_or_rows, open_by, open_cursor, opened, performed, performed_if, replied, running, set_cursor, setting, shown_now, sort_order, stepped, surroundings, with_cursor}
+use Rattle.sq_meaning.specs.Machine.{is_entry, CursorEntry, Outcomes, Program, Running, State, close_cursor, cursor_now, cursor_rows, ends_with, fetch_cursor, fetch_reply, fetch_to, move_of, moved, numbers_or_rows, open_by, open_cursor, opened, performed, performed_if, replied, running, set_cursor, setting, shown_now, sort_order, stepped, surroundings, with_cursor}
 use Rattle.sq_meaning.specs.Module.{cursor_named}
 use Rattle.sq_meaning.specs.Parameter.{inputs_of, replied_with}
 use Rattle.sq_meaning.specs.Privileges.{holds}
@@ -36,9 +36,9 @@ use Rattle.sq_meaning.specs.Site.{Known, Site, outside, query_sites, select_site
 use Rattle.sq_meaning.specs.WellFormedStatement.{Surroundings, cursor_query, cursor_names, cursor_sites, is_plain, is_sound, is_well_formed_procedure, judged_by, known_in, known_in_query, only_specification, opener_surroundings, orientation_of, sort_sites, statement_sites, updatable_cursor}
 use Rattle.sq_run.specs.Confined.{LookAlike}
 use Rattle.sq_run.specs.ShownRows.{state_after}
-use Rattle.sq_run.specs.ConfinedCursors.{AlikeTo, AreAlike, CursorsTellWhatMayBeRead, LooksAlike, entry_of, is_of_cursor, shown_under, target_named}
+use Rattle.sq_run.specs.ConfinedCursors.{AlikeTo, CursorsTellWhatMayBeRead, LooksAlike, is_of_cursor, shown_under, target_named}
 use Rattle.sq_run.proofs.Laws.CalledAs.{called_as}
-use Rattle.sq_run.proofs.Laws.CursorsAlike.{FetchedAlike, entry_set, fetched_alike, found_under, open_alike, set_alike, state_alike}
+use Rattle.sq_run.proofs.Laws.CursorsAlike.{AreAlike, FetchedAlike, entries_alike, entry_of, entry_set, fetched_alike, found_if, found_under, open_alike, set_alike, state_alike}
 use Rattle.sq_run.proofs.Laws.ConfinedLaws.{query_alike}
 use Rattle.sq_run.proofs.Laws.IntegrityLaws.{WellFormed, none_missing}
 use Rattle.sq_run.proofs.Laws.NameLaws.{constraints_hold_in_runs}
@@ -47,7 +47,7 @@ use Rattle.sq_run.proofs.Laws.TargetColumns.{are_as_wide, is_over}
 use Rattle.sq_run.proofs.Laws.ViewRows.{are_read}
 use Rattle.sq_run.proofs.Sites.Rules.{all_cursors, cursor_sound}
 use Rattle.sq_run.proofs.Sites.SiteLaws.{all_parts}
-use Rattle.sq_run.proofs.Steps.StatesRise.{states_rise}
+use Rattle.sq_run.proofs.Steps.ReachedStates.{entries_stay, states_rise}
 use Rattle.sq_run.proofs.Laws.OpensAlike.{AllMay, AreRead, MayBeRead, OpensAlike, opens_on_rows, opens_target, shown_rows}
 
 -- ---- the query of an updatable cursor
@@ -66,7 +66,13 @@ query_of_target tables target false query e = cc
 
 -- ---- a statement in two states
 
-module _ (p : Program) (m : ModuleText) (s t : State) (same : AlikeTo p m s t) (read : AreRead p m.authorization s.tables t.tables) (values : List Value) (q : Procedure) where
+-- the user reads the same rows, and each cursor looks alike where it is there
+record EntriesAlike (p : Program) (m : ModuleText) (s t : State) : Type 0 where
+  tables : LookAlike p.elements m.authorization s.tables t.tables
+  cursors : (name : Name) → AreAlike (shown_under (target_named p.elements m name) s.tables)
+      (shown_under (target_named p.elements m name) t.tables) (entry_of s m name) (entry_of t m name)
+
+module _ (p : Program) (m : ModuleText) (s t : State) (same : EntriesAlike p m s t) (read : AreRead p m.authorization s.tables t.tables) (values : List Value) (q : Procedure) where
   abbrev before : Running
   before = running p s values m q
 
@@ -84,12 +90,12 @@ module _ (p : Program) (m : ModuleText) (s t : State) (same : AlikeTo p m s t) (
   other name = shown_under (target_named p.elements m name) t.tables
 
   abbrev Alike : Outcomes → Outcomes → Type 0
-  Alike o u = (o.1 ≡ u.1) × AlikeTo p m o.0 u.0
+  Alike o u = (o.1 ≡ u.1) × EntriesAlike p m o.0 u.0
 
   now_alike : (name : Name) → LooksAlike (one name) (other name) (cursor_now before name) (cursor_now beside name)
   now_alike name = state_alike (one name) (other name) (entry_of s m name) (entry_of t m name) (same.cursors name)
 
-  with_alike : (name : Name) (x y : CursorState) → LooksAlike (one name) (other name) x y → AlikeTo p m (with_cursor s m.name name x) (with_cursor t m.name name y)
+  with_alike : (name : Name) (x y : CursorState) → LooksAlike (one name) (other name) x y → EntriesAlike p m (with_cursor s m.name name x) (with_cursor t m.name name y)
   with_alike name x y h = record {
     tables = same.tables;
     cursors = λ k.
@@ -273,12 +279,33 @@ module _ (schemas : List SchemaText) (modules : List ModuleText) (row_numbers : 
         sym (is_read items m.authorization name target inputs means) ∙ alike name held ∙ is_read others m.authorization name target inputs means;
   }
 
+  -- the same cursors are there in both
+  entries : (items others : List Item) (m : ModuleText) → AlikeTo p m (state_after p items) (state_after p others) → EntriesAlike p m (state_after p items) (state_after p others)
+  entries items others m same = record {
+    tables = same.tables;
+    cursors = λ name.
+        entries_alike (shown_under (target_named p.elements m name) (state_after p items).tables) (shown_under (target_named p.elements m name) (state_after p others).tables)
+        (entry_of (state_after p items) m name) (entry_of (state_after p others) m name)
+        (found_if (is_entry m.name name) (state_after p items).cursors ∙ entries_stay p items m.name name
+        ∙ sym (entries_stay p others m.name name) ∙ sym (found_if (is_entry m.name name) (state_after p others).cursors))
+        (same.cursors name);
+  }
+
+  as_seen : (m : ModuleText) (s t : State) → EntriesAlike p m s t → AlikeTo p m s t
+  as_seen m s t same = record {
+    tables = same.tables;
+    cursors = λ name.
+        state_alike (shown_under (target_named p.elements m name) s.tables) (shown_under (target_named p.elements m name) t.tables) (entry_of s m name) (entry_of t m name)
+        (same.cursors name);
+  }
+
   pub cursors_tell_what_may_be_read : CursorsTellWhatMayBeRead p
   unfolding CursorsTellWhatMayBeRead
   cursors_tell_what_may_be_read = λ items others c m q is_m is_q is same.
       let s = state_after p items in
       let t = state_after p others in
+      let both = called_alike p m s t (entries items others m same) (both_read items others m same.tables) c.values q is (is_well_formed_procedure p.elements m q) refl in
       subst (λ (o : Outcomes). (o.1 ≡ replied p t c) × AlikeTo p m o.0 (stepped p t c)) (sym (called_as p s c m is_m q is_q))
       (subst (λ (o : Outcomes). let here = performed_if (is_well_formed_procedure p.elements m q) (running p s c.values m q) in (here.1 ≡ o.1) × AlikeTo p m here.0 o.0)
       (sym (called_as p t c m is_m q is_q))
-      (called_alike p m s t same (both_read items others m same.tables) c.values q is (is_well_formed_procedure p.elements m q) refl))
+      (both.0, as_seen m (performed_if (is_well_formed_procedure p.elements m q) (running p s c.values m q)).0 (performed_if (is_well_formed_procedure p.elements m q) (running p t c.values m q)).0 both.1))

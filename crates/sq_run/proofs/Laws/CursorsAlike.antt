@@ -3,16 +3,27 @@
 use Rattle.std.proofs.Common.{ap, subst, sym, ◌∙◌}
 use Rattle.std.proofs.lemmas.Bool.{and_parts}
 use Rattle.std.specs.Cmp.Lexicographic.{same_text}
-use Rattle.std.specs.List.{cons_option}
-use Rattle.std.specs.Prelude.{◌≡◌, ℕ, Bool, true, false, cond, ◌&&◌, List, [], ◌∷◌, length, map, filter_map, find, if◌then◌else◌, Option, option_map, IfSome, refl, Some, None}
+use Rattle.std.specs.List.{cons_option, list_any}
+use Rattle.std.specs.Prelude.{◌≡◌, ⊤, ◌||◌, is_some, ℕ, Bool, true, false, cond, ◌&&◌, List, [], ◌∷◌, length, map, filter_map, find, if◌then◌else◌, Option, option_map, IfSome, refl, Some, None}
 use Rattle.sq_lex.specs.declared.name.Name.{Name}
+use Rattle.sq_tree.specs.declared.module.ModuleText.{ModuleText}
 use Rattle.sq_meaning.specs.Environment.{Row, same_name}
 use Rattle.sq_meaning.specs.Cursor.{CursorState, Fetched, Move, at_number, bounded, fetched, is_open, row_at, to_next, wanted}
-use Rattle.sq_meaning.specs.Machine.{CursorEntry, is_entry, set_cursor}
-use Rattle.sq_run.specs.ConfinedCursors.{AreAlike, LooksAlike}
+use Rattle.sq_meaning.specs.Machine.{CursorEntry, State, is_entry, set_cursor}
+use Rattle.sq_run.specs.ConfinedCursors.{LooksAlike}
 use Rattle.sq_run.proofs.Steps.Projected.{state_in}
 
 -- ---- an entry that is set
+
+-- a cursor that a module declares, with its state
+abbrev pub entry_of : State → ModuleText → Name → Option CursorEntry
+entry_of s m name = find (is_entry m.name name) s.cursors
+
+-- the cursor is there in both, and looks alike, or in none
+abbrev pub AreAlike : (one other : ℕ → Option Row) → Option CursorEntry → Option CursorEntry → Type 0
+AreAlike one other None None = ⊤
+AreAlike one other (Some here) (Some there) = LooksAlike one other here.state there.state
+AreAlike one other _ _ = ⊥
 
 entry_named : (m name k other : Name) (x : CursorState) (b : Bool) (e : CursorEntry) → is_entry k other (if b then record e { state = x } else e) ≡ is_entry k other e
 entry_named m name k other x true e = refl
@@ -127,3 +138,18 @@ module _ (one other : ℕ → Option Row) where
   state_alike (Some e) (Some f) h = h
   state_alike None (Some f) h = absurd h
   state_alike (Some e) None h = absurd h
+
+  -- where it is there in both or in none
+  pub entries_alike : (o q : Option CursorEntry) → is_some o ≡ is_some q → LooksAlike one other (state_in o) (state_in q) → AreAlike one other o q
+  entries_alike None None e h = tt
+  entries_alike (Some c) (Some d) e h = h
+  entries_alike None (Some d) e h = cc
+  entries_alike (Some c) None e h = cc
+
+pub found_if : {A : Type 0} (test : A → Bool) (xs : List A) → is_some (find test xs) ≡ list_any test xs
+found_if test [] = refl
+found_if {A} test (x ∷ xs) = by_test (test x) (found_if test xs)
+  where
+    by_test : (b : Bool) → is_some (find test xs) ≡ list_any test xs → is_some (cond b (Some x) (find test xs)) ≡ (b || list_any test xs)
+    by_test true others = refl
+    by_test false others = others
