@@ -20,6 +20,11 @@ pub mod DefaultLaws
 pub mod StoredDefaultLaws
 pub mod ConfinedLaws
 pub mod TargetColumns
+pub mod TargetRows
+pub mod PlainConditions
+pub mod ViewRows
+pub mod SoundTables
 pub mod OpensAlike
+pub mod CursorsAlike
 pub mod ConfinedCursorLaws
 pub mod RisingNumbers

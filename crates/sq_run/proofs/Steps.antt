@@ -16,7 +16,7 @@ pub mod CallIsStep
 pub mod Exact
 pub mod ExactlyBound
 pub mod FirstState
-pub mod StatesRise
+pub mod ReachedStates
 pub mod Found
 pub mod Moves
 pub mod Projected

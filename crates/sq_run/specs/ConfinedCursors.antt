@@ -1,6 +1,6 @@
 -- What OPEN, FETCH and CLOSE tell: nothing but rows of tables and views on which the module's user holds SELECT, and what
 -- became of rows on which a cursor was opened (ISO/IEC 9075:1992, 4.21, 4.26 and 13.2 to 13.4).
-use Rattle.std.specs.Prelude.{◌≡◌, ⊤, ℕ, Bool, true, false, List, [], map, find, filter_map, ◌==◌, Option, option_map, option_and_then, Some, None, Ok}
+use Rattle.std.specs.Prelude.{◌≡◌, ⊤, ℕ, Bool, true, false, List, [], find, filter_map, ◌==◌, Option, option_map, option_and_then, Some, None}
 use Rattle.sq_lex.specs.declared.name.Name.{Name}
 use Rattle.sq_value.specs.Key.{in_columns}
 use Rattle.sq_store.specs.Content.{Content, table_at}
@@ -8,43 +8,18 @@ use Rattle.sq_tree.specs.declared.module.ModuleText.{ModuleText}
 use Rattle.sq_tree.specs.declared.module.Procedure.{Procedure}
 use Rattle.sq_tree.specs.declared.statement.Statement.{Statement}
 use Rattle.sq_tree.specs.declared.statement.Statement.TheVariants as statement
-use Rattle.sq_meaning.specs.Environment.{Input, Row, TableName, outermost}
-use Rattle.sq_meaning.specs.Status.{Outcome, ◌>>=◌}
-use Rattle.sq_meaning.specs.Tables.{by_name}
-use Rattle.sq_meaning.specs.Target.{Target, chosen, target_of}
-use Rattle.sq_meaning.specs.Catalog.{tables_of}
+use Rattle.sq_meaning.specs.Environment.{Row}
+use Rattle.sq_meaning.specs.Target.{Target}
 use Rattle.sq_meaning.specs.Cursor.{CursorState}
-use Rattle.sq_meaning.specs.Machine.{Call, CursorEntry, Program, State, is_entry, replied, stepped}
+use Rattle.sq_meaning.specs.Machine.{Call, Program, State, cursor_at, replied, stepped}
 use Rattle.sq_meaning.specs.Module.{cursor_named, module_named, procedure_named}
-use Rattle.sq_meaning.specs.Privilege.{Privilege}
-use Rattle.sq_meaning.specs.Privileges.{holds}
+use Rattle.sq_meaning.specs.Run.{Item}
 use Rattle.sq_meaning.specs.Schema.{Elements}
 use Rattle.sq_meaning.specs.WellFormedStatement.{updatable_cursor}
 use Rattle.sq_run.specs.Confined.{LookAlike}
-use Rattle.sq_run.specs.RowNumbers.{RowsRise}
-
--- ---- updatable tables and views
-
--- the rows of an updatable table or view: those of the base table under it that meet its conditions, in its columns
-abbrev pub shown_rows : Elements → Name → List Input → Target → Content → Outcome (List Row)
-shown_rows elements user inputs target content = do
-  found ← chosen (by_name (tables_of elements) content user) (outermost inputs user) target.levels
-      (table_at content target.place).rows
-  Ok (map (λ r. in_columns r.row target.columns) found)
-
--- Each updatable table and view on which the user holds SELECT has the same rows in both databases. The inputs are those of
--- any call; a view's query reads none.
-abbrev pub TargetsLookAlike : Elements → Name → Content → Content → Type 0
-TargetsLookAlike elements user one other =
-    (name : TableName) (target : Target) (inputs : List Input)
-    → holds elements user name Privilege.select ≡ true → target_of (tables_of elements) name ≡ Ok target
-    → shown_rows elements user inputs target one ≡ shown_rows elements user inputs target other
+use Rattle.sq_run.specs.ShownRows.{state_after}
 
 -- ---- cursors
-
--- a cursor that a module declares, with its state
-abbrev pub entry_of : State → ModuleText → Name → Option CursorEntry
-entry_of s m name = find (is_entry m.name name) s.cursors
 
 -- what the cursor of this name is over, if it is updatable
 abbrev pub target_named : Elements → ModuleText → Name → Option Target
@@ -69,25 +44,13 @@ LooksAlike one other (CursorState.over_rows rows place) (CursorState.over_rows o
     (rows ≡ others) × (place ≡ beside)
 LooksAlike one other _ _ = ⊥
 
--- the cursor is there in both, and looks alike, or in none
-abbrev pub AreAlike : (one other : ℕ → Option Row) → Option CursorEntry → Option CursorEntry → Type 0
-AreAlike one other None None = ⊤
-AreAlike one other (Some here) (Some there) = LooksAlike one other here.state there.state
-AreAlike one other _ _ = ⊥
-
 -- ---- what a module may see
 
--- two states look alike to a module
+-- Two states look alike to a module: its user reads the same rows, and its cursors look alike.
 pub record AlikeTo (p : Program) (m : ModuleText) (s t : State) : Type 0 where
-  -- rows stand by their numbers, as they do after any calls,
-  pub numbered : RowsRise s.tables × RowsRise t.tables
-  -- its user reads the same rows,
   pub tables : LookAlike p.elements m.authorization s.tables t.tables
-  -- those of updatable tables and views also as cursors come to them,
-  pub targets : TargetsLookAlike p.elements m.authorization s.tables t.tables
-  -- and its cursors look alike
-  pub cursors : (name : Name) → AreAlike (shown_under (target_named p.elements m name) s.tables)
-      (shown_under (target_named p.elements m name) t.tables) (entry_of s m name) (entry_of t m name)
+  pub cursors : (name : Name) → LooksAlike (shown_under (target_named p.elements m name) s.tables)
+      (shown_under (target_named p.elements m name) t.tables) (cursor_at s m.name name) (cursor_at t m.name name)
 
 abbrev pub is_of_cursor : Statement → Bool
 is_of_cursor (statement.Open name) = true
@@ -96,9 +59,12 @@ is_of_cursor (statement.Close name) = true
 is_of_cursor _ = false
 
 -- A call of OPEN, FETCH or CLOSE answers the same in two states that look alike to its module, and they look alike to it
--- afterwards.
+-- afterwards, whatever items led to the one and to the other.
 unfoldable pub CursorsTellWhatMayBeRead : Program → Type 0
-CursorsTellWhatMayBeRead p = (s t : State) (c : Call) (m : ModuleText) (q : Procedure)
+CursorsTellWhatMayBeRead p =
+    (items others : List Item) (c : Call) (m : ModuleText) (q : Procedure)
     → module_named p.modules c.in_module ≡ Some m → procedure_named m c.procedure ≡ Some q
-    → is_of_cursor q.statement ≡ true → AlikeTo p m s t
-    → (replied p s c ≡ replied p t c) × AlikeTo p m (stepped p s c) (stepped p t c)
+    → is_of_cursor q.statement ≡ true →
+    let s : State = state_after p items in
+    let t : State = state_after p others in
+    AlikeTo p m s t → (replied p s c ≡ replied p t c) × AlikeTo p m (stepped p s c) (stepped p t c)

@@ -8,7 +8,6 @@ use Rattle.sq_run.specs.Defaults.{DefaultsAreNotReached}
 use Rattle.sq_run.specs.Faulty.{FaultsChangeNothing}
 use Rattle.sq_run.specs.Integrity.{OnlyAllowedChanges}
 use Rattle.sq_run.specs.Kept.{ConstraintsAreKept, FailuresChangeNothing}
-use Rattle.sq_run.specs.RowNumbers.{RowsAlwaysRise}
 use Rattle.sq_run.specs.ShownRows.{FetchShowsRowsNow}
 
 pub record Lawful (p : Program) : Type 0 where
@@ -28,9 +27,7 @@ pub record Lawful (p : Program) : Type 0 where
   pub selected : SelectTellsWhatMayBeRead p
   -- of each site of a statement, the rules that may find a fault there are listed
   pub rules : OnlyListedRulesBreak
-  -- so do OPEN, FETCH and CLOSE
+  -- OPEN, FETCH and CLOSE tell nothing else, but what became of rows on which a cursor was opened
   pub cursors : CursorsTellWhatMayBeRead p
-  -- rows stand by rising numbers
-  pub numbered : RowsAlwaysRise p
   -- what the definitions write by default, for what can't be, is never reached
   pub defaults : DefaultsAreNotReached p

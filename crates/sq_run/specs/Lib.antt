@@ -17,7 +17,6 @@ pub mod Opens
 pub mod Processor
 pub mod Refused
 pub mod Reported
-pub mod RowNumbers
 pub mod ShownRows
 pub mod Spelling
 pub mod Stored

@@ -97,6 +97,11 @@ pub view_is_sound : (before : Elements) (user : Name) (v : ViewDefinition) → I
     → view_has_fault before user v ≡ false
 view_is_sound before user v h = (or_parts (view_has_fault before user v) (has_bad_names before user v v.columns) h.1.1.1.1.1.1.1.1.0).0
 
+-- its column list has as many names as its query has columns
+pub view_names_fit : (before : Elements) (user : Name) (v : ViewDefinition) → IsAccepted before user (element.View v)
+    → has_bad_names before user v v.columns ≡ false
+view_names_fit before user v h = (or_parts (view_has_fault before user v) (has_bad_names before user v v.columns) h.1.1.1.1.1.1.1.1.0).1
+
 -- a table stands in the schema of its user
 pub table_of_user : (before : Elements) (user : Name) (t : TableDefinition) → IsAccepted before user (element.Table t)
     → (table_of user t.name).user ≡ user

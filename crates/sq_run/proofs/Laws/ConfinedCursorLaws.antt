@@ -1,20 +1,18 @@
 -- OPEN, FETCH and CLOSE answer the same in two states that look alike to the module, and the states look alike afterwards
 -- (ISO/IEC 9075:1992, 4.26 and 13.2 to 13.4).
 use Rattle.std.proofs.Common.{ap, subst, sym, ◌∙◌}
-use Rattle.std.proofs.lemmas.Bool.{and_parts}
-use Rattle.std.specs.Cmp.Lexicographic.{same_text}
-use Rattle.std.specs.List.{cons_option}
-use Rattle.std.specs.Prelude.{◌≡◌, ℕ, Bool, true, false, cond, ◌&&◌, List, [], ◌∷◌, length, map, filter_map, find, if◌then◌else◌, Option, unwrap_or, option_map, option_and_then, IfSome, refl, Some, None, Ok, Err}
+use Rattle.std.specs.Prelude.{◌≡◌, ℕ, Bool, true, false, List, [], if◌then◌else◌, Option, unwrap_or, option_map, option_and_then, refl, Some, None, Ok, Err}
 use Rattle.std.specs.Result.{result_ok}
 use Rattle.sq_lex.specs.declared.name.Name.{Name}
 use Rattle.sq_value.specs.declared.value.Value.{Value}
 use Rattle.sq_tree.specs.declared.module.Cursor.{Cursor}
 use Rattle.sq_tree.specs.declared.module.ModuleText.{ModuleText}
 use Rattle.sq_tree.specs.declared.module.Procedure.{Procedure}
+use Rattle.sq_tree.specs.declared.schema.SchemaText.{SchemaText}
 use Rattle.sq_tree.specs.declared.statement.Fetch.{Fetch}
 use Rattle.sq_tree.specs.declared.statement.Statement.{Statement}
 use Rattle.sq_tree.specs.declared.statement.Statement.TheVariants as statement
-use Rattle.sq_meaning.specs.Environment.{same_name, Env, Item, Row}
+use Rattle.sq_meaning.specs.Environment.{Env, Input, Item as FromItem, Row, TableName}
 use Rattle.sq_meaning.specs.Kind.{Kinds}
 use Rattle.sq_meaning.specs.QueryExpression.{query_rows}
 use Rattle.sq_meaning.specs.Rows.{SortColumn, by_columns, sorted}
@@ -27,138 +25,30 @@ use Rattle.sq_meaning.specs.declared.status.Status.TheVariants as status
 use Rattle.sq_meaning.proofs.Bind.{bind_ok}
 use Rattle.sq_meaning.specs.Catalog.{tables_of}
 use Rattle.sq_meaning.specs.Change.{outer_env, reading}
-use Rattle.sq_meaning.specs.Cursor.{CursorState, Fetched, Move, at_number, before_rows, bounded, fetched, is_open, row_at, to_next, wanted}
-use Rattle.sq_meaning.specs.Machine.{CursorEntry, Outcomes, Program, Running, State, close_cursor, cursor_now, cursor_rows, ends_with, fetch_cursor, fetch_reply, fetch_to, is_entry, move_of, moved, numbers_or_rows, open_by, open_cursor, opened, performed, performed_if, replied, running, set_cursor, setting, shown_now, sort_order, stepped, surroundings, with_cursor}
+use Rattle.sq_meaning.specs.Cursor.{CursorState, Fetched, Move, before_rows, fetched, is_open}
+use Rattle.sq_meaning.specs.Machine.{is_entry, CursorEntry, Outcomes, Program, Running, State, close_cursor, cursor_now, cursor_rows, ends_with, fetch_cursor, fetch_reply, fetch_to, move_of, moved, numbers_or_rows, open_by, open_cursor, opened, performed, performed_if, replied, running, set_cursor, setting, shown_now, sort_order, stepped, surroundings, with_cursor}
 use Rattle.sq_meaning.specs.Module.{cursor_named}
 use Rattle.sq_meaning.specs.Parameter.{inputs_of, replied_with}
 use Rattle.sq_meaning.specs.Privileges.{holds}
+use Rattle.sq_meaning.specs.Run.{Item, program_of}
+use Rattle.sq_meaning.specs.SchemaRefusal.{first_schema_refusal}
 use Rattle.sq_meaning.specs.Site.{Known, Site, outside, query_sites, select_sites}
 use Rattle.sq_meaning.specs.WellFormedStatement.{Surroundings, cursor_query, cursor_names, cursor_sites, is_plain, is_sound, is_well_formed_procedure, judged_by, known_in, known_in_query, only_specification, opener_surroundings, orientation_of, sort_sites, statement_sites, updatable_cursor}
-use Rattle.sq_run.specs.ConfinedCursors.{AlikeTo, AreAlike, CursorsTellWhatMayBeRead, LooksAlike, entry_of, is_of_cursor, shown_under, target_named}
+use Rattle.sq_run.specs.Confined.{LookAlike}
+use Rattle.sq_run.specs.ShownRows.{state_after}
+use Rattle.sq_run.specs.ConfinedCursors.{AlikeTo, CursorsTellWhatMayBeRead, LooksAlike, is_of_cursor, shown_under, target_named}
 use Rattle.sq_run.proofs.Laws.CalledAs.{called_as}
+use Rattle.sq_run.proofs.Laws.CursorsAlike.{AreAlike, FetchedAlike, entries_alike, entry_of, entry_set, fetched_alike, found_if, found_under, open_alike, set_alike, state_alike}
 use Rattle.sq_run.proofs.Laws.ConfinedLaws.{query_alike}
 use Rattle.sq_run.proofs.Laws.IntegrityLaws.{WellFormed, none_missing}
-use Rattle.sq_run.proofs.Laws.TargetColumns.{is_over}
+use Rattle.sq_run.proofs.Laws.NameLaws.{constraints_hold_in_runs}
+use Rattle.sq_run.proofs.Laws.SoundTables.{all_sound, names_fit}
+use Rattle.sq_run.proofs.Laws.TargetColumns.{are_as_wide, is_over}
+use Rattle.sq_run.proofs.Laws.ViewRows.{are_read}
 use Rattle.sq_run.proofs.Sites.Rules.{all_cursors, cursor_sound}
 use Rattle.sq_run.proofs.Sites.SiteLaws.{all_parts}
-use Rattle.sq_run.proofs.Steps.Projected.{state_in}
-use Rattle.sq_run.proofs.Laws.OpensAlike.{AllMay, MayBeRead, OpensAlike, opens_on_rows, opens_target}
-
--- ---- an entry that is set
-
-entry_named : (m name k other : Name) (x : CursorState) (b : Bool) (e : CursorEntry) → is_entry k other (if b then record e { state = x } else e) ≡ is_entry k other e
-entry_named m name k other x true e = refl
-entry_named m name k other x false e = refl
-
-entry_set : (m name k other : Name) (x : CursorState) (es : List CursorEntry)
-    → find (is_entry k other) (map (set_cursor m name x) es) ≡ option_map (set_cursor m name x) (find (is_entry k other) es)
-entry_set m name k other x [] = refl
-entry_set m name k other x (e ∷ es) =
-    ap (λ b. cond b (Some (set_cursor m name x e)) (find (is_entry k other) (map (set_cursor m name x) es))) (entry_named m name k other x (is_entry m name e) e)
-    ∙ by_test (is_entry k other e) (entry_set m name k other x es)
-  where
-    by_test : (b : Bool) → find (is_entry k other) (map (set_cursor m name x) es) ≡ option_map (set_cursor m name x) (find (is_entry k other) es)
-        → cond b (Some (set_cursor m name x e)) (find (is_entry k other) (map (set_cursor m name x) es)) ≡ option_map (set_cursor m name x) (cond b (Some e) (find (is_entry k other) es))
-    by_test true others = refl
-    by_test false others = others
-
-abbrev IsUnder : (m k : Name) → Option CursorEntry → Type 0
-IsUnder m k o = IfSome o (λ e. is_entry m k e ≡ true)
-
-found_under : (m k : Name) (es : List CursorEntry) → IsUnder m k (find (is_entry m k) es)
-found_under m k [] = tt
-found_under m k (e ∷ es) = by_test (is_entry m k e) refl (found_under m k es)
-  where
-    by_test : (b : Bool) → is_entry m k e ≡ b → IsUnder m k (find (is_entry m k) es) → IsUnder m k (cond b (Some e) (find (is_entry m k) es))
-    by_test true is others = is
-    by_test false is others = others
-
--- the entry of another name stays, and that of this name is set in both
-set_alike : (m name k : Name) (x y : CursorState) (one other : ℕ → Option Row) (o q : Option CursorEntry) → IsUnder m k o → IsUnder m k q
-    → AreAlike one other o q → (k ≡ name → LooksAlike one other x y) → AreAlike one other (option_map (set_cursor m name x) o) (option_map (set_cursor m name y) q)
-set_alike m name k x y one other None None h g alike set = tt
-set_alike m name k x y one other None (Some f) h g alike set = alike
-set_alike m name k x y one other (Some e) None h g alike set = alike
-set_alike m name k x y one other (Some e) (Some f) h g alike set =
-    by_names (is_entry m name e) (is_entry m name f) (names_are e h ∙ sym (names_are f g))
-    (λ is. set (same_text k name (sym (and_parts (same_name m m) (same_name k name) (sym (names_are e h) ∙ is)).1)))
-  where
-    names_are : (z : CursorEntry) → is_entry m k z ≡ true → is_entry m name z ≡ (same_name m m && same_name k name)
-    names_are z is =
-        let parts = and_parts (same_name z.in_module m) (same_name z.name k) is in
-        (λ i. same_name (same_text z.in_module m (sym parts.0) i) m && same_name (same_text z.name k (sym parts.1) i) name)
-
-    by_names : (b d : Bool) → b ≡ d → (b ≡ true → LooksAlike one other x y)
-        → LooksAlike one other (if b then record e { state = x } else e).state (if d then record f { state = y } else f).state
-    by_names true true same set = set refl
-    by_names false false same set = alike
-    by_names true false same set = cc
-    by_names false true same set = cc
-
--- ---- FETCH of two cursors that look alike
-
-abbrev IsAt : (ℕ → Option Row) → List Row → CursorState → Type 0
-IsAt now rows c = (numbers : List ℕ) × (on : Option ℕ) × (c ≡ CursorState.over_numbers numbers on) × (filter_map now numbers ≡ rows)
-
--- a FETCH comes to the first of the rows, and the others are left
-abbrev Comes : (ℕ → Option Row) → List Row → Fetched → Type 0
-Comes now [] f = (f.row ≡ None) × IsAt now [] f.cursor
-Comes now (row ∷ rows) f = (f.row ≡ Some row) × IsAt now rows f.cursor
-
-comes : (now : ℕ → Option Row) (numbers : List ℕ) → Comes now (filter_map now numbers) (to_next now numbers)
-comes now [] = (refl, ([], None, refl, refl))
-comes now (n ∷ numbers) = by_row (now n) (comes now numbers)
-  where
-    by_row : (o : Option Row) → Comes now (filter_map now numbers) (to_next now numbers)
-        → Comes now (cons_option o (filter_map now numbers)) (at_number numbers n (to_next now numbers) o)
-    by_row None further = further
-    by_row (Some row) further = (refl, (numbers, Some n, refl, refl))
-
-module _ (one other : ℕ → Option Row) where
-  abbrev FetchedAlike : Fetched → Fetched → Type 0
-  FetchedAlike f g = (f.row ≡ g.row) × LooksAlike one other f.cursor g.cursor
-
-  at_alike : (rows : List Row) (c d : CursorState) → IsAt one rows c → IsAt other rows d → LooksAlike one other c d
-  at_alike rows c d h g =
-      subst (λ x. LooksAlike one other x d) (sym h.2)
-      (subst (λ x. LooksAlike one other (CursorState.over_numbers h.0 h.1) x) (sym g.2) (h.3 ∙ sym g.3))
-
-  both_come : (rows : List Row) (f g : Fetched) → Comes one rows f → Comes other rows g → FetchedAlike f g
-  both_come [] f g h k = (h.0 ∙ sym k.0, at_alike [] f.cursor g.cursor h.1 k.1)
-  both_come (row ∷ rows) f g h k = (h.0 ∙ sym k.0, at_alike rows f.cursor g.cursor h.1 k.1)
-
-  fetched_alike : (move : Move) (c d : CursorState) → LooksAlike one other c d → FetchedAlike (fetched one move c) (fetched other move d)
-  fetched_alike move CursorState.closed CursorState.closed h = (refl, tt)
-  fetched_alike move (CursorState.over_numbers numbers on) (CursorState.over_numbers others beside) h =
-      both_come (filter_map one numbers) (to_next one numbers) (to_next other others) (comes one numbers)
-      (subst (λ rows. Comes other rows (to_next other others)) (sym h) (comes other others))
-  fetched_alike move (CursorState.over_rows rows place) (CursorState.over_rows others beside) h = (
-    λ i. row_at (h.0 i) (bounded (length (h.0 i)) (wanted move (length (h.0 i)) (h.1 i))),
-    (h.0, λ i. bounded (length (h.0 i)) (wanted move (length (h.0 i)) (h.1 i))),
-  )
-  fetched_alike move CursorState.closed (CursorState.over_numbers others beside) h = absurd h
-  fetched_alike move CursorState.closed (CursorState.over_rows others beside) h = absurd h
-  fetched_alike move (CursorState.over_numbers numbers on) CursorState.closed h = absurd h
-  fetched_alike move (CursorState.over_numbers numbers on) (CursorState.over_rows others beside) h = absurd h
-  fetched_alike move (CursorState.over_rows rows place) CursorState.closed h = absurd h
-  fetched_alike move (CursorState.over_rows rows place) (CursorState.over_numbers others beside) h = absurd h
-
-  open_alike : (c d : CursorState) → LooksAlike one other c d → is_open c ≡ is_open d
-  open_alike CursorState.closed CursorState.closed h = refl
-  open_alike (CursorState.over_numbers numbers on) (CursorState.over_numbers others beside) h = refl
-  open_alike (CursorState.over_rows rows place) (CursorState.over_rows others beside) h = refl
-  open_alike CursorState.closed (CursorState.over_numbers others beside) h = absurd h
-  open_alike CursorState.closed (CursorState.over_rows others beside) h = absurd h
-  open_alike (CursorState.over_numbers numbers on) CursorState.closed h = absurd h
-  open_alike (CursorState.over_numbers numbers on) (CursorState.over_rows others beside) h = absurd h
-  open_alike (CursorState.over_rows rows place) CursorState.closed h = absurd h
-  open_alike (CursorState.over_rows rows place) (CursorState.over_numbers others beside) h = absurd h
-
-  state_alike : (o q : Option CursorEntry) → AreAlike one other o q → LooksAlike one other (state_in o) (state_in q)
-  state_alike None None h = tt
-  state_alike (Some e) (Some f) h = h
-  state_alike None (Some f) h = absurd h
-  state_alike (Some e) None h = absurd h
+use Rattle.sq_run.proofs.Steps.ReachedStates.{entries_stay, states_rise}
+use Rattle.sq_run.proofs.Laws.OpensAlike.{AllMay, AreRead, MayBeRead, OpensAlike, opens_on_rows, opens_target, shown_rows}
 
 -- ---- the query of an updatable cursor
 
@@ -176,7 +66,13 @@ query_of_target tables target false query e = cc
 
 -- ---- a statement in two states
 
-module _ (p : Program) (m : ModuleText) (s t : State) (same : AlikeTo p m s t) (values : List Value) (q : Procedure) where
+-- the user reads the same rows, and each cursor looks alike where it is there
+record EntriesAlike (p : Program) (m : ModuleText) (s t : State) : Type 0 where
+  tables : LookAlike p.elements m.authorization s.tables t.tables
+  cursors : (name : Name) → AreAlike (shown_under (target_named p.elements m name) s.tables)
+      (shown_under (target_named p.elements m name) t.tables) (entry_of s m name) (entry_of t m name)
+
+module _ (p : Program) (m : ModuleText) (s t : State) (same : EntriesAlike p m s t) (read : AreRead p m.authorization s.tables t.tables) (values : List Value) (q : Procedure) where
   abbrev before : Running
   before = running p s values m q
 
@@ -194,16 +90,14 @@ module _ (p : Program) (m : ModuleText) (s t : State) (same : AlikeTo p m s t) (
   other name = shown_under (target_named p.elements m name) t.tables
 
   abbrev Alike : Outcomes → Outcomes → Type 0
-  Alike o u = (o.1 ≡ u.1) × AlikeTo p m o.0 u.0
+  Alike o u = (o.1 ≡ u.1) × EntriesAlike p m o.0 u.0
 
   now_alike : (name : Name) → LooksAlike (one name) (other name) (cursor_now before name) (cursor_now beside name)
   now_alike name = state_alike (one name) (other name) (entry_of s m name) (entry_of t m name) (same.cursors name)
 
-  with_alike : (name : Name) (x y : CursorState) → LooksAlike (one name) (other name) x y → AlikeTo p m (with_cursor s m.name name x) (with_cursor t m.name name y)
+  with_alike : (name : Name) (x y : CursorState) → LooksAlike (one name) (other name) x y → EntriesAlike p m (with_cursor s m.name name x) (with_cursor t m.name name y)
   with_alike name x y h = record {
-    numbered = same.numbered;
     tables = same.tables;
-    targets = same.targets;
     cursors = λ k.
         subst (λ (o : Option CursorEntry). AreAlike (one k) (other k) o (entry_of (with_cursor t m.name name y) m k)) (sym (entry_set m.name name m.name k x s.cursors))
         (subst (λ (o : Option CursorEntry). AreAlike (one k) (other k) (option_map (set_cursor m.name name x) (entry_of s m k)) o) (sym (entry_set m.name name m.name k y t.cursors))
@@ -233,14 +127,14 @@ module _ (p : Program) (m : ModuleText) (s t : State) (same : AlikeTo p m s t) (
     known = known_in_query (opener_surroundings around c)
 
     abbrev May : List Site → Type 0
-    May sites = AllMay p m s t same sites
+    May sites = AllMay p m s t read sites
 
     query_may : May (query_sites known (cursor_query around c))
     query_may =
-        (all_parts (MayBeRead p m s t same) (query_sites known (cursor_query around c)) (sort_sites (cursor_names around c) (listed_if_any c.order_by))
+        (all_parts (MayBeRead p m s t read) (query_sites known (cursor_query around c)) (sort_sites (cursor_names around c) (listed_if_any c.order_by))
         (none_missing (judged_by around known) (cursor_sites around c) sound)).0
 
-    query_same : (kinds : Kinds Named) (env : Env Item)
+    query_same : (kinds : Kinds Named) (env : Env FromItem)
         → query_rows (reading (setting before)) kinds (cursor_query around c) env ≡ query_rows (reading (setting beside)) kinds (cursor_query around c) env
     query_same kinds env =
         query_alike (tables_of p.elements) (table_rows (tables_of p.elements) s.tables m.authorization) (table_rows (tables_of p.elements) t.tables m.authorization)
@@ -265,7 +159,7 @@ module _ (p : Program) (m : ModuleText) (s t : State) (same : AlikeTo p m s t) (
         let same_target : seen_through (record { item = record { reference = over.reference; columns = column_names over.table }; columns = over.columns; condition = filter }) under.0 ≡ target
         = ap (λ (x : Source). seen_through x under.0) (sym over.is) ∙ made in
         subst (λ (x : Target). Opens (Some x)) same_target
-        (opens_target p m s t same (inputs_of before.parameters) known distinct list from filter by having may found.0 over under.0 means)
+        (opens_target p m s t read (inputs_of before.parameters) known distinct list from filter by having may found.0 over under.0 means)
 
     opens_alike : (o : Option Target) → updatable_cursor around c ≡ o → Opens o
     opens_alike None e =
@@ -361,10 +255,57 @@ module _ (p : Program) (m : ModuleText) (s t : State) (same : AlikeTo p m s t) (
   called_alike is true e = statement_alike q.statement is e
   called_alike is false e = (refl, same)
 
-pub cursors_tell_what_may_be_read : (p : Program) → CursorsTellWhatMayBeRead p
-unfolding CursorsTellWhatMayBeRead
-cursors_tell_what_may_be_read p = λ s t c m q is_m is_q is same.
-    subst (λ (o : Outcomes). (o.1 ≡ replied p t c) × AlikeTo p m o.0 (stepped p t c)) (sym (called_as p s c m is_m q is_q))
-    (subst (λ (o : Outcomes). let here = performed_if (is_well_formed_procedure p.elements m q) (running p s c.values m q) in (here.1 ≡ o.1) × AlikeTo p m here.0 o.0)
-    (sym (called_as p t c m is_m q is_q))
-    (called_alike p m s t same c.values q is (is_well_formed_procedure p.elements m q) refl))
+-- ---- in accepted texts, after any items
+
+module _ (schemas : List SchemaText) (modules : List ModuleText) (row_numbers : ℕ) (accepted : first_schema_refusal schemas ≡ None) where
+  abbrev p : Program
+  p = program_of schemas modules row_numbers
+
+  -- what a target shows is what is read under its name
+  is_read : (items : List Item) (user : Name) (name : TableName) (target : Target) (inputs : List Input) → target_of (tables_of p.elements) name ≡ Ok target
+      → table_rows (tables_of p.elements) (state_after p items).tables user name ≡ shown_rows p.elements user inputs target (state_after p items).tables
+  is_read items user name target inputs means =
+      are_read (state_after p items).tables user (tables_of p.elements) (table_rows (tables_of p.elements) (state_after p items).tables user) inputs p.elements
+      (names_fit schemas accepted)
+      (all_sound schemas accepted (state_after p items).tables (constraints_hold_in_runs schemas modules row_numbers items accepted).0 user) name target means
+
+  both_read : (items others : List Item) (m : ModuleText) → LookAlike p.elements m.authorization (state_after p items).tables (state_after p others).tables
+      → AreRead p m.authorization (state_after p items).tables (state_after p others).tables
+  both_read items others m alike = record {
+    wide = are_as_wide p.elements (names_fit schemas accepted);
+    rise = ((states_rise p items).0, (states_rise p others).0);
+    tables = alike;
+    targets = λ name target inputs held means.
+        sym (is_read items m.authorization name target inputs means) ∙ alike name held ∙ is_read others m.authorization name target inputs means;
+  }
+
+  -- the same cursors are there in both
+  entries : (items others : List Item) (m : ModuleText) → AlikeTo p m (state_after p items) (state_after p others) → EntriesAlike p m (state_after p items) (state_after p others)
+  entries items others m same = record {
+    tables = same.tables;
+    cursors = λ name.
+        entries_alike (shown_under (target_named p.elements m name) (state_after p items).tables) (shown_under (target_named p.elements m name) (state_after p others).tables)
+        (entry_of (state_after p items) m name) (entry_of (state_after p others) m name)
+        (found_if (is_entry m.name name) (state_after p items).cursors ∙ entries_stay p items m.name name
+        ∙ sym (entries_stay p others m.name name) ∙ sym (found_if (is_entry m.name name) (state_after p others).cursors))
+        (same.cursors name);
+  }
+
+  as_seen : (m : ModuleText) (s t : State) → EntriesAlike p m s t → AlikeTo p m s t
+  as_seen m s t same = record {
+    tables = same.tables;
+    cursors = λ name.
+        state_alike (shown_under (target_named p.elements m name) s.tables) (shown_under (target_named p.elements m name) t.tables) (entry_of s m name) (entry_of t m name)
+        (same.cursors name);
+  }
+
+  pub cursors_tell_what_may_be_read : CursorsTellWhatMayBeRead p
+  unfolding CursorsTellWhatMayBeRead
+  cursors_tell_what_may_be_read = λ items others c m q is_m is_q is same.
+      let s = state_after p items in
+      let t = state_after p others in
+      let both = called_alike p m s t (entries items others m same) (both_read items others m same.tables) c.values q is (is_well_formed_procedure p.elements m q) refl in
+      subst (λ (o : Outcomes). (o.1 ≡ replied p t c) × AlikeTo p m o.0 (stepped p t c)) (sym (called_as p s c m is_m q is_q))
+      (subst (λ (o : Outcomes). let here = performed_if (is_well_formed_procedure p.elements m q) (running p s c.values m q) in (here.1 ≡ o.1) × AlikeTo p m here.0 o.0)
+      (sym (called_as p t c m is_m q is_q))
+      (both.0, as_seen m (performed_if (is_well_formed_procedure p.elements m q) (running p s c.values m q)).0 (performed_if (is_well_formed_procedure p.elements m q) (running p t c.values m q)).0 both.1))

@@ -123,7 +123,7 @@ in_snoc (w ∷ xs) x (suc i) y e = further (in_snoc xs x i y e)
     further (inl h) = inl h
     further (inr h) = inr (ap suc h.0, h.1)
 
-base_grows : (user : Name) (t : TableDefinition) (before : Elements)
+pub base_grows : (user : Name) (t : TableDefinition) (before : Elements)
     → base_tables (record { user = user; element = element.Table t } ∷ before) ≡ base_tables before ++ (record { name = table_of user t.name; definition = t } ∷ [])
 base_grows user t before = reverse_onto (filter_map (λ e. base_table_of e.user e.element) before) (record { name = table_of user t.name; definition = t }) []
 

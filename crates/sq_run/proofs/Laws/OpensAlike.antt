@@ -1,22 +1,23 @@
--- In two states that look alike to a module, OPEN of a cursor comes to the same rows (ISO/IEC 9075:1992, 7.9, 13.1 and 13.2).
+-- In two states where the user reads the same rows, OPEN of a cursor comes to the same rows (ISO/IEC 9075:1992, 7.9, 13.1 and 13.2).
 use Rattle.std.proofs.Common.{ap, arith, subst, sym, ◌∙◌}
 use Rattle.std.proofs.lemmas.Bool.{not-false}
 use Rattle.std.proofs.lemmas.List.{length-map}
 use Rattle.std.specs.List.{AllByRecursion, cons_option}
-use Rattle.std.specs.Prelude.{◌≡◌, ℕ, ◌<◌, IfOk, filter_map, Bool, true, false, List, [], ◌∷◌, ◌++◌, length, map, find, nat_eq, Option, option_map, refl, Some, Ok, Err}
+use Rattle.std.specs.Prelude.{◌≡◌, ℕ, ◌<◌, IfOk, filter_map, Bool, true, false, List, [], ◌∷◌, length, map, find, nat_eq, Option, option_map, refl, Some, Ok, Err}
+use Rattle.sq_lex.specs.declared.name.Name.{Name}
 use Rattle.sq_value.specs.Key.{in_columns}
 use Rattle.sq_store.specs.Content.{Content, table_at}
 use Rattle.sq_store.specs.declared.table.Numbered.{Numbered}
 use Rattle.sq_tree.specs.declared.module.ModuleText.{ModuleText}
 use Rattle.sq_tree.specs.declared.names.ColumnReference.{ColumnReference}
-use Rattle.sq_meaning.specs.Environment.{Env, Input, Item, Row, TableReference, alone, outermost, within}
+use Rattle.sq_meaning.specs.Environment.{Env, Input, Item, Row, TableName, TableReference, alone, outermost, within}
 use Rattle.sq_meaning.specs.Expression.{Reading}
-use Rattle.sq_meaning.specs.Query.{clause_truth, is_grouped, is_true, rows}
+use Rattle.sq_meaning.specs.Query.{clause_truth, is_true}
 use Rattle.sq_meaning.specs.Spelled.{Named}
 use Rattle.sq_meaning.specs.Status.{Outcome, and_then, kept}
 use Rattle.sq_meaning.specs.Syntax.{Clause, SelectList, select}
 use Rattle.sq_meaning.specs.Tables.{by_name, column_names, table_rows}
-use Rattle.sq_meaning.specs.Target.{Level, Source, Target, chosen, chosen_numbers, level_truth, seen_through, target_of}
+use Rattle.sq_meaning.specs.Target.{Level, Source, Target, chosen, chosen_numbers, seen_through, target_of}
 use Rattle.sq_meaning.proofs.AnswerLaws.{all_weaker}
 use Rattle.sq_meaning.proofs.OutcomeLaws.{kept_map}
 use Rattle.sq_meaning.specs.Binding.{privilege_missing}
@@ -25,49 +26,17 @@ use Rattle.sq_meaning.specs.Cursor.{CursorState, before_numbers, before_rows}
 use Rattle.sq_meaning.specs.Machine.{Program, State}
 use Rattle.sq_meaning.specs.Privilege.{Privilege}
 use Rattle.sq_meaning.specs.Privileges.{holds}
-use Rattle.sq_meaning.specs.Site.{Known, Site, clause_sites, inside, list_count, list_sites, outside, plain_query, select_sites, shown_query}
-use Rattle.sq_run.specs.ConfinedCursors.{AlikeTo, LooksAlike, shown_under}
-use Rattle.sq_run.specs.RowNumbers.{RowsRise}
+use Rattle.sq_meaning.specs.Schema.{Elements}
+use Rattle.sq_meaning.specs.Site.{Known, Site, clause_sites, inside, outside, plain_query, select_sites}
+use Rattle.sq_run.specs.Confined.{LookAlike}
+use Rattle.sq_run.specs.ConfinedCursors.{LooksAlike, shown_under}
 use Rattle.sq_run.proofs.Laws.ConfinedLaws.{clause_alike}
-use Rattle.sq_run.proofs.Laws.TargetColumns.{IsOver, all_below, are_wide, taken_in_turn}
+use Rattle.sq_run.proofs.Laws.TargetColumns.{AreAsWide, IsOver, all_below, taken_in_turn}
+use Rattle.sq_run.proofs.Laws.TargetRows.{chosen_last, chosen_of, read_parts}
 use Rattle.sq_run.proofs.Changed.RowsAgain.{all_there, all_within}
-use Rattle.sq_run.proofs.Places.Outcomes.{if_then, kept_of, ok_same}
-use Rattle.sq_run.proofs.Sites.SiteLaws.{all_of_mapped, all_parts}
-
--- ---- rows that a target means
-
--- the last condition is met by rows that met those before it
-chosen_last : (m : Reading Named) (env : Env Item) (levels : List Level) (last : Level) (rows : List Numbered)
-    → chosen m env (levels ++ last ∷ []) rows ≡ and_then (chosen m env levels rows) (chosen m env (last ∷ []))
-chosen_last m env [] last rows = refl
-chosen_last m env (level ∷ levels) last rows = by_kept (kept (λ r. is_true (level_truth m env level r.row)) rows) (λ found. chosen_last m env levels last found)
-  where
-    by_kept : (o : Outcome (List Numbered))
-        → ((found : List Numbered) → chosen m env (levels ++ last ∷ []) found ≡ and_then (chosen m env levels found) (chosen m env (last ∷ [])))
-        → and_then o (chosen m env (levels ++ last ∷ [])) ≡ and_then (and_then o (chosen m env levels)) (chosen m env (last ∷ []))
-    by_kept (Err st) further = refl
-    by_kept (Ok found) further = further found
-
-chosen_of : (P : Numbered → Type 0) (m : Reading Named) (env : Env Item) (levels : List Level) (rows : List Numbered) → AllByRecursion P rows
-    → IfOk (chosen m env levels rows) (AllByRecursion P)
-chosen_of P m env [] rows h = h
-chosen_of P m env (level ∷ levels) rows h =
-    if_then (kept (λ r. is_true (level_truth m env level r.row)) rows) (chosen m env levels) (AllByRecursion P) (AllByRecursion P)
-    (kept_of P (λ r. is_true (level_truth m env level r.row)) rows h) (λ found q. chosen_of P m env levels found q)
-
--- what a query specification names in FROM, and what its WHERE clause asks
-read_parts : (P : Site → Type 0) (k : Known) (distinct : Bool) (list : SelectList Named) (from : List TableReference) (filter : Clause Named) (by : List ColumnReference) (having : Clause Named)
-    → AllByRecursion P (select_sites k outside (select distinct list from filter by having))
-    → AllByRecursion P (map Site.table_read from) × AllByRecursion P (clause_sites k (inside outside (plain_query from) false) filter)
-read_parts P k distinct list from filter by having h =
-    let listed_sites : List Site = Site.from_whole from ∷ Site.column_count (list_count k.tables from list) ∷ list_sites k (inside outside (shown_query from list by having) true) list (is_grouped list by having) in
-    let before : List Site = map Site.table_read from ++ listed_sites in
-    let filter_sites : List Site = clause_sites k (inside outside (plain_query from) false) filter in
-    let by_sites : List Site = map (Site.column_read (inside outside (plain_query from) false)) by in
-    let last = all_parts P (before ++ filter_sites ++ by_sites) (clause_sites k (inside outside (shown_query from list by having) true) having) h in
-    let third = all_parts P (before ++ filter_sites) by_sites last.0 in
-    let second = all_parts P before filter_sites third.0 in
-    ((all_parts P (map Site.table_read from) listed_sites second.0).0, second.1)
+use Rattle.sq_run.proofs.Places.Outcomes.{kept_of, ok_same}
+use Rattle.sq_run.proofs.Steps.Moves.{AllRise}
+use Rattle.sq_run.proofs.Sites.SiteLaws.{all_of_mapped}
 
 -- ---- OPEN of a cursor
 
@@ -92,7 +61,21 @@ opens_on_numbers one other (Err a) (Ok ks) e = cc
 
 -- ---- OPEN of an updatable cursor
 
-module _ (p : Program) (m : ModuleText) (s t : State) (same : AlikeTo p m s t) where
+-- the rows of an updatable table or view: those of the base table under it that meet its conditions, in its columns
+abbrev pub shown_rows : Elements → Name → List Input → Target → Content → Outcome (List Row)
+shown_rows elements user inputs target content =
+    and_then (chosen (by_name (tables_of elements) content user) (outermost inputs user) target.levels (table_at content target.place).rows)
+    (λ found. Ok (map (λ r. in_columns r.row target.columns) found))
+
+-- what is so of two databases in which the user reads the same rows
+pub record AreRead (p : Program) (user : Name) (one other : Content) : Type 0 where
+  pub wide : AreAsWide (tables_of p.elements)
+  pub rise : AllRise one × AllRise other
+  pub tables : LookAlike p.elements user one other
+  pub targets : (name : TableName) (target : Target) (inputs : List Input) → holds p.elements user name Privilege.select ≡ true
+      → target_of (tables_of p.elements) name ≡ Ok target → shown_rows p.elements user inputs target one ≡ shown_rows p.elements user inputs target other
+
+module _ (p : Program) (m : ModuleText) (s t : State) (same : AreRead p m.authorization s.tables t.tables) where
   abbrev pub MayBeRead : Site → Type 0
   MayBeRead x = privilege_missing (holds p.elements m.authorization) x ≡ false
 
@@ -125,13 +108,13 @@ module _ (p : Program) (m : ModuleText) (s t : State) (same : AlikeTo p m s t) w
     below : AllByRecursion (λ n. n < length under.columns) over.columns
     below =
         all_weaker (λ n. n < length (column_names over.table)) (λ n. n < length under.columns)
-        (λ n less. let wide = are_wide p.elements over.reference.table over.table under over.there means in
+        (λ n less. let wide = same.wide over.reference.table over.table under over.there means in
         let count = length-map (over.table).columns (λ c. c.name) in omega (arith, less, wide, count)) over.columns
         (all_below source.item list over.columns over.shown)
 
     -- ---- in one database
 
-    module _ (content : Content) (rise : RowsRise content) where
+    module _ (content : Content) (rise : AllRise content) where
       abbrev reads : Reading Named
       reads = by_name (tables_of p.elements) content m.authorization
 
@@ -203,6 +186,6 @@ module _ (p : Program) (m : ModuleText) (s t : State) (same : AlikeTo p m s t) w
         (and_then (numbers_in s.tables) (λ ns. Ok (before_numbers ns))) (and_then (numbers_in t.tables) (λ ns. Ok (before_numbers ns)))
     opens_target =
         opens_on_numbers (shown_under (Some target) s.tables) (shown_under (Some target) t.tables) (numbers_in s.tables) (numbers_in t.tables)
-        (rows_opened s.tables same.numbered.0
+        (rows_opened s.tables same.rise.0
         ∙ (λ i. and_then (same.targets over.reference.table under inputs held means i) (λ xs. and_then (kept (λ x. own_same x i) xs) (λ ys. Ok (map narrowed ys))))
-        ∙ sym (rows_opened t.tables same.numbered.1))
+        ∙ sym (rows_opened t.tables same.rise.1))

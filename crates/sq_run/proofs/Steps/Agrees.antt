@@ -46,8 +46,7 @@ use Rattle.sq_run.proofs.Changed.TargetsSet.{AreParameters}
 use Rattle.sq_run.proofs.Steps.Found.{at_mapped, cursor_found, itself, never_both}
 use Rattle.sq_run.proofs.OpenCursors.GoesOver.{GoesOver}
 use Rattle.sq_run.proofs.Schemas.InDomains.{in_domains}
-use Rattle.sq_run.specs.RowNumbers.{RowsRise}
-use Rattle.sq_run.proofs.Steps.Moves.{HaveCount}
+use Rattle.sq_run.proofs.Steps.Moves.{AllRise, HaveCount}
 use Rattle.sq_run.proofs.Steps.Projected.{IsOver, entry_of, projected, running_projected}
 use Rattle.sq_run.proofs.Steps.Started.{are_parameters, started_same}
 
@@ -65,7 +64,7 @@ pub record Agrees (texts : List SchemaText) (row_numbers : ℕ) (schemas : Schem
   pub same : SameStates declared s (projected module_of name_of declared x)
   pub over : IsOver module_of name_of declared x
   pub counts : HaveCount (length schemas.bases) x.tables × HaveCount (length schemas.bases) x.committed
-  pub rising : RowsRise x.tables × RowsRise x.committed
+  pub rising : AllRise x.tables × AllRise x.committed
   pub hold : StateHolds (elements_of texts) x
   pub goes_over : GoesOver declared row_numbers (keys_of_bases schemas.bases) s
 
@@ -131,7 +130,7 @@ module _ (texts : List SchemaText) (modules : List ModuleText) (row_numbers : �
         count = count;
         hold = hold;
         in_domains = in_domains texts known schemas of s.tables count hold;
-        rising = subst RowsRise agrees.same.tables agrees.rising.0;
+        rising = subst AllRise agrees.same.tables agrees.rising.0;
         shown = shown;
       }
 

@@ -65,8 +65,7 @@ use Rattle.sq_run.proofs.Steps.Agrees.{Agrees, has_one, module_of, name_of, unma
 use Rattle.sq_run.proofs.Steps.Exact.{IsBoundExactly, IsOpenedFrom, IsProcedureExactly}
 use Rattle.sq_run.proofs.Steps.Found.{each_of_all, itself, module_found, procedure_found}
 use Rattle.sq_run.proofs.OpenCursors.GoesOver.{GoesOver, still_over}
-use Rattle.sq_run.specs.RowNumbers.{RowsRise}
-use Rattle.sq_run.proofs.Steps.Moves.{HaveCount, InWhere, NamesOnly, count_kept, kept_of_both, performed_goes, rise_kept}
+use Rattle.sq_run.proofs.Steps.Moves.{AllRise, HaveCount, InWhere, NamesOnly, count_kept, kept_of_both, performed_goes, rise_kept}
 use Rattle.sq_run.proofs.Steps.Projected.{IsOver, is_named, performed_projected, projected}
 use Rattle.sq_run.proofs.Steps.Started.{as_many}
 use Rattle.sq_run.proofs.Steps.PerformedStatements.{some_same, statement_is}
@@ -155,7 +154,7 @@ module _ (texts : List SchemaText) (modules : List ModuleText) (row_numbers : �
       pub same : SameStates declared after (projected module_of name_of declared y)
       pub over : IsOver module_of name_of declared y
       pub counts : HaveCount (length schemas.bases) y.tables × HaveCount (length schemas.bases) y.committed
-      pub rising : RowsRise y.tables × RowsRise y.committed
+      pub rising : AllRise y.tables × AllRise y.committed
       pub goes_over : GoesOver declared row_numbers (keys_of_bases schemas.bases) after
 
     abbrev Both : Done → State → Outcomes → Type 0
@@ -185,7 +184,7 @@ module _ (texts : List SchemaText) (modules : List ModuleText) (row_numbers : �
             same = subst (SameStates declared after) few.0 step.0;
             over = over_after module_of name_of declared x (performed run f.procedure.statement).0 agrees.over f.text.name goes.1;
             counts = kept_of_both (HaveCount (length schemas.bases)) (count_kept (length schemas.bases)) x (performed run f.procedure.statement).0 goes.0 agrees.counts;
-            rising = kept_of_both RowsRise rise_kept x (performed run f.procedure.statement).0 goes.0 agrees.rising;
+            rising = kept_of_both AllRise rise_kept x (performed run f.procedure.statement).0 goes.0 agrees.rising;
             goes_over = still_over declared row_numbers (keys_of_bases schemas.bases) schemas f.text.authorization e.1.parameters b _ s d after agrees.goes_over may.0;
           },
           subst (SameReply d) few.1 step.1,

@@ -42,7 +42,7 @@ use Rattle.sq_run.proofs.OpenCursors.SameCursors.{AreSame}
 use Rattle.sq_run.proofs.Steps.SameStates.{SameCursor}
 use Rattle.sq_run.proofs.Steps.Agrees.{Agrees, module_of, name_of}
 use Rattle.sq_run.proofs.Steps.Exact.{IsBoundExactly, IsCursorExactly, IsOpenedFrom}
-use Rattle.sq_run.specs.RowNumbers.{RowsRise}
+use Rattle.sq_run.proofs.Steps.Moves.{AllRise}
 use Rattle.sq_run.proofs.Steps.Projected.{closed_found, entry_of, state_at}
 
 -- ---- empty tables
@@ -52,7 +52,7 @@ none_at zero k = refl
 none_at (suc n) zero = refl
 none_at (suc n) (suc k) = none_at n k
 
-pub empty_rise : (n : ℕ) → RowsRise (no_rows n)
+pub empty_rise : (n : ℕ) → AllRise (no_rows n)
 empty_rise n k = ap has_rising_rows (none_at n k)
 
 pub empty_count : (n : ℕ) → length (no_rows n) ≡ n

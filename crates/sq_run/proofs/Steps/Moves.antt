@@ -34,7 +34,6 @@ use Rattle.sq_meaning.specs.Constraints.{constraints_checked, demanded}
 use Rattle.sq_meaning.specs.Cursor.{CursorState, fetched, is_open, off_row}
 use Rattle.sq_meaning.specs.Machine.{Outcomes, Running, State, all_closed, behind_delete, change_by, cursor_now, delete_rows, ends_with, fetch_cursor, fetch_to, move_of, moved, open_by, open_cursor, opened, performed, set_cursor, setting, shown_now, surroundings, update_rows, which_rows}
 use Rattle.sq_meaning.specs.Parameter.{Reply, replied_with}
-use Rattle.sq_run.specs.RowNumbers.{RowsRise}
 use Rattle.sq_run.proofs.Steps.UpdateSame.{number_kept}
 
 -- ---- rows that stand by rising numbers
@@ -138,16 +137,19 @@ pub count_kept : (n : ℕ) (before after : Content) → IsChanged before after �
 count_kept n before after c h = ap length c.is ∙ set_length before c.place c.changed ∙ h
 
 -- The rows of each table stand in the order of rising numbers.
-set_rises : (content : Content) (place : ℕ) (t : Table) → (has_rising_rows (table_at content place) ≡ true → has_rising_rows t ≡ true) → RowsRise content
-    → RowsRise (slice_set content place t)
+abbrev pub AllRise : Content → Type 0
+AllRise content = (place : ℕ) → has_rising_rows (table_at content place) ≡ true
+
+set_rises : (content : Content) (place : ℕ) (t : Table) → (has_rising_rows (table_at content place) ≡ true → has_rising_rows t ≡ true) → AllRise content
+    → AllRise (slice_set content place t)
 set_rises [] place t h all k = all k
 set_rises (x ∷ content) zero t h all zero = h (all zero)
 set_rises (x ∷ content) zero t h all (suc k) = all (suc k)
 set_rises (x ∷ content) (suc place) t h all zero = all zero
 set_rises (x ∷ content) (suc place) t h all (suc k) = set_rises content place t h (λ n. all (suc n)) k
 
-pub rise_kept : (before after : Content) → IsChanged before after → RowsRise before → RowsRise after
-rise_kept before after c h = subst RowsRise (sym c.is) (set_rises before c.place c.changed c.rises h)
+pub rise_kept : (before after : Content) → IsChanged before after → AllRise before → AllRise after
+rise_kept before after c h = subst AllRise (sym c.is) (set_rises before c.place c.changed c.rises h)
 
 -- ---- its cursors
 

@@ -29,7 +29,6 @@ use Rattle.sq_run.proofs.Texts.RefusedLaws.{refusals_tell}
 use Rattle.sq_run.proofs.Rows.RowsRead.{readings_are_rows}
 use Rattle.sq_run.proofs.Texts.SpellingOnly.{spelled_is_spelling}
 use Rattle.sq_run.proofs.Laws.ShownRowLaws.{fetch_shows_rows_now}
-use Rattle.sq_run.proofs.Steps.StatesRise.{states_rise}
 use Rattle.sq_run.proofs.Tokens.UnexpectedTokens.{unexpected_tokens}
 
 failures : (p : Program) → FailuresChangeNothing p
@@ -54,8 +53,7 @@ module _ (schemas : List SchemaText) (modules : List ModuleText) (row_numbers : 
     fetched = fetch_shows_rows_now p;
     selected = select_tells_what_may_be_read p;
     rules = only_listed_rules_break;
-    cursors = cursors_tell_what_may_be_read p;
-    numbered = states_rise p;
+    cursors = cursors_tell_what_may_be_read schemas modules row_numbers accepted;
     defaults = defaults_are_not_reached schemas modules row_numbers accepted admitted;
   }
 
