@@ -25,9 +25,9 @@ pub record Lawful (p : Program) : Type 0 where
   pub fetched : FetchShowsRowsNow p
   -- a SELECT INTO tells nothing but what its module's user may read
   pub selected : SelectTellsWhatMayBeRead p
-  -- of each site of a statement, the rules that may find a fault there are listed
-  pub rules : OnlyListedRulesBreak
   -- OPEN, FETCH and CLOSE tell nothing else, but what became of rows on which a cursor was opened
   pub cursors : CursorsTellWhatMayBeRead p
+  -- of each site of a statement, the rules that may find a fault there are listed
+  pub rules : OnlyListedRulesBreak
   -- what the definitions write by default, for what can't be, is never reached
   pub defaults : DefaultsAreNotReached p
