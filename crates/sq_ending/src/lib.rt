@@ -2,4 +2,5 @@
 //! 7.4 to 7.9).
 #![tactic(auto)]
 
+mod clause;
 mod walk;
