@@ -1,2 +1,3 @@
 pub mod FirstEnds
+pub mod Gathered
 pub mod ListEnds

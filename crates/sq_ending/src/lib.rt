@@ -3,4 +3,5 @@
 #![tactic(auto)]
 
 mod clause;
+mod needed;
 mod walk;
