@@ -1,3 +1,5 @@
 pub mod FirstEnds
 pub mod Gathered
 pub mod ListEnds
+pub mod Readings
+pub mod ViewRows

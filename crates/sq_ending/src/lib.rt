@@ -4,4 +4,5 @@
 
 mod clause;
 mod needed;
+mod read;
 mod walk;
