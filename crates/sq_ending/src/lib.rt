@@ -2,7 +2,15 @@
 //! 7.4 to 7.9).
 #![tactic(auto)]
 
-mod clause;
+mod ending;
+mod ends;
+mod inside;
 mod needed;
+mod number;
 mod read;
 mod walk;
+
+pub use ending::query_end;
+pub use ends::{Clause, ClauseEnd, QueryEnd};
+pub use inside::{InnerEnd, inner_end};
+pub use number::row_number;

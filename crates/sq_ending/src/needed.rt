@@ -60,10 +60,7 @@ fn add_of_optional(
 }
 
 #[cycle(needed_of_cond)]
-fn add_of_condition(
-    condition: &BoundCond,
-    tables: &mut Vec<TablePlace>,
-) -> Result<(), AllocError>
+fn add_of_condition(condition: &BoundCond, tables: &mut Vec<TablePlace>) -> Result<(), AllocError>
     ensures { (functions : List PlacedExpr) → OnOk result
         (tables.new.items ≡ tables.old.items ++ cond_tables (cond_of functions condition.now)) }
 {
@@ -85,10 +82,7 @@ fn add_of_tests(term: &BoundConj, tables: &mut Vec<TablePlace>) -> Result<(), Al
 }
 
 #[cycle(needed_of_cond)]
-fn add_of_predicate(
-    predicate: &Predicate,
-    tables: &mut Vec<TablePlace>,
-) -> Result<(), AllocError>
+fn add_of_predicate(predicate: &Predicate, tables: &mut Vec<TablePlace>) -> Result<(), AllocError>
     ensures { (functions : List PlacedExpr) → OnOk result
         (tables.new.items ≡ tables.old.items ++ cond_tables (predicate_of functions predicate.now)) }
 {

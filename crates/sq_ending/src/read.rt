@@ -70,8 +70,7 @@ impl<'a> Tables<'a> {
         requires there { BasesAreThere (N.base_tables names.now) (N.column_kinds names.now) }
         requires keys { S.key_columns store.now ≡ keys_of_bases (N.base_tables names.now) }
         requires not_null { not_nulls_hold (N.base_tables names.now) (S.content_now store.now) ≡ true }
-        ensures right {
-            AreRight (known_by (N.base_tables names.now) (N.view_queries names.now) (N.column_kinds names.now))
+        ensures right { AreRight (known_by (N.base_tables names.now) (N.view_queries names.now) (N.column_kinds names.now))
             (S.content_now store.now) user self.old
             → OnOk result (AreRight (known_by (N.base_tables names.now) (N.view_queries names.now) (N.column_kinds names.now))
             (S.content_now store.now) user self.new) }
@@ -120,8 +119,7 @@ impl<'a> Tables<'a> {
         requires there { BasesAreThere (N.base_tables names.now) (N.column_kinds names.now) }
         requires keys { S.key_columns store.now ≡ keys_of_bases (N.base_tables names.now) }
         requires not_null { not_nulls_hold (N.base_tables names.now) (S.content_now store.now) ≡ true }
-        ensures right {
-            AllByRecursion (AreShown (known_by (N.base_tables names.now) (N.view_queries names.now) (N.column_kinds names.now))
+        ensures right { AllByRecursion (AreShown (known_by (N.base_tables names.now) (N.view_queries names.now) (N.column_kinds names.now))
             (S.content_now store.now) user) self.old.views.items
             → OnOk result (AllByRecursion (AreShown (known_by (N.base_tables names.now) (N.view_queries names.now) (N.column_kinds names.now))
             (S.content_now store.now) user) self.new.views.items) }
