@@ -70,13 +70,14 @@ same_err s t h = cc
 -- a query that ends inside ends with the status
 inner_whole : (queries : List BoundSpecification) (seen : Seen) (q : BoundSpecification) (places : List ℕ) (e : QueryEnd) → IsInnerEnd queries seen q places e → rows_of seen q ≡ Err e.end.status
 inner_whole queries seen q [] e h = h.whole
-inner_whole queries seen q (place ∷ places) e (inner, (through, rest)) = through.whole
+inner_whole queries seen q (place ∷ places) e (inner, through, rest) = through.whole
 
 module _ (known : Known) (content : Content) (user : Name) (values : List Value) (q : BoundSpecification) (end : QueryEnd) where
   -- it ends here
   pub ends_here : (e : InnerEnd) → e.views.items ≡ [] → e.end ≡ end → OverAll known content user values q (λ seen. IsQueryEnd seen q end → EndsInThere known.queries seen q (Some e))
-  ends_here e none same parameters tables may well h =
-      subst (λ (ps : List ℕ). IsInnerEnd known.queries _ q ps e.end) (sym none) (subst (IsQueryEnd _ q) (sym same) h)
+  ends_here e none same = λ parameters tables may well h.
+      let seen : Seen = record { tables = tables; values = values; user = user } in
+      subst (λ (ps : List ℕ). IsInnerEnd known.queries seen q ps e.end) (sym none) (subst (IsQueryEnd seen q) (sym same) h)
 
   module _ (view : BoundView) (of : IsViewOf known q end.end.clause view) where
     from_of : (seen : Seen) → IsQueryEnd seen q end → IsFromEnd seen q of.item end.end.status
@@ -88,7 +89,7 @@ module _ (known : Known) (content : Content) (user : Name) (values : List Value)
         → IfOk r (λ found. OverAll known content user values q (λ seen. IsQueryEnd seen q end → EndsInThere known.queries seen q found))
     ends_through inner ends (Err error) is = tt
     ends_through inner ends (Ok None) is = absurd is
-    ends_through inner ends (Ok (Some all)) (places, same) parameters tables may well h =
+    ends_through inner ends (Ok (Some all)) (places, same) = λ parameters tables may well h.
         let seen : Seen = record { tables = tables; values = values; user = user } in
         let within = ends [] tables (record { inputs = tt; there = may.there; in_domains = may.in_domains; meant = may.meant }) (select_wide known.columns view.place view.query of.well_formed) in
         let from = from_of seen h in
@@ -101,7 +102,7 @@ module _ (known : Known) (content : Content) (user : Name) (values : List Value)
         subst (IsThrough known.queries seen q view.place view.query) status (record { whole = h.whole; item = of.item; at = of.at; ends = from; is_query = of.among })
         in
         subst (λ (ps : List ℕ). IsInnerEnd known.queries seen q ps all.end) (sym places)
-        (subst (IsInnerEnd known.queries seen q (view.place ∷ inner.views.items)) (sym same) (view.query, (there, within)))
+        (subst (IsInnerEnd known.queries seen q (view.place ∷ inner.views.items)) (sym same) (view.query, there, within))
 
 -- what is found of a query that ends there
 pub ends_over : (known : Known) (content : Content) (user : Name) (values : List Value) (q : BoundSpecification) (end : QueryEnd) (r : Result (Option InnerEnd) AllocError)
@@ -109,4 +110,4 @@ pub ends_over : (known : Known) (content : Content) (user : Name) (values : List
     → IfOk r (λ found. OverAll known content user values q (λ seen. IsQueryEnd seen q end → EndsInThere known.queries seen q found))
     → IfOk r (EndsInside known content user values q)
 ends_over known content user values q end (Err e) is h = tt
-ends_over known content user values q end (Ok found) is h parameters tables may well = h parameters tables may well (is parameters tables may well)
+ends_over known content user values q end (Ok found) is h = λ parameters tables may well. h parameters tables may well (is parameters tables may well)

@@ -43,10 +43,14 @@ pub fn inner_end<N: Names, S: Store>(
         (known_by (N.base_tables names.now) (N.view_queries names.now) (N.column_kinds names.now))
         (S.content_now store.now) inputs.entry.user inputs.entry.parameters.now query.now) }
 {
-    let user = inputs.user;
-    match query_end(alloc, names, query, store, inputs)? {
-        Some(end) => end_within(alloc, names, query, end, store, user),
-        None => Ok(None),
+    let lent = Inputs {
+        user: inputs.user,
+        parameters: &*inputs.parameters,
+    };
+    match query_end(alloc, names, query, store, lent) {
+        Ok(Some(end)) => end_within(alloc, names, query, end, store, inputs.user),
+        Ok(None) => Ok(None),
+        Err(error) => Err(error),
     }
 }
 

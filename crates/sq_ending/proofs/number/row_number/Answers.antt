@@ -8,12 +8,12 @@ use Rattle.sq_ending.proofs.number.row_number.Goals as goal
 pub overflow_add-number : goal.overflow_add-number
 overflow_add-number g c =
     let store = c.args.store.now in
-    omega (arith, g.met.S.Store.limited store, walked_below (g.S.Store.row_numbers store) (g.S.Store.content_now store) c.args.table c.loop-found.number (record { number = c.in-Some.found; row = c.in-Some.field-1.now }) (g.met.S.Store.rises store) c.in-Some.ensures.row)
+    omega (arith, g.met.S.Store.limited store, walked_below (g.S.Store.row_numbers store) (g.S.Store.content_now store) c.args.table c.loop-found.number (record { number = c.in-Some.found; row = c.in-Some.field-0-1.now }) (g.met.S.Store.rises store) c.in-Some.ensures.row)
 
 pub loop-found-smaller : goal.loop-found-smaller
 loop-found-smaller g c =
     let store = c.args.store.now in
-    let next = walked (g.S.Store.row_numbers store) (g.S.Store.content_now store) c.args.table c.loop-found.number (record { number = c.in-Some.found; row = c.in-Some.field-1.now }) (g.met.S.Store.rises store) c.in-Some.ensures.row in
+    let next = walked (g.S.Store.row_numbers store) (g.S.Store.content_now store) c.args.table c.loop-found.number (record { number = c.in-Some.found; row = c.in-Some.field-0-1.now }) (g.met.S.Store.rises store) c.in-Some.ensures.row in
     let size = ap length next in
     omega (arith, size)
 
@@ -23,10 +23,20 @@ loop-found-init g c =
     sym (ap (λ (rs : List Numbered). slice_get rs c.args.place) (rows_from_zero t.rows))
 
 pub loop-found-preserved : goal.loop-found-preserved
-loop-found-preserved g c = {! !}
+loop-found-preserved g c =
+    let store = c.args.store.now in
+    let t = table_at (g.S.Store.content_now store) c.args.table in
+    let r : Numbered = record { number = c.in-Some.found; row = c.in-Some.field-0-1.now } in
+    passed t.rows (rows_from c.loop-found.number t.rows) (rows_from (c.in-Some.found + 1) t.rows) c.args.place c.loop-found.left r c.loop-found.invariant
+    (walked (g.S.Store.row_numbers store) (g.S.Store.content_now store) c.args.table c.loop-found.number r (g.met.S.Store.rises store) c.in-Some.ensures.row) c.if-left-eq0.false
 
-pub returns-then-branch : goal.returns-then-branch
-returns-then-branch g c = {! !}
+pub returns-then-left-eq0 : goal.returns-then-left-eq0
+returns-then-left-eq0 g c =
+    let store = c.args.store.now in
+    let t = table_at (g.S.Store.content_now store) c.args.table in
+    let r : Numbered = record { number = c.in-Some.found; row = c.in-Some.field-0-1.now } in
+    reached t.rows (rows_from c.loop-found.number t.rows) (rows_from (c.in-Some.found + 1) t.rows) c.args.place c.loop-found.left r c.loop-found.invariant
+    (walked (g.S.Store.row_numbers store) (g.S.Store.content_now store) c.args.table c.loop-found.number r (g.met.S.Store.rises store) c.in-Some.ensures.row) c.if-left-eq0.true
 
 pub returns : goal.returns
 returns g c =
