@@ -1,0 +1,193 @@
+//! Where a query specification ends with a status: in which clause, and on which line.
+
+ghost use Rattle.std.specs.Prelude.{◌≡◌, [], IfOk, None, true};
+ghost use Rattle.sq_bound.specs.Fits.{keys_of_bases, not_nulls_hold};
+ghost use Rattle.sq_condition.specs.Memo.{Meant};
+ghost use Rattle.sq_condition.specs.Specification.{items_in, rows_meant};
+ghost use Rattle.sq_condition.specs.Subquery.{KnowsQuery, Remembers};
+ghost use Rattle.sq_expression.specs.Fault.{IsRight, status_of};
+ghost use Rattle.sq_expression.specs.Frame.{table_rows};
+ghost use Rattle.sq_query.specs.Needed.{FindsSelect};
+ghost use Rattle.sq_ending.specs.Ending.{Ends, EndsThere, HasItems, HaveRows, IsListPhase, IsWherePhase, seen_in};
+ghost use Rattle.sq_ending.specs.Walk.{tables_in};
+
+use crate::ends::{Clause, ClauseEnd, QueryEnd};
+use crate::needed::tables_needed;
+use crate::read::tables_read;
+use crate::walk::Walk;
+use sq_bound::{BoundSpecification, Names};
+use sq_condition::Memo;
+use sq_expression::{Context, Failure, Fault, rows_at};
+use sq_query::Inputs;
+use sq_store::Store;
+use sq_value::Row;
+use std::alloc::{AllocError, Global};
+
+/// Where a query specification inside no other query ends, as far as FROM, WHERE and, without groups, the select list.
+pub fn query_end<N: Names, S: Store>(
+    alloc: Global,
+    names: &N,
+    query: &BoundSpecification,
+    store: &S,
+    inputs: Inputs<'_>,
+) -> Result<Option<QueryEnd>, AllocError>
+    requires finds { FindsSelect (N.base_tables names.now) (N.column_kinds names.now) query.now }
+    requires keys { S.key_columns store.now ≡ keys_of_bases (N.base_tables names.now) }
+    requires not_null { not_nulls_hold (N.base_tables names.now) (S.content_now store.now) ≡ true }
+    ensures { IfOk result (Ends (N.base_tables names.now) (N.view_queries names.now)
+        (N.column_kinds names.now) (S.content_now store.now) inputs.entry.user inputs.entry.parameters.now
+        query.now) }
+{
+    let needed = tables_needed(alloc, query)?;
+    let tables = tables_read(alloc, names, needed.as_slice(), store, inputs.user)?;
+    drop(needed);
+    let context = Context {
+        alloc,
+        user: inputs.user,
+        parameters: &*inputs.parameters,
+        bases: tables.bases.as_slice(),
+        views: tables.views.as_slice(),
+    };
+    let end = end_over(&*query, &context);
+    drop(tables);
+    end
+}
+
+/// Where a query specification ends over the tables of the context.
+fn end_over(
+    query: &BoundSpecification,
+    context: &Context<'_>,
+) -> Result<Option<QueryEnd>, AllocError>
+    ensures { (meant : Meant) → KnowsQuery context.now query.now meant
+        → IsRight (rows_meant query.now None context.now)
+        → IfOk result (EndsThere (seen_in context.now) query.now) }
+{
+    let mut items = Vec::new(context.alloc);
+    let end = end_with(query, context, &mut items);
+    drop(items);
+    end
+}
+
+/// The same, with the rows of the items of FROM added here.
+fn end_with<'m>(
+    query: &BoundSpecification,
+    context: &Context<'m>,
+    items: &mut Vec<Vec<&'m Row>>,
+) -> Result<Option<QueryEnd>, AllocError>
+    ensures { items.old.items ≡ [] → (meant : Meant) → KnowsQuery context.now query.now meant
+        → IsRight (rows_meant query.now None context.now)
+        → IfOk result (EndsThere (seen_in context.now) query.now) }
+{
+    match add_items(query, context, items) {
+        Ok(()) => line_end(query, items.as_slice(), context),
+        Err(Fault::Status(failure)) => { Ok(Some(from_end(context.alloc, items.len(), failure))) }
+        Err(Fault::NoMemory) => Err(AllocError),
+    }
+}
+
+/// Adds the rows of each item of FROM, up to the first that ends with a status.
+fn add_items<'m>(
+    query: &BoundSpecification,
+    context: &Context<'m>,
+    items: &mut Vec<Vec<&'m Row>>,
+) -> Result<(), Fault>
+    ensures { items.old.items ≡ []
+        → HasItems (table_rows context.now) (items_in query.now) (tables_in items.new.items) result }
+{
+    for table in query.from.tables.as_slice() {
+        let rows = rows_at(*table, context)?;
+        items.push(rows)?;
+    }
+    Ok(())
+}
+
+/// An item of FROM ends with a status.
+fn from_end(alloc: Global, item: usize, failure: Failure) -> QueryEnd
+    ensures clause { result.end.clause ≡ Clause.From item }
+    ensures status { result.end.status ≡ status_of failure }
+    ensures line { result.line.items ≡ [] }
+{
+    QueryEnd {
+        end: ClauseEnd {
+            clause: Clause::From(item),
+            status: failure.status(),
+        },
+        line: Vec::new(alloc),
+    }
+}
+
+/// The first line on which WHERE or, without groups, the select list ends, where the items of FROM have these rows.
+fn line_end<'m>(
+    query: &BoundSpecification,
+    items: &[Vec<&'m Row>],
+    context: &Context<'m>,
+) -> Result<Option<QueryEnd>, AllocError>
+    ensures { (meant : Meant) → KnowsQuery context.now query.now meant
+        → IsRight (rows_meant query.now None context.now)
+        → HaveRows (seen_in context.now) query.now (tables_in items.now)
+        → IfOk result (EndsThere (seen_in context.now) query.now) }
+{
+    let mut memo = Memo::new(context.alloc);
+    let end = phase_end(query, items, context, &mut memo);
+    drop(memo);
+    end
+}
+
+/// The same, phase by phase.
+fn phase_end<'m>(
+    query: &BoundSpecification,
+    items: &[Vec<&'m Row>],
+    context: &Context<'m>,
+    memo: &mut Memo<'m>,
+) -> Result<Option<QueryEnd>, AllocError>
+    ensures { Remembers context.now (KnowsQuery context.now query.now) memo.old memo.new
+        (IsRight (rows_meant query.now None context.now)
+        → HaveRows (seen_in context.now) query.now (tables_in items.now)
+        → IfOk result (EndsThere (seen_in context.now) query.now)) }
+{
+    match where_end(query, items, context, memo)? {
+        Some(end) => Ok(Some(end)),
+        None => list_end(query, items, context, memo),
+    }
+}
+
+/// The first line on which WHERE ends.
+fn where_end<'m>(
+    query: &BoundSpecification,
+    items: &[Vec<&'m Row>],
+    context: &Context<'m>,
+    memo: &mut Memo<'m>,
+) -> Result<Option<QueryEnd>, AllocError>
+    ensures { Remembers context.now (KnowsQuery context.now query.now) memo.old memo.new
+        (IsWherePhase (seen_in context.now) query.now (tables_in items.now) result) }
+{
+    let walk = Walk {
+        query,
+        context,
+        list: &[],
+    };
+    walk.end_behind(&[], items, memo)
+}
+
+/// The first line on which an item of the select list ends, without groups.
+fn list_end<'m>(
+    query: &BoundSpecification,
+    items: &[Vec<&'m Row>],
+    context: &Context<'m>,
+    memo: &mut Memo<'m>,
+) -> Result<Option<QueryEnd>, AllocError>
+    ensures { Remembers context.now (KnowsQuery context.now query.now) memo.old memo.new
+        (IsListPhase (seen_in context.now) query.now (tables_in items.now) result) }
+{
+    match &query.grouping {
+        Some(_) => Ok(None),
+        None => {
+            let walk = Walk {
+                query,
+                context,
+                list: query.list.as_slice(),
+            };
+            walk.end_behind(&[], items, memo)
+        }
+    }
+}
