@@ -106,7 +106,9 @@ fn push_cause<S: Store>(
     let values = call.values.as_slice();
     match why(alloc, session, call.procedure, values, reply)? {
         Some(cause) => {
-            write_cause(alloc, session, &cause, notes)?;
+            let written = write_cause(alloc, session, &cause, notes);
+            drop(cause);
+            written?;
             notes.push(b'\n')?;
             Ok(())
         }
