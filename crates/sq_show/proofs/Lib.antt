@@ -10,6 +10,7 @@ pub mod Noted
 pub mod Noting
 pub mod NullsBefore
 pub mod OfChange
+pub mod OfQueries
 pub mod OfTargets
 pub mod Paging
 pub mod SoFar

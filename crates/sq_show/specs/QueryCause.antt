@@ -6,13 +6,12 @@ use Rattle.sq_lex.specs.declared.name.Name.{Name}
 use Rattle.sq_value.specs.declared.value.Value.{Value}
 use Rattle.sq_store.specs.Content.{Content}
 use Rattle.sq_bound.specs.Joined.{specifications_of}
-use Rattle.sq_bound.specs.declared.condition.BoundSpecification.{BoundSpecification}
+use Rattle.sq_bound.specs.declared.condition.BoundSpecification.{BoundSpecification, out-BoundSpecification}
 use Rattle.sq_bound.specs.declared.condition.TablePlace.{TablePlace}
 use Rattle.sq_bound.specs.declared.query.CursorBody.{CursorBody}
 use Rattle.sq_bound.specs.declared.query.CursorBody.TheVariants as body
 use Rattle.sq_bound.specs.declared.statement.InsertedRows.{InsertedRows}
 use Rattle.sq_bound.specs.declared.statement.InsertedRows.TheVariants as source
-use Rattle.sq_condition.specs.Specification.{items_in}
 use Rattle.sq_ending.specs.Inside.{IsInnerEnd}
 use Rattle.sq_ending.specs.declared.inside.InnerEnd.{InnerEnd}
 use Rattle.sq_change.specs.Made.{Shown}
@@ -54,7 +53,7 @@ EndsAt s user values tables q e =
 
 -- these are the items of FROM of the last of the views' queries, from outside in, or of the query specification itself
 abbrev pub AreItems : List BoundSpecification → BoundSpecification → List ℕ → List TablePlace → Type 0
-AreItems queries q [] tables = tables ≡ items_in q
+AreItems queries q [] tables = tables ≡ (out-BoundSpecification q).from.tables
 AreItems queries q (place ∷ places) tables =
     (inner : BoundSpecification) × (slice_get queries place ≡ Some inner) × AreItems queries inner places tables
 

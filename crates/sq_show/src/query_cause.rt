@@ -1,7 +1,7 @@
 //! Where a query of SELECT INTO, of INSERT or of a cursor that is not updatable ends with a status (ISO/IEC 9075:1992, 7.9, 13.2,
 //! 13.5 and 13.8).
 
-ghost use Rattle.std.specs.Prelude.{◌≡◌, ◌++◌, ◌∷◌, [], IfOk, IfSome, OnOk, Some, slice_get, true};
+ghost use Rattle.std.specs.Prelude.{◌≡◌, ◌++◌, [], IfOk, IfSome, None, OnOk, Some, slice_get, true};
 ghost use Rattle.std.specs.List.{AllByRecursion};
 ghost use Rattle.sq_bound.specs.Joined.{specifications_of, term_specifications};
 ghost use Rattle.sq_bound.specs.WellFormed.{IsQuery, IsSelect};
@@ -104,7 +104,7 @@ fn end_in<S: Store>(
 {
     let mut all = Vec::new(called.alloc);
     let found = match add_specifications(query, &mut all) {
-        Ok(()) => end_among(called, inside, all.as_slice()),
+        Ok(()) => first_end(called, inside, all.as_slice()),
         Err(error) => Err(error),
     };
     drop(all);
@@ -145,30 +145,7 @@ fn add_term<'a>(
     }
 }
 
-/// Where the only query specification ends, or the first of several.
-fn end_among<S: Store>(
-    called: &Called<'_>,
-    inside: &Inside<'_, S>,
-    queries: &[&BoundSpecification],
-) -> Result<Option<QueryCause>, AllocError>
-    requires well { AllByRecursion
-        (IsSelect (column_kinds called.now.catalog.now) (parameter_kinds called.now) [])
-        (lent_queries queries.now) }
-    requires given { HasValues called.now }
-    requires whole { IsWholeFor called.now
-        (state_of (S.content_now inside.now.store.now) (S.committed inside.now.store.now)
-        (S.key_columns inside.now.store.now) (S.row_numbers inside.now.store.now) inside.now.cursors.now) }
-    ensures { IfOk result (λ found. IfSome found (IsEndAmong (schemas_of called.now.catalog.now)
-        called.now.procedure.now.user called.now.values.now (S.content_now inside.now.store.now)
-        (lent_queries queries.now))) }
-{
-    match queries {
-        [query] => end_of(called, inside, None, *query),
-        _ => first_end(called, inside, queries),
-    }
-}
-
-/// Where the first of several query specifications ends.
+/// Where the first of these query specifications that ends does so.
 fn first_end<S: Store>(
     called: &Called<'_>,
     inside: &Inside<'_, S>,
@@ -186,12 +163,21 @@ fn first_end<S: Store>(
         (lent_queries queries.now))) }
 {
     for (number, query) in queries.iter().enumerate() {
-        match end_of(called, inside, Some(number), *query) {
+        let term = number_among(queries.len(), number);
+        match end_of(called, inside, term, *query) {
             Ok(None) => (),
             found => return found,
         }
     }
     Ok(None)
+}
+
+/// A number among so many, if there is more than one.
+fn number_among(count: usize, number: usize) -> Option<usize>
+    ensures only { result ≡ None → count ≡ 1 }
+    ensures several { IfSome result (λ n. n ≡ number) }
+{
+    if count == 1 { None } else { Some(number) }
 }
 
 /// Where a query specification with this number ends.
@@ -223,8 +209,10 @@ fn with_items(
     query: &BoundSpecification,
     end: InnerEnd,
 ) -> Result<Option<QueryCause>, AllocError>
-    ensures { IfOk result (λ found. IfSome found (λ cause. (cause.term ≡ term) × (cause.end ≡ end)
-        × AreItems called.now.catalog.now.views query.now end.views.items cause.tables.items)) }
+    ensures term { IfOk result (λ found. IfSome found (λ cause. cause.term ≡ term)) }
+    ensures end { IfOk result (λ found. IfSome found (λ cause. cause.end ≡ end)) }
+    ensures items { IfOk result (λ found. IfSome found (λ cause. AreItems called.now.catalog.now.views query.now
+        end.views.items cause.tables.items)) }
 {
     let mut tables = Vec::new(called.alloc);
     match add_items(called.catalog, query, end.views.as_slice(), &mut tables) {

@@ -1,0 +1,23 @@
+use Rattle.std.proofs.Common.{[]}
+use Rattle.sq_bound.specs.WellFormed.{IsSelect}
+use Rattle.sq_catalog.specs.Catalog.{column_kinds}
+use Rattle.sq_session.specs.Called.{parameter_kinds}
+use Rattle.sq_session.specs.Schemas.{schemas_of}
+use Rattle.sq_show.specs.QueryCause.{lent_queries}
+use Rattle.sq_show.proofs.OfQueries.{among_lent, end_among, lent_holds}
+use Rattle.sq_show.proofs.query_cause.first_end.Goals as goal
+
+pub end_of-requires-clause-well : goal.end_of-requires-clause-well
+end_of-requires-clause-well g c =
+    let called = c.args.called.now in
+    lent_holds (IsSelect (column_kinds called.catalog.now) (parameter_kinds called) []) c.args.queries.now c.loop-number.number c.query-item.result c.loop-number-test.true c.query-item.is c.requires.well
+
+pub returns-in_default : goal.returns-in_default
+returns-in_default g c =
+    let called = c.args.called.now in
+    let queries = c.args.queries.now in
+    let query = c.query-item.result in
+    let term = c.number_among-term.result in
+    end_among (schemas_of called.catalog.now) called.procedure.now.user called.values.now (g.S.Store.content_now c.args.inside.now.store.now) term query.now (lent_queries queries) c.end_of.result
+    (among_lent queries c.loop-number.number query term c.number_among-term.ensures.only c.number_among-term.ensures.several c.loop-number-test.true c.query-item.is)
+    c.end_of.ensures
