@@ -22,7 +22,7 @@ use Rattle.sq_query.specs.Needed.{ReadsClause, ReadsSelect}
 use Rattle.sq_query.specs.Row.{outside}
 use Rattle.sq_query.proofs.AnyTables.{value_over}
 use Rattle.sq_query.proofs.SameTables.{same_clause, same_each, same_rows}
-use Rattle.sq_ending.specs.Ending.{EndsThere, HaveRows, IsClauseEnd, IsFromEnd, IsListEnd, IsWhereEnd, Seen, is_listed, is_wanted, list_of, rows_of, value_on}
+use Rattle.sq_ending.specs.Ending.{EndsThere, HaveRows, IsClauseEnd, IsFromEnd, IsListEnd, IsOperandEnd, IsWhereEnd, Seen, is_listed, is_wanted, list_of, rows_of, value_on}
 use Rattle.sq_ending.specs.Walk.{IsFineOn, IsFirstEnd, IsFirstItem, is_met}
 use Rattle.sq_ending.specs.declared.ends.Clause.{Clause}
 use Rattle.sq_ending.specs.declared.ends.Clause.TheVariants as clause
@@ -88,10 +88,26 @@ module _ (f g : TablePlace → Outcome (List Row)) (values : List Value) (user :
         h.first);
   }
 
+  operand_there : (number : ℕ) (places : List ℕ) (status : Status) → IsOperandEnd here q number places status → IsOperandEnd there q number places status
+  operand_there number places status h = record {
+    grouping = h.grouping;
+    grouped = h.grouped;
+    aggregate = h.aggregate;
+    at = h.at;
+    items = h.items;
+    are = sym same_items ∙ h.are;
+    fine = subst (λ (w : Line → Outcome Bool). IsFineOn w (product h.items)) same_wanted h.fine;
+    first =
+        subst (λ (w : Line → Outcome Bool). IsFirstEnd (is_met w (value_on there) (h.aggregate.operand ∷ [])) (λ line. (w line ≡ Ok true) × (value_on there line h.aggregate.operand ≡ Err status)) h.items places) same_wanted
+        (subst (λ (v : Line → BoundExpr → Outcome Value). IsFirstEnd (is_met (is_wanted here q) v (h.aggregate.operand ∷ [])) (λ line. (is_wanted here q line ≡ Ok true) × (v line h.aggregate.operand ≡ Err status)) h.items places) same_values
+        h.first);
+  }
+
   clause_there : (c : Clause) (places : List ℕ) (status : Status) → IsClauseEnd here q c places status → IsClauseEnd there q c places status
   clause_there (clause.From item) places status (none, h) = (none, from_there item status h)
   clause_there clause.Where places status h = where_there places status h
   clause_there (clause.Item number) places status h = list_there number places status h
+  clause_there (clause.SetFunction number) places status h = operand_there number places status h
 
   pub ends_there : (found : Option QueryEnd) → EndsThere here q found → EndsThere there q found
   ends_there None h = record {

@@ -176,9 +176,6 @@ module _ (context : Context) (query : BoundSpecification) where
       met_here : kept (is_listed (seen_in context) query) (product items) ≡ and_then (each shown_on lines) (λ rows. Ok lines)
       met_here = met_is wanted_here (value_on (seen_in context)) (list_of query) (product items) lines kept_are
 
-      pub list_right : IsRight meant → IsRight (kept (is_listed (seen_in context) query) (product items))
-      list_right right ends = right_first (each shown_on lines) (λ rows. Ok (rows_left (out-BoundSpecification query).distinct rows)) (right_same meant (left (each shown_on lines)) list_is right) (put_ends (each shown_on lines) lines _ (sym met_here ∙ ends))
-
       -- an item of the list ends
       pub list_whole : (status : Status) → kept (is_listed (seen_in context) query) (product items) ≡ Err status → meant ≡ Err status
       list_whole status ends = list_is ∙ ap left (put_ends (each shown_on lines) lines status (sym met_here ∙ ends))

@@ -110,7 +110,7 @@ fn view_of<'a, N: Names>(
             Some(TablePlace::View(place)) => view_at(names, *place),
             _ => None,
         },
-        Clause::Where | Clause::Item(_) => None,
+        Clause::Where | Clause::Item(_) | Clause::SetFunction(_) => None,
     }
 }
 
