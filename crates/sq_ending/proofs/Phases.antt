@@ -1,5 +1,5 @@
 -- The phases of a query specification, in each of which a line may end.
-use Rattle.std.proofs.Common.{◌≡◌, ℕ, zero, suc, Bool, true, List, [], ◌∷◌, ◌++◌, length, Option, Some, None, Result, refl, sym, ◌∙◌, ap, subst, Ok, Err}
+use Rattle.std.proofs.Common.{◌≡◌, ℕ, zero, suc, Bool, true, List, [], ◌∷◌, ◌++◌, Option, Some, None, Result, sym, ◌∙◌, ap, subst, Ok, Err}
 use Rattle.std.specs.Prelude.{if◌then◌else◌, IfOk, IfSome, IsSomeAnd}
 use Rattle.std.proofs.lemmas.Option.{same_Some}
 use Rattle.std.specs.declared.alloc.AllocError.{AllocError}
@@ -18,7 +18,6 @@ use Rattle.sq_bound.specs.declared.expression.SetFunctionCall.TheVariants.{Over}
 use Rattle.sq_expression.specs.Fault.{IsRight}
 use Rattle.sq_expression.specs.declared.context.Context.{Context}
 use Rattle.sq_expression.proofs.Kept.{no_status}
-use Rattle.sq_condition.specs.Specification.{rows_meant}
 use Rattle.sq_condition.proofs.Joined.{kept-append}
 use Rattle.sq_condition.proofs.Right.{right_same, right_value}
 use Rattle.sq_ending.specs.Ending.{EndsThere, HaveRows, InList, InOperand, InWhere, IsAmongCalls, IsCallEnd, IsCallsPhase, IsClauseEnd, IsListPhase, IsOperandEnd, IsPhaseEnd, Seen, is_listed, is_operand_met, is_wanted, list_of, rows_of, seen_in, value_on}

@@ -1,7 +1,6 @@
 -- Over tables that mean the same, a query specification ends at the same place.
-use Rattle.std.proofs.Common.{◌≡◌, ℕ, zero, suc, Bool, true, List, [], ◌∷◌, take, slice_get, Option, Some, None, refl, sym, ◌∙◌, ap, subst, Ok, Err}
+use Rattle.std.proofs.Common.{◌≡◌, ℕ, zero, suc, Bool, true, List, [], ◌∷◌, take, slice_get, Option, Some, None, sym, ◌∙◌, subst, Ok, Err}
 use Rattle.std.specs.List.{AllByRecursion}
-use Rattle.std.specs.Option.{option_map}
 use Rattle.std.proofs.lemmas.Option.{same_Some}
 use Rattle.sq_lex.specs.declared.name.Name.{Name}
 use Rattle.sq_value.specs.declared.value.Value.{Value}
@@ -10,9 +9,9 @@ use Rattle.sq_meaning.specs.Query.{is_true}
 use Rattle.sq_meaning.specs.Rows.{product}
 use Rattle.sq_meaning.specs.Status.{Outcome, each}
 use Rattle.sq_meaning.specs.declared.status.Status.{Status}
-use Rattle.sq_bound.specs.Condition.{PlacedSelect, select_of}
+use Rattle.sq_bound.specs.Condition.{select_of}
 use Rattle.sq_bound.specs.Expression.{expr_of}
-use Rattle.sq_bound.specs.declared.condition.BoundSpecification.{BoundSpecification, out-BoundSpecification}
+use Rattle.sq_bound.specs.declared.condition.BoundSpecification.{BoundSpecification}
 use Rattle.sq_bound.specs.declared.condition.TablePlace.{TablePlace}
 use Rattle.sq_bound.specs.declared.expression.BoundExpr.{BoundExpr}
 use Rattle.sq_bound.proofs.ConditionLaws.{select_of-out}
@@ -22,7 +21,7 @@ use Rattle.sq_query.specs.Needed.{ReadsClause, ReadsSelect}
 use Rattle.sq_query.specs.Row.{outside}
 use Rattle.sq_query.proofs.AnyTables.{value_over}
 use Rattle.sq_query.proofs.SameTables.{same_clause, same_each, same_rows}
-use Rattle.sq_ending.specs.Ending.{EndsThere, HaveRows, IsClauseEnd, IsFromEnd, IsListEnd, IsOperandEnd, IsWhereEnd, Seen, is_listed, is_wanted, list_of, rows_of, value_on}
+use Rattle.sq_ending.specs.Ending.{EndsThere, IsClauseEnd, IsFromEnd, IsListEnd, IsOperandEnd, IsWhereEnd, Seen, is_wanted, list_of, rows_of, value_on}
 use Rattle.sq_ending.specs.Walk.{IsFineOn, IsFirstEnd, IsFirstItem, is_met}
 use Rattle.sq_ending.specs.declared.ends.Clause.{Clause}
 use Rattle.sq_ending.specs.declared.ends.Clause.TheVariants as clause

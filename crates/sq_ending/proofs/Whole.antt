@@ -1,5 +1,5 @@
 -- What a query specification ends with, where a clause of it ends on a line.
-use Rattle.std.proofs.Common.{◌≡◌, ℕ, zero, suc, Bool, true, false, List, [], ◌∷◌, ◌++◌, map, take, drop, slice_get, Option, Some, None, refl, sym, ◌∙◌, ap, subst, Ok, Err}
+use Rattle.std.proofs.Common.{◌≡◌, ℕ, zero, suc, Bool, true, false, List, [], ◌∷◌, map, take, drop, slice_get, Some, None, refl, sym, ◌∙◌, ap, subst, Ok, Err}
 use Rattle.std.specs.Prelude.{if◌then◌else◌}
 use Rattle.std.specs.Option.{option_map}
 use Rattle.std.proofs.lemmas.List.{take-append-drop}
@@ -26,7 +26,7 @@ use Rattle.sq_condition.proofs.Joined.{kept-append}
 use Rattle.sq_condition.proofs.Phases.{from_lines, heads_of, rows_from_lines}
 use Rattle.sq_condition.proofs.QueryRows.{meant_of_lines}
 use Rattle.sq_condition.proofs.Right.{right_first, right_same}
-use Rattle.sq_ending.specs.Ending.{HaveRows, IsFromEnd, IsListEnd, IsWhereEnd, is_listed, is_wanted, list_of, seen_in, value_on}
+use Rattle.sq_ending.specs.Ending.{HaveRows, IsFromEnd, is_listed, is_wanted, list_of, seen_in, value_on}
 use Rattle.sq_ending.specs.Walk.{IsFineOn, IsFirstEnd, IsFirstItem, is_met, listed}
 
 -- ---- outcomes

@@ -1,5 +1,5 @@
 -- The tables that a query reads, as they were read (ISO/IEC 9075:1992, 11.19).
-use Rattle.std.specs.Prelude.{◌≡◌, ◌<◌, ℕ, nat_eq, true, List, length}
+use Rattle.std.specs.Prelude.{◌≡◌, ◌<◌, nat_eq, true, List, length}
 use Rattle.std.specs.List.{AllByRecursion, list_any}
 use Rattle.sq_lex.specs.declared.name.Name.{Name}
 use Rattle.sq_store.specs.Content.{Content, table_at}

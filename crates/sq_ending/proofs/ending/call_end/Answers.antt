@@ -1,4 +1,4 @@
-use Rattle.std.proofs.Common.{refl, sym}
+use Rattle.std.proofs.Common.{refl}
 use Rattle.sq_ending.specs.Ending.{seen_in}
 use Rattle.sq_ending.specs.Walk.{tables_in}
 use Rattle.sq_ending.proofs.Phases.{call_phase}
