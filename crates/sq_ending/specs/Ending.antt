@@ -83,13 +83,14 @@ abbrev pub HaveRows : Seen → BoundSpecification → List (List Row) → Type 0
 HaveRows seen q items = each seen.tables (items_in q) ≡ Ok items
 
 -- WHERE ends with the status on the line at these places of the product, and on no line before it.
-pub record IsWhereEnd (seen : Seen) (q : BoundSpecification) (places : List ℕ) (status : Status) : Type 0 where
+pub record IsWhereEnd (seen : Seen) (q : BoundSpecification) (places : List ℕ)
+    (status : Status) : Type 0 where
   pub items : List (List Row)
   pub are : HaveRows seen q items
   pub first : IsFirstEnd (is_wanted seen q) (λ line. is_wanted seen q line ≡ Err status) items places
 
--- Without groups the select list is evaluated where WHERE is true, which ends on no line. The item of the list with this number is the first
--- that ends on the line at these places, and with the status; and no item ends on a line before it.
+-- Without groups the select list is evaluated where WHERE is true, which ends on no line. The item of the list with this number is the
+-- first that ends on the line at these places, and with the status. No item ends on a line before it.
 pub record IsListEnd (seen : Seen) (q : BoundSpecification) (number : ℕ) (places : List ℕ) (status : Status)
     : Type 0 where
   pub ungrouped : (out-BoundSpecification q).grouping ≡ None
@@ -101,8 +102,8 @@ pub record IsListEnd (seen : Seen) (q : BoundSpecification) (number : ℕ) (plac
       × IsFirstItem (value_on seen line) (list_of q) number status)
       items places
 
--- With groups the operand of each set function is evaluated where WHERE is true, which ends on no line. That of the set function with this number
--- ends with the status on the line at these places, and on no line before it.
+-- With groups the operand of each set function is evaluated where WHERE is true, which ends on no line. The operand of the set function
+-- with this number ends with the status on the line at these places, and on no line before it.
 pub record IsOperandEnd (seen : Seen) (q : BoundSpecification) (number : ℕ) (places : List ℕ)
     (status : Status) : Type 0 where
   pub grouping : Grouping
@@ -199,7 +200,8 @@ InList seen q _ status line = ⊥
 abbrev pub IsListPhase : Seen → BoundSpecification → List (List Row)
     → Result (Option QueryEnd) AllocError → Type 0
 IsListPhase seen q items result =
-    IsFineOn (is_wanted seen q) (product items) → IfOk result (IsPhaseEnd (is_listed seen q) (InList seen q) items)
+    IsFineOn (is_wanted seen q) (product items)
+    → IfOk result (IsPhaseEnd (is_listed seen q) (InList seen q) items)
 
 -- how a line ends where an operand is evaluated
 abbrev pub InOperand : Seen → BoundSpecification → BoundExpr → Clause → Status → Line → Type 0
@@ -229,13 +231,17 @@ pub record IsCallEnd (seen : Seen) (q : BoundSpecification) (call : SetFunctionC
 abbrev pub IsCallPhase : Seen → BoundSpecification → SetFunctionCall → List (List Row) → ℕ → Status
     → Result (Option QueryEnd) AllocError → Type 0
 IsCallPhase seen q call items number status result =
-    IsFineOn (is_wanted seen q) (product items) → IfOk result (λ found. IfSome found (IsCallEnd seen q call items number status))
+    IsFineOn (is_wanted seen q) (product items)
+    → IfOk result (λ found. IfSome found (IsCallEnd seen q call items number status))
 
-abbrev pub IsAmongCalls : Seen → BoundSpecification → List SetFunctionCall → List (List Row) → Status → QueryEnd → Type 0
+abbrev pub IsAmongCalls : Seen → BoundSpecification → List SetFunctionCall → List (List Row) → Status
+    → QueryEnd → Type 0
 IsAmongCalls seen q calls items status e =
-    (number : ℕ) × (call : SetFunctionCall) × (slice_get calls number ≡ Some call) × IsCallEnd seen q call items number status e
+    (number : ℕ) × (call : SetFunctionCall) × (slice_get calls number ≡ Some call)
+    × IsCallEnd seen q call items number status e
 
 abbrev pub IsCallsPhase : Seen → BoundSpecification → List SetFunctionCall → List (List Row) → Status
     → Result (Option QueryEnd) AllocError → Type 0
 IsCallsPhase seen q calls items status result =
-    IsFineOn (is_wanted seen q) (product items) → IfOk result (λ found. IfSome found (IsAmongCalls seen q calls items status))
+    IsFineOn (is_wanted seen q) (product items)
+    → IfOk result (λ found. IfSome found (IsAmongCalls seen q calls items status))

@@ -39,7 +39,8 @@ known_by bases queries columns = record { bases = bases; queries = queries; colu
 
 -- where the store has this base table, these are its rows
 abbrev pub AreStored : Content → BaseRows → Type 0
-AreStored content base = base.place < length content → lent base.rows.items ≡ rows_in (table_at content base.place)
+AreStored content base =
+    base.place < length content → lent base.rows.items ≡ rows_in (table_at content base.place)
 
 -- whatever the tables mean, a known view has these rows, or its query ends with this status
 abbrev pub AreShown : Known → Content → Name → ViewRows → Type 0
