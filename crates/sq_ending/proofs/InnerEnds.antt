@@ -1,28 +1,23 @@
 -- From view to view: the query of a view reads earlier views alone, and ends with the status with which the item that is the view ends.
-use Rattle.std.proofs.Common.{◌≡◌, ℕ, zero, suc, max, ◌+◌, ◌<◌, ◌≤◌, arith, nat_lt, Bool, true, false, List, [], ◌∷◌, slice_get, Option, Some, None, Result, refl, sym, ◌∙◌, ap, subst, Ok, Err}
+use Rattle.std.proofs.Common.{◌≡◌, ℕ, zero, suc, ◌<◌, ◌≤◌, arith, List, [], ◌∷◌, slice_get, Option, Some, None, Result, sym, ◌∙◌, ap, subst, Ok, Err}
 use Rattle.std.specs.Prelude.{IfOk, IsSomeAnd}
 use Rattle.std.specs.List.{AllByRecursion}
 use Rattle.std.specs.declared.alloc.AllocError.{AllocError}
 use Rattle.std.proofs.lemmas.Option.{same_Some}
 use Rattle.sq_lex.specs.declared.name.Name.{Name}
-use Rattle.sq_value.specs.declared.domain.Kind.{Kind}
 use Rattle.sq_value.specs.declared.value.Value.{Value}
 use Rattle.sq_store.specs.Content.{Content}
-use Rattle.sq_meaning.specs.Environment.{Row}
 use Rattle.sq_meaning.specs.Status.{Outcome}
 use Rattle.sq_meaning.specs.WellFormed.{HasValue}
 use Rattle.sq_meaning.specs.declared.status.Status.{Status}
 use Rattle.sq_meaning.proofs.AnswerLaws.{all_weaker}
-use Rattle.sq_bound.specs.Condition.{select_of}
-use Rattle.sq_bound.specs.WellFormed.{IsSelect, TableKinds, before_view}
+use Rattle.sq_bound.specs.WellFormed.{before_view}
 use Rattle.sq_bound.specs.declared.condition.BoundSpecification.{BoundSpecification}
 use Rattle.sq_bound.specs.declared.condition.TablePlace.{TablePlace}
 use Rattle.sq_bound.specs.declared.condition.TablePlace.TheVariants.{Base, View}
 use Rattle.sq_bound.specs.declared.names.View.{View as BoundView}
 use Rattle.sq_bound.proofs.ConditionLaws.{select_of-out}
 use Rattle.sq_condition.specs.Specification.{items_in}
-use Rattle.sq_expression.proofs.Kept.{no_status}
-use Rattle.sq_query.specs.MayRead.{MayRead}
 use Rattle.sq_query.specs.Needed.{ReadsSelect}
 use Rattle.sq_query.proofs.MeantTables.{StandsBefore}
 use Rattle.sq_query.proofs.NeededViews.{reads_known, stands_before}
@@ -30,7 +25,6 @@ use Rattle.sq_ending.specs.Ending.{IsClauseEnd, IsFromEnd, IsQueryEnd, Seen, row
 use Rattle.sq_ending.specs.Inside.{EndsInThere, EndsInside, IsInnerEnd, IsThrough, IsViewOf, OverAll, inside, views_end}
 use Rattle.sq_ending.specs.Read.{Known}
 use Rattle.sq_ending.specs.declared.ends.Clause.{Clause}
-use Rattle.sq_ending.specs.declared.ends.Clause.TheVariants as clause
 use Rattle.sq_ending.specs.declared.ends.QueryEnd.{QueryEnd}
 use Rattle.sq_ending.specs.declared.inside.InnerEnd.{InnerEnd}
 use Rattle.sq_ending.proofs.ViewRows.{select_wide, view_meant}

@@ -1,5 +1,5 @@
 -- The rows of the items of FROM, item after item.
-use Rattle.std.proofs.Common.{◌≡◌, ℕ, ◌+◌, ◌<◌, ◌≤◌, arith, List, [], ◌∷◌, ◌++◌, length, take, get_or, map, slice_get, Some, Result, Vec, Bor, refl, sym, ◌∙◌, ap, subst, Ok, Err}
+use Rattle.std.proofs.Common.{◌≡◌, ℕ, ◌+◌, ◌<◌, ◌≤◌, List, [], ◌∷◌, ◌++◌, length, take, get_or, slice_get, Result, Vec, Bor, sym, ◌∙◌, ap, subst, Ok, Err}
 use Rattle.std.specs.Result.{IsErrAnd}
 use Rattle.std.specs.declared.alloc.Global.{Global}
 use Rattle.std.proofs.lemmas.List.{length-map, length_push, map_push, take_all, take_more}
@@ -8,7 +8,7 @@ use Rattle.sq_meaning.specs.Environment.{Row}
 use Rattle.sq_meaning.specs.Status.{Outcome, and_then, each}
 use Rattle.sq_meaning.proofs.OutcomeLaws.{both_lists, each-append}
 use Rattle.sq_bound.specs.declared.condition.TablePlace.{TablePlace}
-use Rattle.sq_expression.specs.Fault.{MeetsAs, status_of}
+use Rattle.sq_expression.specs.Fault.{MeetsAs}
 use Rattle.sq_expression.specs.Group.{rows_of_line}
 use Rattle.sq_expression.specs.declared.fault.Fault.{Fault}
 use Rattle.sq_expression.specs.declared.fault.Fault.TheVariants as fault

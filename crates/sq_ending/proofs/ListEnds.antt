@@ -1,9 +1,9 @@
 -- The first item of a list that ends with a status on a line.
-use Rattle.std.proofs.Common.{◌≡◌, ℕ, ◌+◌, ◌<◌, ◌≤◌, List, [], ◌∷◌, ◌++◌, length, map, take, get_or, Option, Some, None, Result, Bor, refl, sym, ◌∙◌, ap, subst, Ok, Err}
+use Rattle.std.proofs.Common.{◌≡◌, ℕ, ◌+◌, ◌<◌, ◌≤◌, List, [], ◌∷◌, ◌++◌, length, map, take, get_or, None, refl, sym, ◌∙◌, ap, subst, Ok, Err}
 use Rattle.std.proofs.lemmas.List.{take_all, take_more}
 use Rattle.std.proofs.lemmas.Option.{slice_get_read}
 use Rattle.sq_value.specs.declared.value.Value.{Value}
-use Rattle.sq_meaning.specs.Environment.{Line, Scope, alone}
+use Rattle.sq_meaning.specs.Environment.{Line, alone}
 use Rattle.sq_meaning.specs.Expression.{value}
 use Rattle.sq_meaning.specs.Status.{Outcome, and_then, each}
 use Rattle.sq_meaning.specs.Syntax.{literal}

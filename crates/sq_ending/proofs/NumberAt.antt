@@ -1,5 +1,5 @@
 -- The row at a place, while rows are walked over.
-use Rattle.std.proofs.Common.{◌≡◌, ℕ, zero, suc, ◌-◌, List, [], ◌∷◌, slice_get, Option, None, Some, sym, ◌∙◌, ap, arith, refl}
+use Rattle.std.proofs.Common.{◌≡◌, ℕ, zero, suc, ◌-◌, List, [], ◌∷◌, slice_get, None, Some, sym, ◌∙◌, ap, arith, refl}
 use Rattle.std.specs.Option.{option_map}
 use Rattle.sq_store.specs.declared.table.Numbered.{Numbered}
 

@@ -1,21 +1,15 @@
 -- Where a well-formed query specification ends over the tables that it may read.
-use Rattle.std.proofs.Common.{◌≡◌, ℕ, ◌<◌, true, List, [], length, Option, Some, None, Result, sym, ◌∙◌, ap, subst, Ok, Err}
+use Rattle.std.proofs.Common.{◌≡◌, ℕ, ◌<◌, true, List, [], length, Option, Some, None, Result, sym, subst, Ok, Err}
 use Rattle.std.specs.Prelude.{IfOk}
 use Rattle.std.specs.List.{AllByRecursion}
 use Rattle.std.specs.declared.alloc.AllocError.{AllocError}
-use Rattle.std.proofs.lemmas.List.{length-map}
-use Rattle.sq_lex.specs.declared.name.Name.{Name}
 use Rattle.sq_value.specs.declared.domain.Kind.{Kind}
-use Rattle.sq_value.specs.declared.value.Value.{Value}
 use Rattle.sq_store.specs.Content.{Content}
 use Rattle.sq_store.specs.Keys.{Keys, are_keyed}
 use Rattle.sq_meaning.specs.Environment.{Row}
-use Rattle.sq_meaning.specs.Status.{Outcome, each}
 use Rattle.sq_meaning.specs.WellFormed.{AreRowsOf, HasValue}
-use Rattle.sq_meaning.specs.declared.status.Status.{Status}
-use Rattle.sq_bound.specs.Condition.{select_of}
 use Rattle.sq_bound.specs.Fits.{keys_of_bases}
-use Rattle.sq_bound.specs.WellFormed.{BasesAreThere, IsSelect, IsViewQuery, TableKinds, kinds_of_select}
+use Rattle.sq_bound.specs.WellFormed.{IsViewQuery, TableKinds, kinds_of_select}
 use Rattle.sq_bound.specs.declared.condition.BoundSpecification.{BoundSpecification}
 use Rattle.sq_bound.specs.declared.condition.TablePlace.{TablePlace}
 use Rattle.sq_bound.specs.declared.condition.TablePlace.TheVariants.{Base, View}
@@ -29,7 +23,6 @@ use Rattle.sq_condition.specs.Memo.{Meant}
 use Rattle.sq_condition.specs.Specification.{items_in, rows_meant}
 use Rattle.sq_condition.specs.Subquery.{KnowsQuery}
 use Rattle.sq_condition.proofs.Right.{right_same}
-use Rattle.sq_query.specs.MayRead.{MayRead}
 use Rattle.sq_query.specs.Needed.{FindsSelect, specification_tables}
 use Rattle.sq_query.proofs.Fitting.{answers_right}
 use Rattle.sq_query.proofs.KeyNames.{place_there}

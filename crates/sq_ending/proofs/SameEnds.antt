@@ -1,7 +1,6 @@
 -- Over tables that mean the same, a query specification ends at the same place.
-use Rattle.std.proofs.Common.{◌≡◌, ℕ, zero, suc, Bool, true, List, [], ◌∷◌, take, slice_get, Option, Some, None, refl, sym, ◌∙◌, ap, subst, Ok, Err}
+use Rattle.std.proofs.Common.{◌≡◌, ℕ, zero, suc, Bool, true, List, [], ◌∷◌, take, slice_get, Option, Some, None, sym, ◌∙◌, subst, Ok, Err}
 use Rattle.std.specs.List.{AllByRecursion}
-use Rattle.std.specs.Option.{option_map}
 use Rattle.std.proofs.lemmas.Option.{same_Some}
 use Rattle.sq_lex.specs.declared.name.Name.{Name}
 use Rattle.sq_value.specs.declared.value.Value.{Value}
@@ -10,9 +9,9 @@ use Rattle.sq_meaning.specs.Query.{is_true}
 use Rattle.sq_meaning.specs.Rows.{product}
 use Rattle.sq_meaning.specs.Status.{Outcome, each}
 use Rattle.sq_meaning.specs.declared.status.Status.{Status}
-use Rattle.sq_bound.specs.Condition.{PlacedSelect, select_of}
+use Rattle.sq_bound.specs.Condition.{select_of}
 use Rattle.sq_bound.specs.Expression.{expr_of}
-use Rattle.sq_bound.specs.declared.condition.BoundSpecification.{BoundSpecification, out-BoundSpecification}
+use Rattle.sq_bound.specs.declared.condition.BoundSpecification.{BoundSpecification}
 use Rattle.sq_bound.specs.declared.condition.TablePlace.{TablePlace}
 use Rattle.sq_bound.specs.declared.expression.BoundExpr.{BoundExpr}
 use Rattle.sq_bound.proofs.ConditionLaws.{select_of-out}
@@ -22,7 +21,7 @@ use Rattle.sq_query.specs.Needed.{ReadsClause, ReadsSelect}
 use Rattle.sq_query.specs.Row.{outside}
 use Rattle.sq_query.proofs.AnyTables.{value_over}
 use Rattle.sq_query.proofs.SameTables.{same_clause, same_each, same_rows}
-use Rattle.sq_ending.specs.Ending.{EndsThere, HaveRows, IsClauseEnd, IsFromEnd, IsListEnd, IsWhereEnd, Seen, is_listed, is_wanted, list_of, rows_of, value_on}
+use Rattle.sq_ending.specs.Ending.{EndsThere, IsClauseEnd, IsFromEnd, IsListEnd, IsOperandEnd, IsWhereEnd, Seen, is_wanted, list_of, rows_of, value_on}
 use Rattle.sq_ending.specs.Walk.{IsFineOn, IsFirstEnd, IsFirstItem, is_met}
 use Rattle.sq_ending.specs.declared.ends.Clause.{Clause}
 use Rattle.sq_ending.specs.declared.ends.Clause.TheVariants as clause
@@ -88,10 +87,26 @@ module _ (f g : TablePlace → Outcome (List Row)) (values : List Value) (user :
         h.first);
   }
 
+  operand_there : (number : ℕ) (places : List ℕ) (status : Status) → IsOperandEnd here q number places status → IsOperandEnd there q number places status
+  operand_there number places status h = record {
+    grouping = h.grouping;
+    grouped = h.grouped;
+    aggregate = h.aggregate;
+    at = h.at;
+    items = h.items;
+    are = sym same_items ∙ h.are;
+    fine = subst (λ (w : Line → Outcome Bool). IsFineOn w (product h.items)) same_wanted h.fine;
+    first =
+        subst (λ (w : Line → Outcome Bool). IsFirstEnd (is_met w (value_on there) (h.aggregate.operand ∷ [])) (λ line. (w line ≡ Ok true) × (value_on there line h.aggregate.operand ≡ Err status)) h.items places) same_wanted
+        (subst (λ (v : Line → BoundExpr → Outcome Value). IsFirstEnd (is_met (is_wanted here q) v (h.aggregate.operand ∷ [])) (λ line. (is_wanted here q line ≡ Ok true) × (v line h.aggregate.operand ≡ Err status)) h.items places) same_values
+        h.first);
+  }
+
   clause_there : (c : Clause) (places : List ℕ) (status : Status) → IsClauseEnd here q c places status → IsClauseEnd there q c places status
   clause_there (clause.From item) places status (none, h) = (none, from_there item status h)
   clause_there clause.Where places status h = where_there places status h
   clause_there (clause.Item number) places status h = list_there number places status h
+  clause_there (clause.SetFunction number) places status h = operand_there number places status h
 
   pub ends_there : (found : Option QueryEnd) → EndsThere here q found → EndsThere there q found
   ends_there None h = record {

@@ -1,5 +1,5 @@
 -- What was read of the tables is what they mean.
-use Rattle.std.proofs.Common.{◌≡◌, ℕ, ◌<◌, nat_eq, cond, Bool, true, false, List, [], ◌∷◌, length, find, map, Option, Some, None, refl, sym, ◌∙◌, ap, subst, Ok, Err}
+use Rattle.std.proofs.Common.{◌≡◌, ℕ, ◌<◌, nat_eq, cond, Bool, true, false, List, [], ◌∷◌, length, find, Option, Some, refl, sym, ◌∙◌, ap, subst, Ok}
 use Rattle.std.specs.Prelude.{◌||◌}
 use Rattle.std.specs.List.{AllByRecursion, list_any}
 use Rattle.std.specs.Option.{option_map}
@@ -13,7 +13,6 @@ use Rattle.sq_meaning.specs.Tables.{rows_in}
 use Rattle.sq_meaning.specs.WellFormed.{HasValue}
 use Rattle.sq_bound.specs.Condition.{select_of}
 use Rattle.sq_bound.specs.Fits.{AreInDomains}
-use Rattle.sq_bound.specs.WellFormed.{TableKinds}
 use Rattle.sq_bound.specs.declared.condition.BoundSpecification.{BoundSpecification}
 use Rattle.sq_bound.specs.declared.condition.TablePlace.{TablePlace}
 use Rattle.sq_bound.specs.declared.condition.TablePlace.TheVariants.{Base, View}

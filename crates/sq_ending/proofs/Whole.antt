@@ -1,5 +1,5 @@
 -- What a query specification ends with, where a clause of it ends on a line.
-use Rattle.std.proofs.Common.{◌≡◌, ℕ, zero, suc, Bool, true, false, List, [], ◌∷◌, ◌++◌, map, take, drop, slice_get, Option, Some, None, refl, sym, ◌∙◌, ap, subst, Ok, Err}
+use Rattle.std.proofs.Common.{◌≡◌, ℕ, zero, suc, Bool, true, false, List, [], ◌∷◌, map, take, drop, slice_get, Some, None, refl, sym, ◌∙◌, ap, subst, Ok, Err}
 use Rattle.std.specs.Prelude.{if◌then◌else◌}
 use Rattle.std.specs.Option.{option_map}
 use Rattle.std.proofs.lemmas.List.{take-append-drop}
@@ -26,7 +26,7 @@ use Rattle.sq_condition.proofs.Joined.{kept-append}
 use Rattle.sq_condition.proofs.Phases.{from_lines, heads_of, rows_from_lines}
 use Rattle.sq_condition.proofs.QueryRows.{meant_of_lines}
 use Rattle.sq_condition.proofs.Right.{right_first, right_same}
-use Rattle.sq_ending.specs.Ending.{HaveRows, IsFromEnd, IsListEnd, IsWhereEnd, is_listed, is_wanted, list_of, seen_in, value_on}
+use Rattle.sq_ending.specs.Ending.{HaveRows, IsFromEnd, is_listed, is_wanted, list_of, seen_in, value_on}
 use Rattle.sq_ending.specs.Walk.{IsFineOn, IsFirstEnd, IsFirstItem, is_met, listed}
 
 -- ---- outcomes
@@ -175,9 +175,6 @@ module _ (context : Context) (query : BoundSpecification) where
 
       met_here : kept (is_listed (seen_in context) query) (product items) ≡ and_then (each shown_on lines) (λ rows. Ok lines)
       met_here = met_is wanted_here (value_on (seen_in context)) (list_of query) (product items) lines kept_are
-
-      pub list_right : IsRight meant → IsRight (kept (is_listed (seen_in context) query) (product items))
-      list_right right ends = right_first (each shown_on lines) (λ rows. Ok (rows_left (out-BoundSpecification query).distinct rows)) (right_same meant (left (each shown_on lines)) list_is right) (put_ends (each shown_on lines) lines _ (sym met_here ∙ ends))
 
       -- an item of the list ends
       pub list_whole : (status : Status) → kept (is_listed (seen_in context) query) (product items) ≡ Err status → meant ≡ Err status

@@ -1,6 +1,6 @@
--- Where a query specification outside every query ends with a status, as far as FROM, WHERE and without groups the select list (ISO/IEC
--- 9075:1992, 7.4, 7.6 and 7.9).
-use Rattle.std.specs.Prelude.{⊤, ◌≡◌, ℕ, Bool, true, List, [], length, take, slice_get, Option, None, Some, Result, Ok, Err, IfOk}
+-- Where a query specification outside every query ends with a status, as far as FROM, WHERE, the operands of set functions, and without
+-- groups the select list (ISO/IEC 9075:1992, 6.5, 7.4, 7.6, 7.7 and 7.9).
+use Rattle.std.specs.Prelude.{⊤, ◌≡◌, ℕ, Bool, true, List, [], ◌∷◌, length, take, slice_get, Option, None, Some, Result, Ok, Err, IfOk, IfSome}
 use Rattle.std.specs.declared.alloc.AllocError.{AllocError}
 use Rattle.sq_lex.specs.declared.name.Name.{Name}
 use Rattle.sq_value.specs.declared.domain.Kind.{Kind}
@@ -17,9 +17,12 @@ use Rattle.sq_bound.specs.Condition.{select_of}
 use Rattle.sq_bound.specs.Expression.{expr_of}
 use Rattle.sq_bound.specs.WellFormed.{IsSelect, TableKinds}
 use Rattle.sq_bound.specs.declared.condition.BoundSpecification.{BoundSpecification, out-BoundSpecification}
-use Rattle.sq_bound.specs.declared.condition.Grouping.{Grouping}
+use Rattle.sq_bound.specs.declared.condition.Grouping.{Grouping, out-Grouping}
 use Rattle.sq_bound.specs.declared.condition.TablePlace.{TablePlace}
+use Rattle.sq_bound.specs.declared.expression.Aggregate.{Aggregate}
 use Rattle.sq_bound.specs.declared.expression.BoundExpr.{BoundExpr}
+use Rattle.sq_bound.specs.declared.expression.SetFunctionCall.{SetFunctionCall}
+use Rattle.sq_bound.specs.declared.expression.SetFunctionCall.TheVariants.{Over}
 use Rattle.sq_bound.specs.declared.names.BaseTable.{BaseTable}
 use Rattle.sq_condition.specs.Specification.{items_in, where_of}
 use Rattle.sq_expression.specs.Fault.{IsRight, status_of}
@@ -61,6 +64,10 @@ list_of q = (out-BoundSpecification q).list
 abbrev pub is_listed : Seen → BoundSpecification → Line → Outcome Bool
 is_listed seen q = is_met (is_wanted seen q) (value_on seen) (list_of q)
 
+-- whether WHERE is true of a line, on which an operand has a value then
+abbrev pub is_operand_met : Seen → BoundSpecification → BoundExpr → Line → Outcome Bool
+is_operand_met seen q operand = is_met (is_wanted seen q) (value_on seen) (operand ∷ [])
+
 -- ---- clause by clause
 
 -- The item of FROM with this number, from 0 on, ends with the status, and no item before it does.
@@ -76,13 +83,14 @@ abbrev pub HaveRows : Seen → BoundSpecification → List (List Row) → Type 0
 HaveRows seen q items = each seen.tables (items_in q) ≡ Ok items
 
 -- WHERE ends with the status on the line at these places of the product, and on no line before it.
-pub record IsWhereEnd (seen : Seen) (q : BoundSpecification) (places : List ℕ) (status : Status) : Type 0 where
+pub record IsWhereEnd (seen : Seen) (q : BoundSpecification) (places : List ℕ)
+    (status : Status) : Type 0 where
   pub items : List (List Row)
   pub are : HaveRows seen q items
   pub first : IsFirstEnd (is_wanted seen q) (λ line. is_wanted seen q line ≡ Err status) items places
 
--- Without groups the select list is evaluated where WHERE is true, which ends on no line. The item of the list with this number is the first
--- that ends on the line at these places, and with the status; and no item ends on a line before it.
+-- Without groups the select list is evaluated where WHERE is true, which ends on no line. The item of the list with this number is the
+-- first that ends on the line at these places, and with the status. No item ends on a line before it.
 pub record IsListEnd (seen : Seen) (q : BoundSpecification) (number : ℕ) (places : List ℕ) (status : Status)
     : Type 0 where
   pub ungrouped : (out-BoundSpecification q).grouping ≡ None
@@ -94,10 +102,26 @@ pub record IsListEnd (seen : Seen) (q : BoundSpecification) (number : ℕ) (plac
       × IsFirstItem (value_on seen line) (list_of q) number status)
       items places
 
+-- With groups the operand of each set function is evaluated where WHERE is true, which ends on no line. The operand of the set function
+-- with this number ends with the status on the line at these places, and on no line before it.
+pub record IsOperandEnd (seen : Seen) (q : BoundSpecification) (number : ℕ) (places : List ℕ)
+    (status : Status) : Type 0 where
+  pub grouping : Grouping
+  pub grouped : (out-BoundSpecification q).grouping ≡ Some grouping
+  pub aggregate : Aggregate
+  pub at : slice_get (out-Grouping grouping).set_functions number ≡ Some (Over aggregate)
+  pub items : List (List Row)
+  pub are : HaveRows seen q items
+  pub fine : IsFineOn (is_wanted seen q) (product items)
+  pub first : IsFirstEnd (is_operand_met seen q aggregate.operand)
+      (λ line. (is_wanted seen q line ≡ Ok true) × (value_on seen line aggregate.operand ≡ Err status))
+      items places
+
 abbrev pub IsClauseEnd : Seen → BoundSpecification → Clause → List ℕ → Status → Type 0
 IsClauseEnd seen q (clause.From item) places status = (places ≡ []) × IsFromEnd seen q item status
 IsClauseEnd seen q clause.Where places status = IsWhereEnd seen q places status
 IsClauseEnd seen q (clause.Item number) places status = IsListEnd seen q number places status
+IsClauseEnd seen q (clause.SetFunction number) places status = IsOperandEnd seen q number places status
 
 -- ---- the query specification
 
@@ -172,10 +196,52 @@ InList seen q (clause.Item number) status line =
     (is_wanted seen q line ≡ Ok true) × IsFirstItem (value_on seen line) (list_of q) number status
 InList seen q _ status line = ⊥
 
--- The select list over the lines of which WHERE is true, which ends on none; with groups nothing is looked for.
-pub record IsListPhase (seen : Seen) (q : BoundSpecification) (items : List (List Row))
-    (result : Result (Option QueryEnd) AllocError) : Type 0 where
-  pub grouped : (g : Grouping) → (out-BoundSpecification q).grouping ≡ Some g → IfOk result (λ found. found ≡ None)
-  pub ungrouped : (out-BoundSpecification q).grouping ≡ None → IsFineOn (is_wanted seen q) (product items)
-      → IsRight (kept (is_listed seen q) (product items))
-      → IfOk result (IsPhaseEnd (is_listed seen q) (InList seen q) items)
+-- the select list over the lines of which WHERE is true, which ends on none
+abbrev pub IsListPhase : Seen → BoundSpecification → List (List Row)
+    → Result (Option QueryEnd) AllocError → Type 0
+IsListPhase seen q items result =
+    IsFineOn (is_wanted seen q) (product items)
+    → IfOk result (IsPhaseEnd (is_listed seen q) (InList seen q) items)
+
+-- how a line ends where an operand is evaluated
+abbrev pub InOperand : Seen → BoundSpecification → BoundExpr → Clause → Status → Line → Type 0
+InOperand seen q operand (clause.Item number) status line =
+    (is_wanted seen q line ≡ Ok true) × (value_on seen line operand ≡ Err status)
+InOperand seen q operand _ status line = ⊥
+
+-- an operand over the same lines
+abbrev pub IsOperandPhase : Seen → BoundSpecification → BoundExpr → List (List Row)
+    → Result (Option QueryEnd) AllocError → Type 0
+IsOperandPhase seen q operand items result =
+    IsFineOn (is_wanted seen q) (product items)
+    → IfOk result (IsPhaseEnd (is_operand_met seen q operand) (InOperand seen q operand) items)
+
+-- this set function is one over an operand, which is the first to end on a line so
+pub record IsCallEnd (seen : Seen) (q : BoundSpecification) (call : SetFunctionCall) (items : List (List Row))
+    (number : ℕ) (status : Status) (e : QueryEnd) : Type 0 where
+  pub is_clause : e.end.clause ≡ clause.SetFunction number
+  pub is_status : e.end.status ≡ status
+  pub aggregate : Aggregate
+  pub is : call ≡ Over aggregate
+  pub first : IsFirstEnd (is_operand_met seen q aggregate.operand)
+      (λ line. (is_wanted seen q line ≡ Ok true) × (value_on seen line aggregate.operand ≡ Err status))
+      items e.line.items
+
+-- a set function, or one of these, whose operand ends with the status
+abbrev pub IsCallPhase : Seen → BoundSpecification → SetFunctionCall → List (List Row) → ℕ → Status
+    → Result (Option QueryEnd) AllocError → Type 0
+IsCallPhase seen q call items number status result =
+    IsFineOn (is_wanted seen q) (product items)
+    → IfOk result (λ found. IfSome found (IsCallEnd seen q call items number status))
+
+abbrev pub IsAmongCalls : Seen → BoundSpecification → List SetFunctionCall → List (List Row) → Status
+    → QueryEnd → Type 0
+IsAmongCalls seen q calls items status e =
+    (number : ℕ) × (call : SetFunctionCall) × (slice_get calls number ≡ Some call)
+    × IsCallEnd seen q call items number status e
+
+abbrev pub IsCallsPhase : Seen → BoundSpecification → List SetFunctionCall → List (List Row) → Status
+    → Result (Option QueryEnd) AllocError → Type 0
+IsCallsPhase seen q calls items status result =
+    IsFineOn (is_wanted seen q) (product items)
+    → IfOk result (λ found. IfSome found (IsAmongCalls seen q calls items status))

@@ -7,7 +7,7 @@ use Rattle.sq_store.specs.Content.{Content}
 use Rattle.sq_meaning.specs.Environment.{Row}
 use Rattle.sq_meaning.specs.Status.{Outcome}
 use Rattle.sq_meaning.specs.declared.status.Status.{Status}
-use Rattle.sq_bound.specs.WellFormed.{IsSelect, TableKinds, before_view}
+use Rattle.sq_bound.specs.WellFormed.{IsSelect, before_view}
 use Rattle.sq_bound.specs.declared.condition.BoundSpecification.{BoundSpecification}
 use Rattle.sq_bound.specs.declared.condition.TablePlace.{TablePlace}
 use Rattle.sq_bound.specs.declared.condition.TablePlace.TheVariants.{Base, View}

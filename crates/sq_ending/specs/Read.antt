@@ -1,5 +1,5 @@
 -- The tables that a query reads, as they were read (ISO/IEC 9075:1992, 11.19).
-use Rattle.std.specs.Prelude.{◌≡◌, ◌<◌, ℕ, nat_eq, true, List, length}
+use Rattle.std.specs.Prelude.{◌≡◌, ◌<◌, nat_eq, true, List, length}
 use Rattle.std.specs.List.{AllByRecursion, list_any}
 use Rattle.sq_lex.specs.declared.name.Name.{Name}
 use Rattle.sq_store.specs.Content.{Content, table_at}
@@ -39,7 +39,8 @@ known_by bases queries columns = record { bases = bases; queries = queries; colu
 
 -- where the store has this base table, these are its rows
 abbrev pub AreStored : Content → BaseRows → Type 0
-AreStored content base = base.place < length content → lent base.rows.items ≡ rows_in (table_at content base.place)
+AreStored content base =
+    base.place < length content → lent base.rows.items ≡ rows_in (table_at content base.place)
 
 -- whatever the tables mean, a known view has these rows, or its query ends with this status
 abbrev pub AreShown : Known → Content → Name → ViewRows → Type 0

@@ -10,6 +10,8 @@ pub enum Clause {
     Where,
     /// An item of the select list, by its number from 0 on.
     Item(usize),
+    /// In a query with groups the operand of a set function, by the number of that in the text, from 0 on.
+    SetFunction(usize),
 }
 
 /// A clause, and the status that it ends with.

@@ -70,7 +70,8 @@ fn end_within<N: Names, S: Store>(
     ensures { (values : List AnyValue) → IfOk result (λ found. OverAll
         (known_by (N.base_tables names.now) (N.view_queries names.now) (N.column_kinds names.now))
         (S.content_now store.now) user values query.now
-        (λ seen. IsQueryEnd seen query.now end → EndsInThere (N.view_queries names.now) seen query.now found)) }
+        (λ seen. IsQueryEnd seen query.now end
+        → EndsInThere (N.view_queries names.now) seen query.now found)) }
 {
     match view_of(names, query, end.end.clause) {
         Some(view) => {
@@ -110,7 +111,7 @@ fn view_of<'a, N: Names>(
             Some(TablePlace::View(place)) => view_at(names, *place),
             _ => None,
         },
-        Clause::Where | Clause::Item(_) => None,
+        Clause::Where | Clause::Item(_) | Clause::SetFunction(_) => None,
     }
 }
 

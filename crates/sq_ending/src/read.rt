@@ -70,9 +70,11 @@ impl<'a> Tables<'a> {
         requires there { BasesAreThere (N.base_tables names.now) (N.column_kinds names.now) }
         requires keys { S.key_columns store.now ≡ keys_of_bases (N.base_tables names.now) }
         requires not_null { not_nulls_hold (N.base_tables names.now) (S.content_now store.now) ≡ true }
-        ensures right { AreRight (known_by (N.base_tables names.now) (N.view_queries names.now) (N.column_kinds names.now))
+        ensures right { AreRight
+            (known_by (N.base_tables names.now) (N.view_queries names.now) (N.column_kinds names.now))
             (S.content_now store.now) user self.old
-            → OnOk result (AreRight (known_by (N.base_tables names.now) (N.view_queries names.now) (N.column_kinds names.now))
+            → OnOk result (AreRight
+            (known_by (N.base_tables names.now) (N.view_queries names.now) (N.column_kinds names.now))
             (S.content_now store.now) user self.new) }
         ensures there { OnOk result (IsThere self.new table) }
         ensures more { OnOk result (HasMore self.old self.new) }
@@ -119,9 +121,11 @@ impl<'a> Tables<'a> {
         requires there { BasesAreThere (N.base_tables names.now) (N.column_kinds names.now) }
         requires keys { S.key_columns store.now ≡ keys_of_bases (N.base_tables names.now) }
         requires not_null { not_nulls_hold (N.base_tables names.now) (S.content_now store.now) ≡ true }
-        ensures right { AllByRecursion (AreShown (known_by (N.base_tables names.now) (N.view_queries names.now) (N.column_kinds names.now))
+        ensures right { AllByRecursion (AreShown
+            (known_by (N.base_tables names.now) (N.view_queries names.now) (N.column_kinds names.now))
             (S.content_now store.now) user) self.old.views.items
-            → OnOk result (AllByRecursion (AreShown (known_by (N.base_tables names.now) (N.view_queries names.now) (N.column_kinds names.now))
+            → OnOk result (AllByRecursion (AreShown
+            (known_by (N.base_tables names.now) (N.view_queries names.now) (N.column_kinds names.now))
             (S.content_now store.now) user) self.new.views.items) }
         ensures bases { self.new.bases ≡ self.old.bases }
         ensures there { OnOk result (IsThere self.new (at_place.View place)) }

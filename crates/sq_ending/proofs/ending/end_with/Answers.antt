@@ -1,4 +1,4 @@
-use Rattle.std.proofs.Common.{◌∙◌, List, Vec, Bor, ap, length, subst, sym}
+use Rattle.std.proofs.Common.{◌∙◌, List, Vec, Bor, subst, sym}
 use Rattle.std.specs.declared.alloc.Global.{Global}
 use Rattle.std.proofs.lemmas.List.{length-map}
 use Rattle.sq_meaning.specs.Environment.{Row}

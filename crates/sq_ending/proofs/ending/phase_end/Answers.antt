@@ -1,7 +1,7 @@
 use Rattle.std.proofs.Common.{subst}
 use Rattle.sq_ending.specs.Ending.{InWhere, IsPhaseEnd, is_wanted, seen_in}
 use Rattle.sq_ending.specs.Walk.{tables_in}
-use Rattle.sq_ending.proofs.Phases.{ends_behind, ends_in_where}
+use Rattle.sq_ending.proofs.Phases.{ends_in_where}
 use Rattle.sq_ending.proofs.Whole.{where_right}
 use Rattle.sq_ending.proofs.ending.phase_end.Goals as goal
 
@@ -23,10 +23,9 @@ returns-in-None c = λ meant knows memo.
     let query = c.args.query.now in
     let items = tables_in c.args.items.now in
     let first = c.in_ok-end.ensures meant knows memo in
-    let second = c.list_end.ensures meant knows first.0 in (
+    let second = c.later_end.ensures meant knows first.0 in (
       second.0,
       λ right are.
-          ends_behind context query items are
-          (subst (IsPhaseEnd (is_wanted (seen_in context) query) (InWhere (seen_in context) query) items) c.in-None.is (first.1 (where_right context query items are right)))
-          right c.list_end.result second.1,
+          second.1 right are
+          (subst (IsPhaseEnd (is_wanted (seen_in context) query) (InWhere (seen_in context) query) items) c.in-None.is (first.1 (where_right context query items are right))),
     )

@@ -1,6 +1,5 @@
 use Rattle.std.proofs.Common.{subst}
 use Rattle.std.specs.List.{AllByRecursion}
-use Rattle.sq_bound.specs.declared.condition.TablePlace.{TablePlace}
 use Rattle.sq_expression.specs.declared.context.Context.{Context}
 use Rattle.sq_ending.specs.Read.{IsThere}
 use Rattle.sq_ending.proofs.QueryEnds.{query_ends}

@@ -1,4 +1,4 @@
-use Rattle.std.proofs.Common.{◌≡◌, ◌+◌, ◌<◌, List, None, arith, ap, length, rules, slice_get, sym}
+use Rattle.std.proofs.Common.{◌≡◌, ◌+◌, List, None, arith, ap, length, rules, slice_get, sym}
 use Rattle.sq_store.specs.Content.{first_from, table_at}
 use Rattle.sq_store.specs.declared.table.Numbered.{Numbered}
 use Rattle.sq_store.proofs.Walk.{rows_from, rows_from_none, rows_from_zero, walked, walked_below}

@@ -1,14 +1,11 @@
-use Rattle.std.proofs.Common.{◌≡◌, ◌+◌, ◌++◌, ◌<◌, List, map, length, None, Ok, arith, refl, rules, sym, ap, ◌∙◌, Bor}
+use Rattle.std.proofs.Common.{◌≡◌, ◌+◌, ◌++◌, List, map, length, None, arith, refl, rules, ap, ◌∙◌, Bor}
 use Rattle.std.proofs.lemmas.List.{map_push}
 use Rattle.sq_store.specs.Content.{table_at, first_from}
 use Rattle.sq_store.specs.declared.table.Numbered.{Numbered}
-use Rattle.sq_store.specs.declared.table.Table.{Table}
-use Rattle.sq_meaning.specs.Status.{Outcome, and_then}
 use Rattle.sq_meaning.specs.Environment.{Row}
-use Rattle.sq_meaning.specs.Tables.{rows_in}
 use Rattle.sq_expression.specs.Frame.{lent}
 use Rattle.sq_store.proofs.Walk.{rows_from, rows_from_zero, walked, walked_below}
-use Rattle.sq_query.proofs.WalkedRows.{made_all, made_on, there_within, unnumbered_in_turn}
+use Rattle.sq_query.proofs.WalkedRows.{made_all, made_on, unnumbered_in_turn}
 use Rattle.sq_ending.proofs.read.rows_of_table.Goals as goal
 
 pub overflow_add-number : goal.overflow_add-number

@@ -1,7 +1,6 @@
 use Rattle.std.proofs.Common.{List, [], subst, sym}
 use Rattle.sq_meaning.specs.Environment.{Row}
 use Rattle.sq_meaning.specs.Status.{Outcome}
-use Rattle.sq_bound.specs.declared.condition.TablePlace.{TablePlace}
 use Rattle.sq_expression.specs.Fault.{HasRows}
 use Rattle.sq_query.proofs.Finds.{select_finds}
 use Rattle.sq_ending.proofs.ViewRows.{select_wide, view_meant}
