@@ -39,7 +39,8 @@ fn write_view_query<S: Store>(
     write_item(session, view, words)
 }
 
-/// `WHERE, on row 3 of U1.T`, `item 2 of the select list, on row 3 of U1.T`, or `query of view U1.V`
+/// `WHERE, on row 3 of U1.T`, `item 2 of the select list, on row 3 of U1.T`, `operand of set function 1, on row 3 of U1.T`, or
+/// `query of view U1.V`
 fn write_clause<S: Store>(
     session: &Session<S>,
     cause: &QueryCause,
@@ -54,6 +55,12 @@ fn write_clause<S: Store>(
         Clause::Item(number) => write!(
             words,
             "item {} of the select list",
+            number.saturating_add(1)
+        )
+        .map_err(|_| AllocError)?,
+        Clause::SetFunction(number) => write!(
+            words,
+            "operand of set function {}",
             number.saturating_add(1)
         )
         .map_err(|_| AllocError)?,
