@@ -1,4 +1,4 @@
-use Rattle.std.proofs.Common.{◌++◌, ◌∙◌, List, ap, arith, rules, subst, sym}
+use Rattle.std.proofs.Common.{◌≡◌, ◌++◌, ◌∙◌, List, ap, arith, rules, subst, sym}
 use Rattle.std.specs.Prelude.{OnOk, flat_map}
 use Rattle.sq_bound.specs.Joined.{specifications_of, term_specifications, union_specifications}
 use Rattle.sq_bound.specs.declared.condition.BoundSpecification.{BoundSpecification}
@@ -18,7 +18,7 @@ add_specifications-loop-union-init t c =
 pub add_specifications-loop-union-preserved : goal.add_specifications-loop-union-preserved
 add_specifications-loop-union-preserved t c =
     next_of (lent_queries c.loop-union.all.items) (lent_queries c.add_term-in-loop-union.new.all.items) (lent_queries c.args.all.now.items ++ specifications_of c.args.query.now)
-    c.as_slice-union-items.result.now c.loop-union.union-index c.union-item.result c.loop-union-test.true c.union-item.is c.in_ok-add_term-in-loop-union.ensures c.loop-union.invariant
+    c.as_slice-union-items.result.now c.loop-union.union-index c.union-item.result c.loop-union-test.true c.union-item.is c.in_ok-add_term-2.ensures c.loop-union.invariant
 
 pub add_specifications-returns : goal.add_specifications-returns
 add_specifications-returns t c =
@@ -37,3 +37,15 @@ add_term-returns-in-Bracketed t c =
     let now = lent_queries c.add_specifications.new.all.items in
     let same = ap term_specifications c.in-Bracketed.is ∙ term_specifications-Bracketed _ ∙ ap specifications_of (sym c.get.ensures) in
     subst (λ (qs : List BoundSpecification). OnOk c.add_specifications.result (now ≡ old ++ qs)) (sym same) c.add_specifications.ensures
+
+pub add_specifications-add_term-requires : goal.add_specifications-add_term-requires
+add_specifications-add_term-requires t c κs within = (omega (arith, first_smaller c.args.query.now, c.decreases), search rules)
+
+pub add_specifications-add_term-requires-in-loop-union : goal.add_specifications-add_term-requires-in-loop-union
+add_specifications-add_term-requires-in-loop-union t c κs within =
+    let unions = c.as_slice-union-items.result.now in
+    (omega (arith, union_smaller c.args.query.now unions c.loop-union.union-index c.union-item.result c.as_slice-union-items.ensures c.loop-union-test.true c.union-item.is, c.decreases), search rules)
+
+pub add_term-add_specifications-requires : goal.add_term-add_specifications-requires
+add_term-add_specifications-requires t c κs within =
+    (omega (arith, bracketed_smaller c.args.term.now _ c.get.result.now c.in-Bracketed.is c.get.ensures, c.decreases), search rules)
