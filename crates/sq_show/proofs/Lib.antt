@@ -5,6 +5,7 @@ pub mod Causes
 pub mod Continued
 pub mod CursorFound
 pub mod Finding
+pub mod FirstEnd
 pub mod Lexed
 pub mod Noted
 pub mod Noting

@@ -8,7 +8,7 @@ use Rattle.sq_show.specs.Breach.{IsPut, LackNoneBefore, LacksNone, LacksNoneBefo
 use Rattle.sq_show.specs.declared.cause.Breach.{Breach}
 use Rattle.sq_show.specs.declared.cause.RowPut.{RowPut}
 
-split : (m n : ℕ) → m < n + 1 → (m < n) ⊎ (m ≡ n)
+pub split : (m n : ℕ) → m < n + 1 → (m < n) ⊎ (m ≡ n)
 split zero zero h = inr refl
 split zero (suc n) h = inl (omega arith)
 split (suc m) zero h = absurd (omega (arith, h))

@@ -1,17 +1,17 @@
 -- A page grows item by item.
-use Rattle.std.proofs.Common.{◌≡◌, ℕ, ◌+◌, ◌<◌, Bool, true, false, List, [], ◌∷◌, ◌++◌, ◌∙◌, append_assoc, ap, arith, codes, length, take, get_or, refl, subst, sym}
+use Rattle.std.proofs.Common.{◌≡◌, ℕ, ◌+◌, ◌<◌, Bool, true, false, List, [], ◌∷◌, ◌++◌, ◌∙◌, append_assoc, ap, arith, length, take, get_or, refl, subst, sym}
 use Rattle.std.proofs.lemmas.List.{append-nil}
 use Rattle.std.proofs.lemmas.Grind.{common_steps}
 use Rattle.std.specs.List.{flat_map}
 use Rattle.sq_meaning.specs.Report.{Bytes}
 use Rattle.sq_session.specs.Session.{Session}
-use Rattle.sq_perform.specs.Steps.{Step, Steps}
+use Rattle.sq_perform.specs.Steps.{Steps}
 use Rattle.sq_perform.specs.declared.action.Action.{Action}
 use Rattle.sq_perform.proofs.Steps.{steps_more}
 use Rattle.sq_show.specs.Json.{comma}
 use Rattle.sq_show.specs.Page.{HasItem, HasItems, IsPage, PageItem, StepsThrough, codes_of, item_codes, joined, other_codes, reported}
-use Rattle.sq_show.specs.Traced.{Told, shown}
-use Rattle.sq_show.proofs.SoFar.{IsPart, part_of}
+use Rattle.sq_show.specs.Traced.{Told}
+use Rattle.sq_show.proofs.SoFar.{part_of}
 
 -- the items of the first actions
 pub record PageSoFar (actions : List Action) (done : ℕ) (start : Session) (old new : Bytes) (now : Session) : Type 0 where

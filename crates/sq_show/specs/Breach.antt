@@ -32,6 +32,11 @@ change_of (Some number) row = Replace number row
 abbrev pub IsPut : List Change → RowPut → List Value → Type 0
 IsPut changes put row = slice_get changes put.place ≡ Some (change_of put.number row)
 
+-- each row that a change before this place puts in is such
+abbrev pub EachPutBefore : List Change → ℕ → (List Value → Type 0) → Type 0
+EachPutBefore changes place IsSuch =
+    (put : RowPut) (row : List Value) → put.place < place → IsPut changes put row → IsSuch row
+
 -- a change takes the row under a number away, or puts another in its place
 abbrev pub touches : ℕ → Change → Bool
 touches number (Insert row) = false
@@ -58,8 +63,7 @@ LacksNone t row = (n : ℕ) → lacks_value t row n ≡ false
 
 -- no row that a change before this place puts in is null where it may not be
 abbrev pub LackNoneBefore : BaseTable → List Change → ℕ → Type 0
-LackNoneBefore t changes place =
-    (put : RowPut) (row : List Value) → put.place < place → IsPut changes put row → LacksNone t row
+LackNoneBefore t changes place = EachPutBefore changes place (LacksNone t)
 
 -- the row that is put in is null in the column, and none is so before: neither this row in an earlier column, nor an earlier row
 pub record IsNullPut (t : BaseTable) (changes : List Change) (put : RowPut) (column : ℕ) : Type 0 where

@@ -3,7 +3,7 @@
 //! - Why a call did not end with 00000: the constraint and the row, the cursor and where it stands, the fault of the statement. A call
 //!   that fails changes no table, and a FETCH that fails stays on the row that it reached. So a cause is found anew, after the call,
 //!   from the session as it is then: calls pay nothing for it. What a cause says is a definition (`specs/Cause.antt`); that it is
-//!   the first of several is promised of NOT NULL alone.
+//!   the first of several is promised of NOT NULL, and of check options and CHECKs that end with a status.
 //! - A trace: to the lines of the report come lines that say what each call was, why it failed, what it changed and where its
 //!   cursor stands. These begin with two blanks and `--`, and the report is what is left without them. And a page that steps through a run.
 //! - A shell: where an item ends that is typed, what a session does with one after the other, and what the session has.

@@ -166,7 +166,7 @@ fn is_true<S: Store>(
 }
 
 /// The status with which a condition ends on a row.
-pub(crate) fn end_on<S: Store>(
+fn end_on<S: Store>(
     setting: &Setting<'_, Catalog, S>,
     condition: &BoundCond,
     row: &Row,

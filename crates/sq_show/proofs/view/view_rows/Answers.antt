@@ -4,7 +4,6 @@ use Rattle.sq_meaning.specs.Status.{Outcome}
 use Rattle.sq_bound.specs.declared.condition.TablePlace.{TablePlace}
 use Rattle.sq_catalog.specs.Catalog.{bases_there, column_kinds}
 use Rattle.sq_expression.specs.Fault.{HasRows}
-use Rattle.sq_query.specs.Table.{AreMeant}
 use Rattle.sq_query.proofs.Finds.{select_finds}
 use Rattle.sq_session.proofs.Reading.{may_read}
 use Rattle.sq_show.proofs.ViewRows.{select_wide, view_meant}

@@ -1,9 +1,6 @@
-use Rattle.std.proofs.Common.{List, [], Ok, Err, subst, sym}
-use Rattle.std.specs.Prelude.{OnOk}
-use Rattle.sq_meaning.specs.Environment.{Row}
+use Rattle.std.proofs.Common.{Ok, Err}
 use Rattle.sq_expression.specs.Fault.{status_of}
 use Rattle.sq_session.specs.Schemas.{schemas_of}
-use Rattle.sq_show.specs.View.{AreAdded}
 use Rattle.sq_show.proofs.ViewShown.{shows_read}
 use Rattle.sq_show.proofs.view.write_found.Goals as goal
 
