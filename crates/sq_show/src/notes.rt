@@ -106,9 +106,7 @@ fn push_cause<S: Store>(
     let values = call.values.as_slice();
     match why(alloc, session, call.procedure, values, reply)? {
         Some(cause) => {
-            let written = write_cause(alloc, session, &cause, notes);
-            drop(cause);
-            written?;
+            write_cause(alloc, session, &cause, notes)?;
             notes.push(b'\n')?;
             Ok(())
         }

@@ -10,14 +10,14 @@ use Rattle.sq_show.proofs.query_cause.first_end.Goals as goal
 pub end_of-requires-clause-well : goal.end_of-requires-clause-well
 end_of-requires-clause-well g c =
     let called = c.args.called.now in
-    lent_holds (IsSelect (column_kinds called.catalog.now) (parameter_kinds called) []) c.args.queries.now c.loop-number.number c.query-item.result c.loop-number-test.true c.query-item.is c.requires.well
+    lent_holds (IsSelect (column_kinds called.catalog.now) (parameter_kinds called) []) c.args.queries.now c.loop-number.number c.index-queries-number.result c.loop-number-test.true c.index-queries-number.is c.requires.well
 
 pub returns-in_default : goal.returns-in_default
 returns-in_default g c =
     let called = c.args.called.now in
     let queries = c.args.queries.now in
-    let query = c.query-item.result in
+    let query = c.index-queries-number.result in
     let term = c.number_among-term.result in
     end_among (schemas_of called.catalog.now) called.procedure.now.user called.values.now (g.S.Store.content_now c.args.inside.now.store.now) term query.now (lent_queries queries) c.end_of.result
-    (among_lent queries c.loop-number.number query term c.number_among-term.ensures.only c.number_among-term.ensures.several c.loop-number-test.true c.query-item.is)
+    (among_lent queries c.loop-number.number query term c.number_among-term.ensures.only c.number_among-term.ensures.several c.loop-number-test.true c.index-queries-number.is)
     c.end_of.ensures
