@@ -166,7 +166,8 @@ fn first_end<S: Store>(
         let term = number_among(queries.len(), number);
         match end_of(called, inside, term, *query) {
             Ok(None) => (),
-            found => return found,
+            Ok(Some(cause)) => return Ok(Some(cause)),
+            Err(error) => return Err(error),
         }
     }
     Ok(None)

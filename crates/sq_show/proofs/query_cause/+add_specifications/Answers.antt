@@ -39,13 +39,13 @@ add_term-returns-in-Bracketed t c =
     subst (λ (qs : List BoundSpecification). OnOk c.add_specifications.result (now ≡ old ++ qs)) (sym same) c.add_specifications.ensures
 
 pub add_specifications-add_term-requires : goal.add_specifications-add_term-requires
-add_specifications-add_term-requires t c κs within = (omega (arith, first_smaller c.args.query.now, c.decreases), search rules)
+add_specifications-add_term-requires t c = (omega (arith, first_smaller c.args.query.now, c.decreases), search rules)
 
 pub add_specifications-add_term-requires-in-loop-union : goal.add_specifications-add_term-requires-in-loop-union
-add_specifications-add_term-requires-in-loop-union t c κs within =
+add_specifications-add_term-requires-in-loop-union t c =
     let unions = c.as_slice-union-items.result.now in
     (omega (arith, union_smaller c.args.query.now unions c.loop-union.union-index c.union-item.result c.as_slice-union-items.ensures c.loop-union-test.true c.union-item.is, c.decreases), search rules)
 
 pub add_term-add_specifications-requires : goal.add_term-add_specifications-requires
-add_term-add_specifications-requires t c κs within =
+add_term-add_specifications-requires t c =
     (omega (arith, bracketed_smaller c.args.term.now _ c.get.result.now c.in-Bracketed.is c.get.ensures, c.decreases), search rules)
