@@ -3,32 +3,20 @@ use Rattle.std.proofs.Common.{◌≡◌, ◌∙◌, ℕ, zero, suc, ◌+◌, ◌
 use Rattle.std.specs.Borrow.{Bor}
 use Rattle.std.specs.Prelude.{flat_map}
 use Rattle.std.specs.List.{AllByRecursion}
-use Rattle.std.specs.Option.{option_map}
 use Rattle.std.specs.declared.alloc.AllocError.{AllocError}
 use Rattle.std.proofs.lemmas.List.{drop_more}
 use Rattle.std.proofs.Math.ListN.{drop_of_length-le}
 use Rattle.sq_lex.specs.declared.name.Name.{Name}
-use Rattle.sq_value.specs.declared.domain.Kind.{Kind}
 use Rattle.sq_value.specs.declared.value.Value.{Value}
 use Rattle.sq_store.specs.Content.{Content}
-use Rattle.sq_meaning.specs.Status.{well_formed}
-use Rattle.sq_meaning.specs.WellFormed.{Has}
 use Rattle.sq_bound.specs.Joined.{specifications_of, term_specifications, union_specifications}
-use Rattle.sq_bound.specs.WellFormed.{IsCursor, IsCursorBody, IsQuery, TableKinds, kinds_of_results}
 use Rattle.sq_bound.specs.declared.condition.BoundSpecification.{BoundSpecification}
 use Rattle.sq_bound.specs.declared.query.BoundQuery.{BoundQuery, out-BoundQuery}
 use Rattle.sq_bound.specs.declared.query.BoundUnion.{BoundUnion}
-use Rattle.sq_bound.specs.declared.query.CursorBody.{CursorBody}
-use Rattle.sq_bound.specs.declared.query.CursorBody.TheVariants as body
-use Rattle.sq_bound.specs.declared.query.SortColumn.{SortColumn}
-use Rattle.sq_bound.specs.declared.statement.BoundStatement.TheVariants as statement
 use Rattle.sq_bound.proofs.JoinedLaws.{specifications_of-out, union_specifications-out}
 use Rattle.sq_ending.specs.declared.inside.InnerEnd.{InnerEnd}
-use Rattle.sq_module.specs.Program.{OpensWellFormed}
-use Rattle.sq_module.specs.declared.program.DeclaredCursor.{DeclaredCursor}
-use Rattle.sq_session.specs.Kind.{body_at}
 use Rattle.sq_session.specs.Schemas.{Schemas}
-use Rattle.sq_show.specs.QueryCause.{AreItems, EndsAt, HasEnd, IsAmong, IsEndAmong, IsEndOf, lent_queries, queries_of_body}
+use Rattle.sq_show.specs.QueryCause.{AreItems, EndsAt, HasEnd, IsAmong, IsEndAmong, IsEndOf, lent_queries}
 use Rattle.sq_show.specs.declared.cause.QueryCause.{QueryCause}
 
 abbrev Queries : Type 0

@@ -1,5 +1,5 @@
--- Where a query of SELECT INTO, of INSERT or of a cursor that is not updatable ends with a status (ISO/IEC 9075:1992, 7.4, 7.6, 7.9, 13.2, 13.5
--- and 13.8).
+-- Where a query of SELECT INTO, of INSERT or of a cursor that is not updatable ends with a status (ISO/IEC 9075:1992, 7.4, 7.6, 7.9, 13.2,
+-- 13.5 and 13.8).
 use Rattle.std.specs.Prelude.{◌≡◌, ℕ, List, [], ◌∷◌, map, slice_get, Option, Some, None}
 use Rattle.std.specs.Borrow.{Bor}
 use Rattle.sq_lex.specs.declared.name.Name.{Name}
@@ -21,7 +21,7 @@ use Rattle.sq_session.specs.Schemas.{Schemas}
 use Rattle.sq_show.specs.Broken.{user_of}
 use Rattle.sq_show.specs.declared.cause.QueryCause.{QueryCause}
 
--- ---- the query specifications of a statement's query, in the order of the text
+-- ---- the query specifications of a statement's query, in the order of the text: of UNION there are several
 
 abbrev pub queries_of_body : Option CursorBody → List BoundSpecification
 queries_of_body None = []
@@ -38,33 +38,36 @@ queries_of (Kind.selects s) = s.query ∷ []
 queries_of (Kind.inserts caller i) = queries_of_source i.source
 queries_of _ = []
 
--- the only one, or the one with this number, from 0 on
+-- the only one of these, or the one with this number, from 0 on
 abbrev pub IsAmong : List BoundSpecification → Option ℕ → BoundSpecification → Type 0
 IsAmong queries None q = queries ≡ q ∷ []
 IsAmong queries (Some number) q = slice_get queries number ≡ Some q
 
 -- ---- one of them
 
--- over the tables that the stored rows and the views' queries make for the user, the query specification ends there
+-- Over the tables that the stored rows and the views' queries make for the user, the query specification ends there.
 abbrev pub EndsAt : Schemas → Name → List Value → Content → BoundSpecification → InnerEnd → Type 0
 EndsAt s user values tables q e =
     (shown : Shown) → AreMeant s.views tables user shown
     → IsInnerEnd s.views (record { tables = shown; values = values; user = user }) q e.views.items e.end
 
--- these are the items of FROM of the last of the views' queries, from outside in, or of the query specification itself
-abbrev pub AreItems : List BoundSpecification → BoundSpecification → List ℕ → List TablePlace → Type 0
+-- These are the items of FROM of the last of the views' queries, from outside in, or of the query specification itself.
+abbrev pub AreItems : List BoundSpecification → BoundSpecification → List ℕ → List TablePlace
+    → Type 0
 AreItems queries q [] tables = tables ≡ (out-BoundSpecification q).from.tables
 AreItems queries q (place ∷ places) tables =
-    (inner : BoundSpecification) × (slice_get queries place ≡ Some inner) × AreItems queries inner places tables
+    (inner : BoundSpecification) × (slice_get queries place ≡ Some inner)
+    × AreItems queries inner places tables
 
-pub record IsEndOf (s : Schemas) (user : Name) (values : List Value) (tables : Content) (q : BoundSpecification)
-    (c : QueryCause) : Type 0 where
+-- the query specification ends there, in a query with these items of FROM
+pub record IsEndOf (s : Schemas) (user : Name) (values : List Value) (tables : Content)
+    (q : BoundSpecification) (c : QueryCause) : Type 0 where
   pub ends : EndsAt s user values tables q c.end
   pub items : AreItems s.views q c.end.views.items c.tables.items
 
 -- ---- of a statement
 
--- a query specification of a query with these
+-- one of these query specifications does
 pub record IsEndAmong (s : Schemas) (user : Name) (values : List Value) (tables : Content)
     (queries : List BoundSpecification) (c : QueryCause) : Type 0 where
   pub query : BoundSpecification
@@ -77,7 +80,8 @@ IsQueryCause s k values tables c = IsEndAmong s (user_of k) values tables (queri
 -- ---- while it is looked for
 
 -- the query specification has this number and ends there
-abbrev pub HasEnd : Schemas → Name → List Value → Content → Option ℕ → BoundSpecification → QueryCause → Type 0
+abbrev pub HasEnd : Schemas → Name → List Value → Content → Option ℕ → BoundSpecification → QueryCause
+    → Type 0
 HasEnd s user values tables term q c = (c.term ≡ term) × IsEndOf s user values tables q c
 
 -- the query specifications that are lent

@@ -194,9 +194,16 @@ fn end_of<S: Store>(
         (state_of (S.content_now inside.now.store.now) (S.committed inside.now.store.now)
         (S.key_columns inside.now.store.now) (S.row_numbers inside.now.store.now) inside.now.cursors.now) }
     ensures { IfOk result (λ found. IfSome found (HasEnd (schemas_of called.now.catalog.now)
-        called.now.procedure.now.user called.now.values.now (S.content_now inside.now.store.now) term query.now)) }
+        called.now.procedure.now.user called.now.values.now (S.content_now inside.now.store.now)
+        term query.now)) }
 {
-    match inner_end(called.alloc, called.catalog, query, inside.store, called.inputs()) {
+    match inner_end(
+        called.alloc,
+        called.catalog,
+        query,
+        inside.store,
+        called.inputs(),
+    ) {
         Ok(Some(end)) => with_items(called, term, query, end),
         Ok(None) => Ok(None),
         Err(error) => Err(error),
@@ -212,8 +219,8 @@ fn with_items(
 ) -> Result<Option<QueryCause>, AllocError>
     ensures term { IfOk result (λ found. IfSome found (λ cause. cause.term ≡ term)) }
     ensures end { IfOk result (λ found. IfSome found (λ cause. cause.end ≡ end)) }
-    ensures items { IfOk result (λ found. IfSome found (λ cause. AreItems called.now.catalog.now.views query.now
-        end.views.items cause.tables.items)) }
+    ensures items { IfOk result (λ found. IfSome found (λ cause. AreItems called.now.catalog.now.views
+        query.now end.views.items cause.tables.items)) }
 {
     let mut tables = Vec::new(called.alloc);
     match add_items(called.catalog, query, end.views.as_slice(), &mut tables) {
@@ -231,7 +238,8 @@ fn with_items(
     }
 }
 
-/// Adds the items of FROM of the last of the views' queries, from outside in, or of the query itself; `false` where a view is not there.
+/// Adds the items of FROM of the last of the views' queries, from outside in, or of the query itself; `false` if a view is not
+/// there.
 fn add_items(
     catalog: &Catalog,
     query: &BoundSpecification,

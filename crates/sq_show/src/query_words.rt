@@ -17,8 +17,7 @@ pub(crate) fn write_query_cause<S: Store>(
     words: &mut Vec<u8>,
 ) -> Result<(), AllocError> {
     if let Some(term) = cause.term {
-        write!(words, "SELECT {} of the query: ", term.saturating_add(1))
-            .map_err(|_| AllocError)?;
+        write!(words, "SELECT {} of the query: ", term.saturating_add(1)).map_err(|_| AllocError)?;
     }
     for view in cause.end.views.as_slice() {
         write_view_query(session, TablePlace::View(*view), words)?;

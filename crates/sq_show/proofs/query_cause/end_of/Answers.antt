@@ -1,4 +1,4 @@
-use Rattle.std.proofs.Common.{List, Option, Some, subst, sym}
+use Rattle.std.proofs.Common.{List, Option, subst, sym}
 use Rattle.sq_value.specs.declared.value.Value.{Value}
 use Rattle.sq_bound.specs.WellFormed.{kinds_of_parameters}
 use Rattle.sq_catalog.specs.Catalog.{bases_there, column_kinds}
