@@ -13,7 +13,7 @@ from pathlib import Path
 
 ROOT = Path(__file__).resolve().parent.parent
 CASES = ROOT / "crates/sq_cases"
-LIBRARIES = "sq_calling sq_run sq_session sq_catalog sq_binder sq_parse sq_spell sq_tree sq_heap sq_store sq_value sq_lex sq_items"
+LIBRARIES = "sq_calling sq_run sq_session sq_catalog sq_binder sq_parse sq_spell sq_ending sq_query sq_bound sq_tree sq_heap sq_store sq_value sq_lex sq_items"
 # Seconds that the program may take. Its first step is tried by an interpreter, which would take long for all.
 SECONDS, STEPS = "900", "1"
 

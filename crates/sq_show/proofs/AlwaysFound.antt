@@ -33,6 +33,7 @@ only_cursor s k vs state (cause.NoRow c) always h = absurd always
 only_cursor s k vs state (cause.NoNumber table) always h = absurd always
 only_cursor s k vs state (cause.Clause c) always h = absurd always
 only_cursor s k vs state (cause.RowEnd r) always h = absurd always
+only_cursor s k vs state (cause.Query q) always h = absurd always
 only_cursor s k vs state (cause.General st) always h = absurd always
 
 -- with another status there is none
@@ -59,6 +60,7 @@ cursor_of_statement s k vs state st found all = one
     one (cause.NoNumber table) always e h = absurd always
     one (cause.Clause c) always e h = absurd always
     one (cause.RowEnd r) always e h = absurd always
+    one (cause.Query q) always e h = absurd always
     one (cause.General general) always e h = absurd always
 
 pub cursor_told : (s : Schemas) (k : Kind) (vs : List Value) (state : State) (found : Option CursorCause) → IfSome found (IsCursorCause k state.cursors state.tables) → IfSome (option_map (λ c. cause.Cursor c) found) (IsStatementCause s k vs state)
@@ -100,6 +102,7 @@ found_of_statement s n vs ws k st found at all = one
     one (cause.NoNumber table) always e h = absurd always
     one (cause.Clause c) always e h = absurd always
     one (cause.RowEnd r) always e h = absurd always
+    one (cause.Query q) always e h = absurd always
     one (cause.General general) always e h = absurd always
 
 pub any_found : (s : Session) (n : ℕ) (vs ws : List Value) (k : Kind) (st : Status) (r : Result (Option Cause) AllocError) → kind_at s.procedures n ≡ Some k → IfOk r (IsFoundOf s.schemas k ws s.state st) → IfOk r (IsFound s n vs st)
@@ -121,6 +124,7 @@ found_of_fault s n vs f st at = one
     one (cause.NoNumber table) always e h = absurd always
     one (cause.Clause c) always e h = absurd always
     one (cause.RowEnd r) always e h = absurd always
+    one (cause.Query q) always e h = absurd always
     one (cause.General general) always e h = absurd always
 
 -- what is left to the general cause
@@ -137,3 +141,4 @@ left_of s n vs st found (cause.NoRow c) e specific all = tt
 left_of s n vs st found (cause.NoNumber table) e specific all = tt
 left_of s n vs st found (cause.Clause c) e specific all = tt
 left_of s n vs st found (cause.RowEnd r) e specific all = tt
+left_of s n vs st found (cause.Query q) e specific all = tt

@@ -1,9 +1,10 @@
 -- Causes of a statement are causes of the call.
-use Rattle.std.proofs.Common.{◌≡◌, ◌⊎◌, inl, inr, ℕ, List, Option, Some, None, Result, Ok, Err, IfOk, IfSome, refl, sym, subst}
+use Rattle.std.proofs.Common.{◌≡◌, ◌⊎◌, inl, inr, ℕ, zero, suc, List, [], Option, Some, None, Result, Ok, Err, IfOk, IfSome, refl, sym, subst}
 use Rattle.std.specs.declared.alloc.AllocError.{AllocError}
 use Rattle.sq_lex.specs.declared.name.Name.{Name}
 use Rattle.sq_value.specs.declared.value.Value.{Value}
 use Rattle.sq_meaning.specs.declared.status.Status.{Status}
+use Rattle.sq_bound.specs.declared.condition.BoundSpecification.{BoundSpecification}
 use Rattle.sq_bound.specs.declared.names.ParameterDesc.{ParameterDesc}
 use Rattle.sq_bound.specs.declared.statement.BoundStatement.{BoundStatement}
 use Rattle.sq_bound.specs.declared.statement.BoundStatement.TheVariants as statement
@@ -16,10 +17,17 @@ use Rattle.sq_session.specs.Schemas.{Schemas}
 use Rattle.sq_session.specs.Session.{Session}
 use Rattle.sq_session.specs.State.{State}
 use Rattle.sq_show.specs.Cause.{IsCause, IsStatementCause}
+use Rattle.sq_show.specs.QueryCause.{IsAmong}
 use Rattle.sq_show.specs.declared.cause.Cause.{Cause}
 use Rattle.sq_show.specs.declared.cause.Cause.TheVariants as cause
 
 -- ---- the values that a statement reads
+
+-- they have no query
+none_among : (term : Option ℕ) (q : BoundSpecification) → IsAmong [] term q → ⊥
+none_among None q h = cc
+none_among (Some zero) q h = cc
+none_among (Some (suc n)) q h = cc
 
 -- CLOSE, COMMIT and ROLLBACK read no value: their causes are whatever the values are
 close_cause : (s : Schemas) (n : ℕ) (vs ws : List Value) (state : State) (c : Cause) → IsStatementCause s (Kind.closes n) vs state c → IsStatementCause s (Kind.closes n) ws state c
@@ -34,6 +42,7 @@ close_cause s n vs ws state (cause.NoRow c) h = absurd h
 close_cause s n vs ws state (cause.NoNumber table) h = absurd h
 close_cause s n vs ws state (cause.Clause c) h = absurd h
 close_cause s n vs ws state (cause.RowEnd r) h = let there = h.leaf_is in cc
+close_cause s n vs ws state (cause.Query q) h = absurd (none_among q.term h.query h.among)
 close_cause s n vs ws state (cause.General st) h = tt
 
 commit_cause : (s : Schemas) (vs ws : List Value) (state : State) (c : Cause) → IsStatementCause s (Kind.commits) vs state c → IsStatementCause s (Kind.commits) ws state c
@@ -48,6 +57,7 @@ commit_cause s vs ws state (cause.NoRow c) h = absurd h
 commit_cause s vs ws state (cause.NoNumber table) h = absurd h
 commit_cause s vs ws state (cause.Clause c) h = absurd h
 commit_cause s vs ws state (cause.RowEnd r) h = let there = h.leaf_is in cc
+commit_cause s vs ws state (cause.Query q) h = absurd (none_among q.term h.query h.among)
 commit_cause s vs ws state (cause.General st) h = tt
 
 rollback_cause : (s : Schemas) (vs ws : List Value) (state : State) (c : Cause) → IsStatementCause s (Kind.rolls_back) vs state c → IsStatementCause s (Kind.rolls_back) ws state c
@@ -62,6 +72,7 @@ rollback_cause s vs ws state (cause.NoRow c) h = absurd h
 rollback_cause s vs ws state (cause.NoNumber table) h = absurd h
 rollback_cause s vs ws state (cause.Clause c) h = absurd h
 rollback_cause s vs ws state (cause.RowEnd r) h = let there = h.leaf_is in cc
+rollback_cause s vs ws state (cause.Query q) h = absurd (none_among q.term h.query h.among)
 rollback_cause s vs ws state (cause.General st) h = tt
 
 of_update : (u : Updating) (t : ChangeTarget) → read_parameters (update_kind u t) ≡ u.caller.parameters
@@ -109,6 +120,7 @@ one_of_call s n vs k (cause.NoRow c) at h = record { kind = k; at = at; cause = 
 one_of_call s n vs k (cause.NoNumber table) at h = record { kind = k; at = at; cause = h }
 one_of_call s n vs k (cause.Clause c) at h = record { kind = k; at = at; cause = h }
 one_of_call s n vs k (cause.RowEnd r) at h = record { kind = k; at = at; cause = h }
+one_of_call s n vs k (cause.Query q) at h = record { kind = k; at = at; cause = h }
 one_of_call s n vs k (cause.General st) at h = tt
 
 pub of_call : (s : Session) (n : ℕ) (vs : List Value) (k : Kind) (r : Result (Option Cause) AllocError) → kind_at s.procedures n ≡ Some k

@@ -11,6 +11,7 @@ pub mod Noted
 pub mod Noting
 pub mod NullsBefore
 pub mod OfChange
+pub mod OfQueries
 pub mod OfTargets
 pub mod Paging
 pub mod SoFar

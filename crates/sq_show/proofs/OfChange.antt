@@ -100,6 +100,7 @@ one_cause s k values state (cause.NoRow c) h = absurd h.broken
 one_cause s k values state (cause.NoNumber table) h = absurd h.broken
 one_cause s k values state (cause.Clause c) h = absurd h.broken
 one_cause s k values state (cause.RowEnd r) h = h
+one_cause s k values state (cause.Query q) h = absurd h.broken
 one_cause s k values state (cause.General st) h = tt
 
 pub statement_cause : (s : Schemas) (k : Kind) (values : List Value) (state : State) (r : Result (Option Cause) AllocError) → IfOk r (λ found. IfSome found (ChangeCause s k values state)) → IfOk r (λ found. IfSome found (IsStatementCause s k values state))

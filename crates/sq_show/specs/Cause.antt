@@ -19,6 +19,7 @@ use Rattle.sq_show.specs.Cursor.{IsCursorCause}
 use Rattle.sq_show.specs.Made.{IsMade, leaf_of}
 use Rattle.sq_show.specs.NoRow.{IsNoNumberCause, IsNoRowCause}
 use Rattle.sq_show.specs.Option.{IsOptionBreach}
+use Rattle.sq_show.specs.QueryCause.{IsQueryCause}
 use Rattle.sq_show.specs.RowEnd.{IsRowEnd}
 use Rattle.sq_show.specs.Select.{IsSelectCause, status_of_select}
 use Rattle.sq_show.specs.Target.{IsTargetCause, status_of_target}
@@ -40,6 +41,7 @@ status_of (cause.NoRow c) = status.NoData
 status_of (cause.NoNumber table) = status.NoRowNumberLeft
 status_of (cause.Clause c) = c.status
 status_of (cause.RowEnd e) = e.status
+status_of (cause.Query q) = q.end.end.end.status
 status_of (cause.General st) = st
 
 -- ---- of changes that are made in the base table of a leaf; these are the columns of the keys of all tables
@@ -75,6 +77,7 @@ IsStatementCause s k values state (cause.NoRow c) = IsNoRowCause s k values stat
 IsStatementCause s k values state (cause.NoNumber table) = IsNoNumberCause s k values state table
 IsStatementCause s k values state (cause.Clause c) = IsClauseCause s k values state c
 IsStatementCause s k values state (cause.RowEnd e) = ChangeCause s k values state (cause.RowEnd e)
+IsStatementCause s k values state (cause.Query q) = IsQueryCause s k values state.tables q
 IsStatementCause s k values state (cause.General st) = ⊤
 
 -- the procedure has a statement without a fault, of which this is a cause
@@ -98,4 +101,5 @@ IsCause s procedure values (cause.NoRow c) = HasCause s procedure values (cause.
 IsCause s procedure values (cause.NoNumber table) = HasCause s procedure values (cause.NoNumber table)
 IsCause s procedure values (cause.Clause c) = HasCause s procedure values (cause.Clause c)
 IsCause s procedure values (cause.RowEnd e) = HasCause s procedure values (cause.RowEnd e)
+IsCause s procedure values (cause.Query q) = HasCause s procedure values (cause.Query q)
 IsCause s procedure values (cause.General st) = ⊤

@@ -17,6 +17,7 @@ pub mod Option
 pub mod Page
 pub mod Place
 pub mod Query
+pub mod QueryCause
 pub mod QueryValue
 pub mod RowEnd
 pub mod Select

@@ -6,12 +6,14 @@ ghost use Rattle.sq_show.specs.Select.{status_of_select};
 ghost use Rattle.sq_show.specs.Target.{status_of_target};
 ghost use Rattle.sq_show.specs.ValueFault.{status_of_value};
 
+use sq_bound::TablePlace;
+use sq_ending::InnerEnd;
 use sq_lex::Name;
 use sq_meaning::Status;
 use sq_session::Fault;
 
 /// The cause why a call did not end with 00000. It names tables, columns, keys and cursors by their places.
-#[derive(Clone, Copy)]
+#[derive(Drop)]
 pub enum Cause {
     /// The statement has this fault, and each call of it ends with 42000.
     Fault(Fault),
@@ -35,6 +37,8 @@ pub enum Cause {
     Clause(ClauseCause),
     /// A check option or a CHECK ends with a status on a row that the statement would put in.
     RowEnd(RowEnd),
+    /// A query of the statement ends with a status.
+    Query(QueryCause),
     /// The status alone.
     General(Status),
 }
@@ -250,6 +254,17 @@ pub enum Demand {
     Check(usize),
 }
 
+/// Where a query of SELECT INTO, of INSERT or of a cursor that is not updatable ends with a status.
+#[derive(Drop)]
+pub struct QueryCause {
+    /// The number of the query specification, from 0 on, if UNION joins more than one.
+    pub term: Option<usize>,
+    /// The views whose queries are gone into, the clause, and the line.
+    pub end: InnerEnd,
+    /// The items of FROM of the query that ends in that clause.
+    pub tables: Vec<TablePlace>,
+}
+
 impl Cause {
     /// The status with which the call ended.
     pub fn status(&self) -> Status
@@ -267,6 +282,7 @@ impl Cause {
             Cause::NoNumber(_) => Status::NoRowNumberLeft,
             Cause::Clause(clause) => clause.status,
             Cause::RowEnd(end) => end.status,
+            Cause::Query(query) => query.end.end.end.status,
             Cause::General(status) => *status,
         }
     }

@@ -32,7 +32,11 @@ impl LastCall {
     {
         let values = self.values.as_slice();
         match why(alloc, session, self.procedure, values, &self.reply)? {
-            Some(cause) => write_cause(alloc, session, &cause, line),
+            Some(cause) => {
+                let written = write_cause(alloc, session, &cause, line);
+                drop(cause);
+                written
+            }
             None => Ok(()),
         }
     }

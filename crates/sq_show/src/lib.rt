@@ -35,8 +35,10 @@ mod option_words;
 mod page;
 mod place;
 mod put;
+mod query_cause;
 mod query_rows;
 mod query_value;
+mod query_words;
 mod reference_breach;
 mod row_breach;
 mod row_end;
@@ -57,7 +59,7 @@ mod words;
 
 pub use cause::{
     Breach, Cause, Clause, ClauseCause, CursorCause, Demand, Given, ItemFault, NoRowCause,
-    OptionBreach, Referring, RowEnd, RowPut, ValueCause, ValueFault,
+    OptionBreach, QueryCause, Referring, RowEnd, RowPut, ValueCause, ValueFault,
 };
 pub use item::item_size;
 pub use last::LastCall;

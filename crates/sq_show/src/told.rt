@@ -20,6 +20,7 @@ use crate::cause::{Cause, CursorCause};
 use crate::clause::clause_cause;
 use crate::cursor::cursor_cause;
 use crate::no_row::{no_number_cause, no_row_cause};
+use crate::query_cause::query_cause;
 use crate::select::select_cause;
 use crate::target::target_cause;
 use crate::value::value_cause;
@@ -71,6 +72,7 @@ fn with_status(found: Option<Cause>, status: Status) -> Cause
             if cause.status() == status {
                 cause
             } else {
+                drop(cause);
                 Cause::General(status)
             }
         }
@@ -280,6 +282,49 @@ fn value_or_target<S: Store>(
     }
     match select_cause(called, inside, statement)? {
         Some(cause) => Ok(Some(Cause::Select(cause))),
-        None => breach_of(called, inside, statement, status),
+        None => row_or_query(called, inside, statement, status),
+    }
+}
+
+/// A condition that ends with the status on a row that the statement would put in, or a query of the statement that ends.
+fn row_or_query<S: Store>(
+    called: &Called<'_>,
+    inside: &Inside<'_, S>,
+    statement: &BoundStatement,
+    status: Status,
+) -> Result<Option<Cause>, AllocError>
+    requires may { MayPerform called.now statement.now }
+    requires whole { IsWholeFor called.now
+        (state_of (S.content_now inside.now.store.now) (S.committed inside.now.store.now)
+        (S.key_columns inside.now.store.now) (S.row_numbers inside.now.store.now) inside.now.cursors.now) }
+    ensures { IfOk result (λ found. IfSome found (IsStatementCause (schemas_of called.now.catalog.now)
+        (kind_for called.now statement.now) called.now.values.now
+        (state_of (S.content_now inside.now.store.now) (S.committed inside.now.store.now)
+        (S.key_columns inside.now.store.now) (S.row_numbers inside.now.store.now) inside.now.cursors.now))) }
+{
+    match breach_of(called, inside, statement, status)? {
+        Some(cause) => Ok(Some(cause)),
+        None => of_query(called, inside, statement),
+    }
+}
+
+/// A query of the statement that ends with a status.
+fn of_query<S: Store>(
+    called: &Called<'_>,
+    inside: &Inside<'_, S>,
+    statement: &BoundStatement,
+) -> Result<Option<Cause>, AllocError>
+    requires may { MayPerform called.now statement.now }
+    requires whole { IsWholeFor called.now
+        (state_of (S.content_now inside.now.store.now) (S.committed inside.now.store.now)
+        (S.key_columns inside.now.store.now) (S.row_numbers inside.now.store.now) inside.now.cursors.now) }
+    ensures { IfOk result (λ found. IfSome found (IsStatementCause (schemas_of called.now.catalog.now)
+        (kind_for called.now statement.now) called.now.values.now
+        (state_of (S.content_now inside.now.store.now) (S.committed inside.now.store.now)
+        (S.key_columns inside.now.store.now) (S.row_numbers inside.now.store.now) inside.now.cursors.now))) }
+{
+    match query_cause(called, inside, statement)? {
+        Some(cause) => Ok(Some(Cause::Query(cause))),
+        None => Ok(None),
     }
 }

@@ -10,6 +10,7 @@ use crate::clause_words::{
     write_clause, write_no_number, write_no_row, write_row_end, write_value_cause,
 };
 use crate::option_words::write_option;
+use crate::query_words::write_query_cause;
 use sq_lex::Name;
 use sq_meaning::Status;
 use sq_session::{Fault, Session};
@@ -81,6 +82,7 @@ fn write_words<S: Store>(
         Cause::NoNumber(table) => write_no_number(session, *table, words),
         Cause::Clause(cause) => write_clause(session, *cause, words),
         Cause::RowEnd(end) => write_row_end(session, *end, words),
+        Cause::Query(cause) => write_query_cause(session, cause, words),
         Cause::General(status) => words.extend_from_slice(meaning(*status)),
     }
 }

@@ -1,0 +1,13 @@
+pub mod FirstEnds
+pub mod Gathered
+pub mod InnerEnds
+pub mod ItemsRead
+pub mod ListEnds
+pub mod NumberAt
+pub mod Phases
+pub mod QueryEnds
+pub mod Readings
+pub mod SameEnds
+pub mod TablesRead
+pub mod ViewRows
+pub mod Whole

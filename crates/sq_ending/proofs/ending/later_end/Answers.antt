@@ -1,0 +1,13 @@
+use Rattle.sq_ending.specs.Walk.{tables_in}
+use Rattle.sq_ending.proofs.Phases.{ends_in_list_if}
+use Rattle.sq_ending.proofs.ending.later_end.Goals as goal
+
+pub returns-in-Some : goal.returns-in-Some
+returns-in-Some c = λ meant knows memo.
+    let met = c.groups_end.ensures meant knows memo in
+    (met.0, met.1 c.in-Some.is)
+
+pub returns-in-None : goal.returns-in-None
+returns-in-None c = λ meant knows memo.
+    let met = c.list_end.ensures meant knows memo in
+    (met.0, λ right are fine. ends_in_list_if c.args.context.now c.args.query.now (tables_in c.args.items.now) are fine c.list_end.result c.in-None.is met.1)

@@ -1,0 +1,9 @@
+use Rattle.sq_ending.specs.Ending.{seen_in}
+use Rattle.sq_ending.specs.Walk.{tables_in}
+use Rattle.sq_ending.proofs.Phases.{list_phase_of}
+use Rattle.sq_ending.proofs.ending.list_end.Goals as goal
+
+pub returns : goal.returns
+returns c = λ meant knows memo.
+    let met = c.end_behind.ensures meant knows memo in
+    (met.0, list_phase_of (seen_in c.args.context.now) c.args.query.now (tables_in c.args.items.now) c.as_slice.result.now c.as_slice.ensures c.end_behind.result met.1)

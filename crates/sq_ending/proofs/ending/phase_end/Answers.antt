@@ -1,0 +1,31 @@
+use Rattle.std.proofs.Common.{subst}
+use Rattle.sq_ending.specs.Ending.{InWhere, IsPhaseEnd, is_wanted, seen_in}
+use Rattle.sq_ending.specs.Walk.{tables_in}
+use Rattle.sq_ending.proofs.Phases.{ends_in_where}
+use Rattle.sq_ending.proofs.Whole.{where_right}
+use Rattle.sq_ending.proofs.ending.phase_end.Goals as goal
+
+pub returns-in-Some : goal.returns-in-Some
+returns-in-Some c = λ meant knows memo.
+    let context = c.args.context.now in
+    let query = c.args.query.now in
+    let items = tables_in c.args.items.now in
+    let met = c.in_ok-end.ensures meant knows memo in (
+      met.0,
+      λ right are.
+          ends_in_where context query items are c.in-Some.end
+          (subst (IsPhaseEnd (is_wanted (seen_in context) query) (InWhere (seen_in context) query) items) c.in-Some.is (met.1 (where_right context query items are right))),
+    )
+
+pub returns-in-None : goal.returns-in-None
+returns-in-None c = λ meant knows memo.
+    let context = c.args.context.now in
+    let query = c.args.query.now in
+    let items = tables_in c.args.items.now in
+    let first = c.in_ok-end.ensures meant knows memo in
+    let second = c.later_end.ensures meant knows first.0 in (
+      second.0,
+      λ right are.
+          second.1 right are
+          (subst (IsPhaseEnd (is_wanted (seen_in context) query) (InWhere (seen_in context) query) items) c.in-None.is (first.1 (where_right context query items are right))),
+    )

@@ -1,0 +1,4 @@
+pub mod Ending
+pub mod Inside
+pub mod Read
+pub mod Walk

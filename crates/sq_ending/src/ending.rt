@@ -1,0 +1,323 @@
+//! Where a query specification ends with a status: in which clause, and on which line.
+
+ghost use Rattle.std.specs.Prelude.{◌≡◌, [], IfOk, IfSome, IsSomeAnd, None, Some, true};
+ghost use Rattle.sq_meaning.specs.Rows.{product};
+ghost use Rattle.sq_bound.specs.Fits.{keys_of_bases, not_nulls_hold};
+ghost use Rattle.sq_bound.specs.declared.condition.BoundSpecification.{out-BoundSpecification};
+ghost use Rattle.sq_condition.specs.Memo.{Meant};
+ghost use Rattle.sq_condition.specs.Specification.{items_in, rows_meant};
+ghost use Rattle.sq_condition.specs.Subquery.{KnowsQuery, Remembers};
+ghost use Rattle.sq_expression.specs.Fault.{IsRight, status_of};
+ghost use Rattle.sq_expression.specs.Frame.{table_rows};
+ghost use Rattle.sq_query.specs.Needed.{FindsSelect};
+ghost use Rattle.sq_ending.specs.Ending.{Ends, EndsThere, HasItems, HaveRows, IsCallPhase, IsCallsPhase, IsListPhase, IsOperandPhase, IsWherePhase, is_wanted, seen_in};
+ghost use Rattle.sq_ending.specs.Walk.{IsFineOn, tables_in};
+
+use crate::ends::{Clause, ClauseEnd, QueryEnd};
+use crate::needed::tables_needed;
+use crate::read::tables_read;
+use crate::walk::Walk;
+use sq_bound::{BoundExpr, BoundSpecification, Grouping, Names, SetFunctionCall};
+use sq_condition::{Memo, outermost_rows};
+use sq_expression::{Context, Failure, Fault, rows_at};
+use sq_meaning::Status;
+use sq_query::Inputs;
+use sq_store::Store;
+use sq_value::Row;
+use std::alloc::{AllocError, Global};
+use std::slice::from_ref;
+
+/// Where a query specification inside no other query ends, as far as FROM, WHERE, the operands of set
+/// functions and, without groups, the select list.
+pub fn query_end<N: Names, S: Store>(
+    alloc: Global,
+    names: &N,
+    query: &BoundSpecification,
+    store: &S,
+    inputs: Inputs<'_>,
+) -> Result<Option<QueryEnd>, AllocError>
+    requires finds { FindsSelect (N.base_tables names.now) (N.column_kinds names.now) query.now }
+    requires keys { S.key_columns store.now ≡ keys_of_bases (N.base_tables names.now) }
+    requires not_null { not_nulls_hold (N.base_tables names.now) (S.content_now store.now) ≡ true }
+    ensures { IfOk result (Ends (N.base_tables names.now) (N.view_queries names.now)
+        (N.column_kinds names.now) (S.content_now store.now) inputs.entry.user inputs.entry.parameters.now
+        query.now) }
+{
+    let needed = tables_needed(alloc, query)?;
+    let tables = tables_read(alloc, names, needed.as_slice(), store, inputs.user)?;
+    drop(needed);
+    let context = Context {
+        alloc,
+        user: inputs.user,
+        parameters: &*inputs.parameters,
+        bases: tables.bases.as_slice(),
+        views: tables.views.as_slice(),
+    };
+    let end = end_over(&*query, &context);
+    drop(tables);
+    end
+}
+
+/// Where a query specification ends over the tables of the context.
+fn end_over(
+    query: &BoundSpecification,
+    context: &Context<'_>,
+) -> Result<Option<QueryEnd>, AllocError>
+    ensures { (meant : Meant) → KnowsQuery context.now query.now meant
+        → IsRight (rows_meant query.now None context.now)
+        → IfOk result (EndsThere (seen_in context.now) query.now) }
+{
+    let mut items = Vec::new(context.alloc);
+    let end = end_with(query, context, &mut items);
+    drop(items);
+    end
+}
+
+/// The same, with the rows of the items of FROM added here.
+fn end_with<'m>(
+    query: &BoundSpecification,
+    context: &Context<'m>,
+    items: &mut Vec<Vec<&'m Row>>,
+) -> Result<Option<QueryEnd>, AllocError>
+    ensures { items.old.items ≡ [] → (meant : Meant) → KnowsQuery context.now query.now meant
+        → IsRight (rows_meant query.now None context.now)
+        → IfOk result (EndsThere (seen_in context.now) query.now) }
+{
+    match add_items(query, context, items) {
+        Ok(()) => line_end(query, items.as_slice(), context),
+        Err(Fault::Status(failure)) => { Ok(Some(from_end(context.alloc, items.len(), failure))) }
+        Err(Fault::NoMemory) => Err(AllocError),
+    }
+}
+
+/// Adds the rows of each item of FROM, up to the first that ends with a status.
+fn add_items<'m>(
+    query: &BoundSpecification,
+    context: &Context<'m>,
+    items: &mut Vec<Vec<&'m Row>>,
+) -> Result<(), Fault>
+    ensures { items.old.items ≡ []
+        → HasItems (table_rows context.now) (items_in query.now) (tables_in items.new.items) result }
+{
+    for table in query.from.tables.as_slice() {
+        let rows = rows_at(*table, context)?;
+        items.push(rows)?;
+    }
+    Ok(())
+}
+
+/// An item of FROM ends with a status.
+fn from_end(alloc: Global, item: usize, failure: Failure) -> QueryEnd
+    ensures clause { result.end.clause ≡ Clause.From item }
+    ensures status { result.end.status ≡ status_of failure }
+    ensures line { result.line.items ≡ [] }
+{
+    QueryEnd {
+        end: ClauseEnd {
+            clause: Clause::From(item),
+            status: failure.status(),
+        },
+        line: Vec::new(alloc),
+    }
+}
+
+/// The first line on which WHERE, a set function's operand or the select list ends, where the items of FROM have these rows.
+fn line_end<'m>(
+    query: &BoundSpecification,
+    items: &[Vec<&'m Row>],
+    context: &Context<'m>,
+) -> Result<Option<QueryEnd>, AllocError>
+    ensures { (meant : Meant) → KnowsQuery context.now query.now meant
+        → IsRight (rows_meant query.now None context.now)
+        → HaveRows (seen_in context.now) query.now (tables_in items.now)
+        → IfOk result (EndsThere (seen_in context.now) query.now) }
+{
+    let mut memo = Memo::new(context.alloc);
+    let end = phase_end(query, items, context, &mut memo);
+    drop(memo);
+    end
+}
+
+/// The same, phase by phase.
+fn phase_end<'m>(
+    query: &BoundSpecification,
+    items: &[Vec<&'m Row>],
+    context: &Context<'m>,
+    memo: &mut Memo<'m>,
+) -> Result<Option<QueryEnd>, AllocError>
+    ensures { Remembers context.now (KnowsQuery context.now query.now) memo.old memo.new
+        (IsRight (rows_meant query.now None context.now)
+        → HaveRows (seen_in context.now) query.now (tables_in items.now)
+        → IfOk result (EndsThere (seen_in context.now) query.now)) }
+{
+    match where_end(query, items, context, memo)? {
+        Some(end) => Ok(Some(end)),
+        None => later_end(query, items, context, memo),
+    }
+}
+
+/// The same behind WHERE, which ends on no line.
+fn later_end<'m>(
+    query: &BoundSpecification,
+    items: &[Vec<&'m Row>],
+    context: &Context<'m>,
+    memo: &mut Memo<'m>,
+) -> Result<Option<QueryEnd>, AllocError>
+    ensures { Remembers context.now (KnowsQuery context.now query.now) memo.old memo.new
+        (IsRight (rows_meant query.now None context.now)
+        → HaveRows (seen_in context.now) query.now (tables_in items.now)
+        → IsFineOn (is_wanted (seen_in context.now) query.now) (product (tables_in items.now))
+        → IfOk result (EndsThere (seen_in context.now) query.now)) }
+{
+    match &query.grouping {
+        Some(grouping) => groups_end(query, grouping, items, context, memo),
+        None => list_end(query, items, context, memo),
+    }
+}
+
+/// The first line on which WHERE ends.
+fn where_end<'m>(
+    query: &BoundSpecification,
+    items: &[Vec<&'m Row>],
+    context: &Context<'m>,
+    memo: &mut Memo<'m>,
+) -> Result<Option<QueryEnd>, AllocError>
+    ensures { Remembers context.now (KnowsQuery context.now query.now) memo.old memo.new
+        (IsWherePhase (seen_in context.now) query.now (tables_in items.now) result) }
+{
+    let walk = Walk {
+        query,
+        context,
+        list: &[],
+    };
+    walk.end_behind(&[], items, memo)
+}
+
+/// The first line on which an item of the select list ends.
+fn list_end<'m>(
+    query: &BoundSpecification,
+    items: &[Vec<&'m Row>],
+    context: &Context<'m>,
+    memo: &mut Memo<'m>,
+) -> Result<Option<QueryEnd>, AllocError>
+    ensures { Remembers context.now (KnowsQuery context.now query.now) memo.old memo.new
+        (IsListPhase (seen_in context.now) query.now (tables_in items.now) result) }
+{
+    let walk = Walk {
+        query,
+        context,
+        list: query.list.as_slice(),
+    };
+    walk.end_behind(&[], items, memo)
+}
+
+/// Where the query ends with a status: the first set function whose operand ends with it on a line.
+fn groups_end<'m>(
+    query: &BoundSpecification,
+    grouping: &Grouping,
+    items: &[Vec<&'m Row>],
+    context: &Context<'m>,
+    memo: &mut Memo<'m>,
+) -> Result<Option<QueryEnd>, AllocError>
+    ensures { Remembers context.now (KnowsQuery context.now query.now) memo.old memo.new
+        ((out-BoundSpecification query.now).grouping ≡ Some grouping.now
+        → IsRight (rows_meant query.now None context.now)
+        → HaveRows (seen_in context.now) query.now (tables_in items.now)
+        → IsFineOn (is_wanted (seen_in context.now) query.now) (product (tables_in items.now))
+        → IfOk result (EndsThere (seen_in context.now) query.now)) }
+{
+    let calls = grouping.set_functions.as_slice();
+    match outermost_rows(query, context) {
+        Ok(rows) => {
+            drop(rows);
+            Ok(None)
+        }
+        Err(Fault::Status(failure)) => {
+            calls_end(query, calls, failure.status(), items, context, memo)
+        }
+        Err(Fault::NoMemory) => Err(AllocError),
+    }
+}
+
+/// The first of these set functions whose operand ends with the status on a line.
+fn calls_end<'m>(
+    query: &BoundSpecification,
+    calls: &[SetFunctionCall],
+    status: Status,
+    items: &[Vec<&'m Row>],
+    context: &Context<'m>,
+    memo: &mut Memo<'m>,
+) -> Result<Option<QueryEnd>, AllocError>
+    ensures { Remembers context.now (KnowsQuery context.now query.now) memo.old memo.new
+        (IsCallsPhase (seen_in context.now) query.now calls.now (tables_in items.now) status result) }
+{
+    for (number, call) in calls.iter().enumerate() {
+        if let Some(end) = call_end(query, call, number, status, items, context, memo)? {
+            return Ok(Some(end));
+        }
+    }
+    Ok(None)
+}
+
+/// The first line on which the operand of a set function ends, if that is with the status.
+fn call_end<'m>(
+    query: &BoundSpecification,
+    call: &SetFunctionCall,
+    number: usize,
+    status: Status,
+    items: &[Vec<&'m Row>],
+    context: &Context<'m>,
+    memo: &mut Memo<'m>,
+) -> Result<Option<QueryEnd>, AllocError>
+    ensures { Remembers context.now (KnowsQuery context.now query.now) memo.old memo.new
+        (IsCallPhase (seen_in context.now) query.now call.now (tables_in items.now) number status result) }
+{
+    match call {
+        SetFunctionCall::Over(aggregate) => {
+            let end = operand_end(query, &aggregate.operand, items, context, memo)?;
+            Ok(with_status(number, status, end))
+        }
+        SetFunctionCall::CountRows => Ok(None),
+    }
+}
+
+/// The first line on which an operand ends.
+fn operand_end<'m>(
+    query: &BoundSpecification,
+    operand: &BoundExpr,
+    items: &[Vec<&'m Row>],
+    context: &Context<'m>,
+    memo: &mut Memo<'m>,
+) -> Result<Option<QueryEnd>, AllocError>
+    ensures { Remembers context.now (KnowsQuery context.now query.now) memo.old memo.new
+        (IsOperandPhase (seen_in context.now) query.now operand.now (tables_in items.now) result) }
+{
+    let walk = Walk {
+        query,
+        context,
+        list: from_ref(operand),
+    };
+    walk.end_behind(&[], items, memo)
+}
+
+/// The end of a set function's operand, if that is with the status.
+fn with_status(number: usize, status: Status, end: Option<QueryEnd>) -> Option<QueryEnd>
+    ensures { IfSome result (λ e. (e.end.clause ≡ Clause.SetFunction number) × (e.end.status ≡ status)
+        × IsSomeAnd end (λ own. (own.end.status ≡ status) × (e.line.items ≡ own.line.items))) }
+{
+    match end {
+        Some(QueryEnd { end, line }) => {
+            if end.status == status {
+                let clause = Clause::SetFunction(number);
+                Some(QueryEnd {
+                    end: ClauseEnd { clause, status },
+                    line,
+                })
+            } else {
+                drop(line);
+                None
+            }
+        }
+        None => None,
+    }
+}
