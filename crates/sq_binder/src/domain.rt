@@ -35,7 +35,7 @@ pub fn domain_of(data_type: &DataType) -> Option<Domain>
 }
 
 fn exact(written: &Precision) -> Option<Domain>
-    ensures { result ≡ meaning.exact_domain (meaning.whole written.now.precision)
+    ensures { result ≡ meaning.exact_domain (meaning.spelled_whole written.now.precision)
         (meaning.scale_of written.now.scale) }
 {
     let precision = whole(written.precision)?;
@@ -52,7 +52,7 @@ fn exact(written: &Precision) -> Option<Domain>
 /// The length of a text, from 1 to 240.
 fn length_of(number: Number) -> Option<u16>
     ensures meaning { (texts : ℕ → AnyDomain)
-        → option_map texts result ≡ meaning.text_domain texts (meaning.whole number) }
+        → option_map texts result ≡ meaning.text_domain texts (meaning.spelled_whole number) }
     ensures within { IfSome result (λ length. (1 ≤ length) × (length ≤ 240)) }
 {
     let length = whole(number)?;
@@ -64,7 +64,7 @@ fn length_of(number: Number) -> Option<u16>
 
 /// A whole number that is written without a point.
 fn whole(number: Number) -> Option<u64>
-    ensures { result ≡ meaning.whole number }
+    ensures { result ≡ meaning.spelled_whole number }
 {
     if is_whole(number) {
         Some(number_value(number).unscaled().unsigned_abs())

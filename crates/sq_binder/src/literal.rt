@@ -1,7 +1,7 @@
 //! Literals (ISO/IEC 9075:1992, 5.3).
 
 ghost use Rattle.std.specs.Prelude.{◌≡◌, IfOk, Ok};
-ghost use Rattle.sq_meaning.specs.Spelled.{number_of};
+ghost use Rattle.sq_meaning.specs.Spelled.{spelled_number};
 ghost use Rattle.sq_value.specs.Spelling.{read};
 ghost use Rattle.sq_value.specs.declared.value.Value.TheVariants as value;
 ghost use Rattle.sq_binding.specs.Expression as spec;
@@ -18,7 +18,7 @@ use std::alloc::{AllocError, Global};
 
 #[tactic(auto, using(crate::proofs::Images::images))]
 pub fn number_literal(alloc: Global, number: Number) -> Bound
-    ensures { spec.literal_bound (value.Num (number_of number)) ≡ Ok (bound_of result) }
+    ensures { spec.literal_bound (value.Num (spelled_number number)) ≡ Ok (bound_of result) }
 {
     let value = number_value(number);
     Bound::plain(

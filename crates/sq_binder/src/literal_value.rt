@@ -1,7 +1,7 @@
 //! Literals as values (ISO/IEC 9075:1992, 5.3).
 
 ghost use Rattle.std.specs.Prelude.{◌≡◌, IfOk, Ok, not};
-ghost use Rattle.sq_meaning.specs.Spelled.{has_point, signed_number};
+ghost use Rattle.sq_meaning.specs.Spelled.{has_point, number_with_sign};
 ghost use Rattle.sq_value.specs.Spelling.{read};
 ghost use Rattle.sq_value.specs.declared.value.Value.TheVariants as value;
 
@@ -20,7 +20,7 @@ pub fn number_value(number: Number) -> Decimal
 
 /// The number of a numeric literal with or without a sign.
 pub fn signed_value(signed: SignedNumber) -> Decimal
-    ensures { result ≡ signed_number signed }
+    ensures { result ≡ number_with_sign signed }
 {
     let value = number_value(signed.number);
     match signed.sign {

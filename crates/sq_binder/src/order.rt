@@ -3,7 +3,7 @@
 ghost use Rattle.std.specs.Prelude.{◌≡◌, map};
 ghost use Rattle.std.specs.Result.{result_ok};
 ghost use Rattle.sq_meaning.specs.SortKeys as meaning;
-ghost use Rattle.sq_meaning.specs.Spelled.{listed, listed_if_any, whole};
+ghost use Rattle.sq_meaning.specs.Spelled.{listed, listed_if_any, spelled_whole};
 ghost use Rattle.sq_binding.specs.Order as spec;
 ghost use Rattle.sq_binder.specs.Binds.{Binds};
 ghost use Rattle.sq_binder.specs.Order.{names_seen};
@@ -111,7 +111,7 @@ fn is_named(column: &ResultColumn, wanted: Name) -> bool
 
 /// The column of a position that is written without a point, counted from 1.
 fn column_numbered(columns: &[ResultColumn], number: Number) -> Option<usize>
-    ensures { result ≡ result_ok (meaning.column_numbered (names_seen columns.now) (whole number)) }
+    ensures { result ≡ result_ok (meaning.column_numbered (names_seen columns.now) (spelled_whole number)) }
 {
     let position = whole(number)?;
     if position < 1 || position > columns.len() as u64 {
@@ -123,7 +123,7 @@ fn column_numbered(columns: &[ResultColumn], number: Number) -> Option<usize>
 
 /// A whole number that is written without a point.
 fn whole(number: Number) -> Option<u64>
-    ensures { result ≡ whole number }
+    ensures { result ≡ spelled_whole number }
 {
     if is_whole(number) {
         Some(number_value(number).unscaled().unsigned_abs())

@@ -9,7 +9,7 @@ use Rattle.sq_tree.specs.declared.statement.Orientation.{Orientation}
 use Rattle.sq_tree.specs.declared.statement.Orientation.TheVariants as written
 use Rattle.sq_tree.specs.declared.statement.Position.{Position}
 use Rattle.sq_tree.specs.declared.statement.Position.TheVariants as position
-use Rattle.sq_meaning.specs.Spelled.{has_point, signed_number}
+use Rattle.sq_meaning.specs.Spelled.{has_point, number_with_sign}
 use Rattle.sq_meaning.specs.Binding.{Judged, bad_orientation, breaks, domain_named, has_fault, is_bad_orientation, is_bad_position, is_whole_domain, orientation_names, position_name, unknown_parameter}
 use Rattle.sq_meaning.specs.Site.{Site}
 use Rattle.sq_meaning.specs.Words.{is_some_and}
@@ -94,9 +94,9 @@ module _ (j : Judged) (scrolls : Bool) where
     distance_told : (p : Position) → Told j (site (o p) ∷ []) (after (distance_bound j.known.parameters p))
     distance_told (position.Number n) = pointed (has_point n.number) refl
       where
-        pointed : (b : Bool) → has_point n.number ≡ b → Told j (site (o (position.Number n)) ∷ []) (after (if b then Err fault.BadOrientation else Ok (distance.Number (signed_number n).unscaled)))
+        pointed : (b : Bool) → has_point n.number ≡ b → Told j (site (o (position.Number n)) ∷ []) (after (if b then Err fault.BadOrientation else Ok (distance.Number (number_with_sign n).unscaled)))
         pointed true e = distance_refused (position.Number n) e
-        pointed false e = distance_taken (position.Number n) (distance.Number (signed_number n).unscaled) refl e
+        pointed false e = distance_taken (position.Number n) (distance.Number (number_with_sign n).unscaled) refl e
     distance_told (position.Parameter name) = parameter_told name (parameter_named j.known.parameters name) (parameter_found j.known name)
 
   next_told : (o : Option Orientation) → unknown_parameter j.known (Site.orientation_used scrolls o) ≡ false → bad_orientation j.known (Site.orientation_used scrolls o) ≡ false

@@ -21,7 +21,7 @@ use Rattle.sq_tree.specs.declared.statement.Position.{Position}
 use Rattle.sq_tree.specs.declared.statement.Position.TheVariants as position
 use Rattle.sq_meaning.specs.Environment as environment
 use Rattle.sq_meaning.specs.Placed.{PlacedParameter}
-use Rattle.sq_meaning.specs.Spelled.{has_point, signed_number}
+use Rattle.sq_meaning.specs.Spelled.{has_point, number_with_sign}
 use Rattle.sq_meaning.specs.Status as status
 use Rattle.sq_meaning.specs.WellFormed.{Has, is_comparable}
 use Rattle.sq_meaning.specs.Binding.{is_whole_domain}
@@ -178,9 +178,9 @@ module _ (parameters : List ParameterDesc) where
   number_is : (p : Position) (d : Distance) → distance_bound (declared parameters) p ≡ Ok d → DistanceIs p d
   number_is (position.Number n) d is = by_point (has_point n.number) refl is
     where
-      by_point : (b : Bool) → has_point n.number ≡ b → ◌≡◌ {A = Outcome Distance} (if b then Err fault.BadOrientation else Ok (distance.Number (signed_number n).unscaled)) (Ok d) → DistanceIs (position.Number n) d
+      by_point : (b : Bool) → has_point n.number ≡ b → ◌≡◌ {A = Outcome Distance} (if b then Err fault.BadOrientation else Ok (distance.Number (number_with_sign n).unscaled)) (Ok d) → DistanceIs (position.Number n) d
       by_point true e is = cc
-      by_point false e is = let same : distance.Number (signed_number n).unscaled ≡ d = cc in subst (DistanceIs (position.Number n)) same ((e, refl), tt)
+      by_point false e is = let same : distance.Number (number_with_sign n).unscaled ≡ d = cc in subst (DistanceIs (position.Number n)) same ((e, refl), tt)
   number_is (position.Parameter name) d is =
       let a = steps_of (parameter_named (declared parameters) name) (λ at. and_then (must_hold (is_whole_domain at.1) fault.BadOrientation) (λ _. Ok (distance.Parameter at.0))) d is in
       let b = steps_of (must_hold (is_whole_domain a.step.1) fault.BadOrientation) (λ _. Ok (distance.Parameter a.step.0)) d a.second in

@@ -15,7 +15,7 @@ use Rattle.sq_meaning.specs.Status as status
 use Rattle.sq_meaning.specs.Syntax.{Expr, literal, parameter, user, column, count_rows, set_function, signed, added, scaled, bracketed, SelectList, all_columns, expressions, Cond, Conds, Clause, Select, select}
 use Rattle.sq_meaning.specs.Binding.{Judged, has_fault, privilege_missing}
 use Rattle.sq_meaning.specs.Privilege.{Privilege}
-use Rattle.sq_meaning.specs.Site.{Around, Known as Tables, Site, beside_subquery, clause_sites, compared_sites, cond_sites, conds_sites, escape_sites, expr_sites, inside, kind_here, list_count, list_sites, operand_of, plain_query, select_sites, shown_query, summed_sites, text_sites}
+use Rattle.sq_meaning.specs.Site.{Around, Known as Tables, Site, beside_subquery, clause_sites, compared_sites, cond_sites, conds_sites, escape_sites, expr_sites, inside_query, kind_here, list_count, list_sites, operand_of, plain_query, select_sites, shown_query, summed_sites, text_sites}
 use Rattle.sq_meaning.specs.declared.fault.BindingFault.TheVariants as fault
 use Rattle.sq_binding.specs.Condition.{agreeing, as_subquery, cond_bound, escape_bound, select_bound}
 use Rattle.sq_binding.specs.Expression.{column_findings}
@@ -181,10 +181,10 @@ module _ (holds : TableName → Privilege → Bool) (k : Tables) where
 
     module _ (b : Around) (list : SelectList Named) (from : List TableReference) (filter : Clause Named) (by : List ColumnReference) (having : Clause Named) where
       abbrev lines : Around
-      lines = inside b (plain_query from) false
+      lines = inside_query b (plain_query from) false
 
       abbrev shown_in : Around
-      shown_in = inside b (shown_query from list by having) true
+      shown_in = inside_query b (shown_query from list by having) true
 
       abbrev before_filter : List Site
       before_filter = map Site.table_read from ++ Site.from_whole from ∷ Site.column_count (list_count k.tables from list) ∷ list_sites k shown_in list (is_grouped list by having)
@@ -216,12 +216,12 @@ module _ (holds : TableName → Privilege → Bool) (k : Tables) where
     select_lacks a counts distinct list from filter by having items kept places shown groups parts named b =
         lacks_beside (whole_of distinct items kept places shown groups).findings (select_found (whole_of distinct items kept places shown groups)).findings.values
         ∙ parts_lack items.findings kept.findings places.findings shown.findings groups.findings
-        (missing (map Site.table_read from)) (missing (clause_sites k (inside b (plain_query from) false) filter)) (missing (clause_sites k (inside b (shown_query from list by having) true) having))
+        (missing (map Site.table_read from)) (missing (clause_sites k (inside_query b (plain_query from) false) filter)) (missing (clause_sites k (inside_query b (shown_query from list by having) true) having))
         (from_lacks from (at_first counts.subqueries) items (subst (λ n. from_bound n from (at_first counts.subqueries) ≡ Ok items) named parts.from_is))
-        (parts.filter_is.1 named (inside b (plain_query from) false))
+        (parts.filter_is.1 named (inside_query b (plain_query from) false))
         (grouping_lacks (of_lines (items_of items.part) a) by (at_first kept.subqueries) places parts.by_is)
         (list_lacks (of_groups (items_of items.part) places.part a) (items_of items.part) list (at_first kept.subqueries) shown parts.list_is)
-        (parts.having_is.1 named (inside b (shown_query from list by having) true))
+        (parts.having_is.1 named (inside_query b (shown_query from list by having) true))
         ∙ sym (sites_missing b list from filter by having distinct)
 
     cases : QueryCases CondLacks CondsLack ClauseLacks SelectLacks

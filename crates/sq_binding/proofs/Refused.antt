@@ -13,7 +13,7 @@ use Rattle.sq_tree.specs.declared.schema.SchemaText.{SchemaText}
 use Rattle.sq_meaning.specs.Environment.{same_name}
 use Rattle.sq_meaning.specs.Spelled.{cond_of, select_of}
 use Rattle.sq_meaning.specs.Schema.{Elements, checks, is_among}
-use Rattle.sq_meaning.specs.SchemaRefusal.{Part, SchemaRefusal, elements_of, elements_with, first_schema_refusal, part_fault, refusal_at, refused_for, schema_faults, schema_parts, schema_refusal, users_with}
+use Rattle.sq_meaning.specs.SchemaRefusal.{Part, SchemaRefusal, elements_of, elements_with, first_schema_refusal, part_fault, part_refusal, refused_for, schema_faults, schema_parts, schema_refusal, users_with}
 use Rattle.sq_meaning.specs.SchemaRefusal as refusal
 use Rattle.sq_meaning.specs.declared.refusal.SchemaFault.{SchemaFault}
 use Rattle.sq_meaning.specs.declared.refusal.SchemaFault.TheVariants as fault
@@ -120,10 +120,10 @@ parts_told users before c of (p ∷ ps) plain =
   where
     by : ((c : Catalog) → IsCatalogOf (users_with users p.user p.element) (elements_with before p.user p.element) c → DeclaresAs (users_behind (users_with users p.user p.element) ps) (elements_behind (elements_with before p.user p.element) ps) (schema_refusal (users_with users p.user p.element) (elements_with before p.user p.element) ps) (with_parts ps c))
         → (first : Option SchemaFault) (o : Outcome Catalog) → AnswersAs (users_with users p.user p.element) (elements_with before p.user p.element) first o
-        → DeclaresAs (users_behind (users_with users p.user p.element) ps) (elements_behind (elements_with before p.user p.element) ps) (option_or (option_map (refusal_at p) first) (schema_refusal (users_with users p.user p.element) (elements_with before p.user p.element) ps)) (then_parts (with_parts ps) p o)
+        → DeclaresAs (users_behind (users_with users p.user p.element) ps) (elements_behind (elements_with before p.user p.element) ps) (option_or (option_map (part_refusal p) first) (schema_refusal (users_with users p.user p.element) (elements_with before p.user p.element) ps)) (then_parts (with_parts ps) p o)
     by later None (Ok c) h = later c h.1
     by later (Some f) (Ok c) h = cc
-    by later first (Err f) h = ap (λ first. option_or (option_map (refusal_at p) first) (schema_refusal (users_with users p.user p.element) (elements_with before p.user p.element) ps)) h
+    by later first (Err f) h = ap (λ first. option_or (option_map (part_refusal p) first) (schema_refusal (users_with users p.user p.element) (elements_with before p.user p.element) ps)) h
 
 pub empty_catalog : IsCatalogOf [] [] empty
 empty_catalog = record {

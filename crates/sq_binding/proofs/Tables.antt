@@ -20,7 +20,7 @@ use Rattle.sq_tree.specs.declared.schema.SchemaElement.TheVariants as element
 use Rattle.sq_tree.specs.declared.schema.TableDefinition.{TableDefinition}
 use Rattle.sq_meaning.specs.Assignment.{assigned}
 use Rattle.sq_meaning.specs.Environment.{TableName, same_table}
-use Rattle.sq_meaning.specs.Spelled.{cond_of, domain_of, signed_number, table_of}
+use Rattle.sq_meaning.specs.Spelled.{cond_of, domain_of, number_with_sign, table_of}
 use Rattle.sq_meaning.specs.Status as status
 use Rattle.sq_meaning.specs.Tables.{TableDescriptor, descriptor_of}
 use Rattle.sq_meaning.specs.Catalog.{base_count, column_descriptor, column_domain, table_descriptor, tables_of}
@@ -63,7 +63,7 @@ user_told false = (refl, refl)
 
 default_told : (d : Domain) (o : Option DefaultValue) → Tells fault.BadDefault (is_some_and (is_bad_default d) o) (λ x. default_of d o ≡ Ok x) (default_of d o)
 default_told d None = (refl, refl)
-default_told d (Some (default.Number n)) = stored_told (assigned d (value.Num (signed_number n)))
+default_told d (Some (default.Number n)) = stored_told (assigned d (value.Num (number_with_sign n)))
 default_told d (Some (default.Text characters)) = stored_told (assigned d (value.Chars characters))
 default_told d (Some default.User) = user_told (nat_lt (domain_length d) user_length)
 default_told d (Some default.Null) = (refl, refl)

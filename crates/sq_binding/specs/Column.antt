@@ -11,7 +11,7 @@ use Rattle.sq_tree.specs.declared.schema.ColumnDefinition.{ColumnDefinition}
 use Rattle.sq_tree.specs.declared.schema.DefaultValue.{DefaultValue}
 use Rattle.sq_tree.specs.declared.schema.DefaultValue.TheVariants as default
 use Rattle.sq_meaning.specs.Assignment.{assigned}
-use Rattle.sq_meaning.specs.Spelled.{domain_of, signed_number}
+use Rattle.sq_meaning.specs.Spelled.{domain_of, number_with_sign}
 use Rattle.sq_meaning.specs.Status as status
 use Rattle.sq_meaning.specs.declared.refusal.SchemaFault.TheVariants as fault
 use Rattle.sq_bound.specs.declared.names.ColumnDefault.{ColumnDefault}
@@ -50,7 +50,7 @@ stored (Ok v) = Ok (column_default.Value v)
 stored (Err s) = Err fault.BadDefault
 
 abbrev pub default_written : Domain → DefaultValue → Outcome ColumnDefault
-default_written d (default.Number n) = stored (assigned d (value.Num (signed_number n)))
+default_written d (default.Number n) = stored (assigned d (value.Num (number_with_sign n)))
 default_written d (default.Text characters) = stored (assigned d (value.Chars characters))
 default_written d default.User =
     if nat_lt (domain_length d) user_length then Err fault.BadDefault else Ok column_default.User

@@ -5,7 +5,7 @@ use Rattle.sq_tree.specs.declared.schema.SchemaElement.{SchemaElement}
 use Rattle.sq_tree.specs.declared.schema.SchemaElement.TheVariants as element
 use Rattle.sq_tree.specs.declared.schema.SchemaText.{SchemaText}
 use Rattle.sq_meaning.specs.Schema.{is_among}
-use Rattle.sq_meaning.specs.SchemaRefusal.{Part, SchemaRefusal, refusal_at, schema_parts}
+use Rattle.sq_meaning.specs.SchemaRefusal.{Part, SchemaRefusal, part_refusal, schema_parts}
 use Rattle.sq_meaning.specs.declared.refusal.SchemaFault.TheVariants as fault
 use Rattle.sq_binding.specs.Catalog.{Catalog, empty}
 use Rattle.sq_binding.specs.Grant.{grant}
@@ -34,7 +34,7 @@ Declared = Result Catalog SchemaRefusal
 
 abbrev pub then_parts : (Catalog → Declared) → Part → Outcome Catalog → Declared
 then_parts rest p (Ok c) = rest c
-then_parts rest p (Err f) = Err (refusal_at p f)
+then_parts rest p (Err f) = Err (part_refusal p f)
 
 -- the parts of schema texts one after the other
 abbrev pub with_parts : List Part → Catalog → Declared

@@ -4,7 +4,7 @@ use Rattle.sq_tree.specs.declared.statement.Orientation.{Orientation}
 use Rattle.sq_tree.specs.declared.statement.Orientation.TheVariants as written
 use Rattle.sq_tree.specs.declared.statement.Position.{Position}
 use Rattle.sq_tree.specs.declared.statement.Position.TheVariants as position
-use Rattle.sq_meaning.specs.Spelled.{has_point, signed_number}
+use Rattle.sq_meaning.specs.Spelled.{has_point, number_with_sign}
 use Rattle.sq_meaning.specs.Tables.{Declared}
 use Rattle.sq_meaning.specs.Binding.{is_whole_domain}
 use Rattle.sq_meaning.specs.declared.fault.BindingFault.TheVariants as fault
@@ -19,7 +19,7 @@ use Rattle.sq_binding.specs.Whole.{must_hold}
 -- a number that is written without a point, or a parameter of scale 0
 abbrev pub distance_bound : List Declared → Position → Outcome Distance
 distance_bound parameters (position.Number n) =
-    if has_point n.number then Err fault.BadOrientation else Ok (distance.Number (signed_number n).unscaled)
+    if has_point n.number then Err fault.BadOrientation else Ok (distance.Number (number_with_sign n).unscaled)
 distance_bound parameters (position.Parameter name) = do
   at ← parameter_named parameters name
   _ ← must_hold (is_whole_domain at.1) fault.BadOrientation

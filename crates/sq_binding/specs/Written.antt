@@ -31,7 +31,7 @@ use Rattle.sq_tree.specs.declared.statement.Statement.TheVariants as tree
 use Rattle.sq_tree.specs.declared.statement.Where.{Where}
 use Rattle.sq_tree.specs.declared.statement.Where.TheVariants as rows
 use Rattle.sq_meaning.specs.Environment.{Place, TableName, TableReference, same_name}
-use Rattle.sq_meaning.specs.Spelled.{Named, cond_of, expr_of, has_point, listed, listed_if_any, query_of, select_of, select_of_parts, signed_number, table_of}
+use Rattle.sq_meaning.specs.Spelled.{Named, cond_of, expr_of, has_point, listed, listed_if_any, query_of, select_of, select_of_parts, number_with_sign, table_of}
 use Rattle.sq_meaning.specs.Status.{Outcome, ◌>>=◌, each, well_formed}
 use Rattle.sq_meaning.specs.Syntax.{Clause, Query, Select as Selection, SelectList, absent, column, literal, present, select, specification, union}
 use Rattle.sq_bound.specs.Condition.{PlacedClause, PlacedCond}
@@ -129,7 +129,7 @@ AreOutputsOf parameters = AllZip (IsOutputOf parameters)
 -- the number of an orientation is the whole number that is written, or the parameter of the written name
 abbrev pub IsDistanceOf : List ParameterDesc → Position → Distance → Type 0
 IsDistanceOf parameters (position.Number n) (distance.Number d) =
-    (has_point n.number ≡ false) × (d ≡ (signed_number n).unscaled)
+    (has_point n.number ≡ false) × (d ≡ (number_with_sign n).unscaled)
 IsDistanceOf parameters (position.Parameter name) (distance.Parameter at) = IsParameter parameters name at
 IsDistanceOf parameters _ _ = ⊥
 

@@ -13,7 +13,7 @@ use Rattle.sq_value.specs.Storing.{stored}
 use Rattle.sq_value.specs.declared.domain.Domain.{Domain}
 use Rattle.sq_value.specs.declared.value.Value.{Value}
 use Rattle.sq_value.specs.declared.value.Value.TheVariants.{Null, Num, Chars}
-use Rattle.sq_meaning.specs.Spelled.{domain_of, listed, signed_number}
+use Rattle.sq_meaning.specs.Spelled.{domain_of, listed, number_with_sign}
 use Rattle.sq_bound.specs.declared.names.BaseColumn.{BaseColumn}
 use Rattle.sq_bound.specs.declared.names.BaseTable.{BaseTable}
 use Rattle.sq_bound.specs.declared.names.Column.{Column}
@@ -61,7 +61,7 @@ abbrev pub IsDefaultOf : Domain → Option DefaultValue → ColumnDefault → Ty
 IsDefaultOf d None c = c ≡ default.Value Null
 IsDefaultOf d (Some written.Null) c = c ≡ default.Value Null
 IsDefaultOf d (Some written.User) c = (c ≡ default.User) × (18 ≤ domain_length d)
-IsDefaultOf d (Some (written.Number n)) c = IsStoredAs d (Num (signed_number n)) c
+IsDefaultOf d (Some (written.Number n)) c = IsStoredAs d (Num (number_with_sign n)) c
 IsDefaultOf d (Some (written.Text t)) c = IsStoredAs d (Chars t) c
 
 -- the column that a definition writes: in the domain of its data type, NOT NULL where that is written, and with its default

@@ -8,7 +8,7 @@ use Rattle.std.specs.Ordering.{is_eq}
 use Rattle.std.proofs.lemmas.List.Folds.{list_any-append}
 use Rattle.sq_value.proofs.Truths.{or_false, or_true}
 use Rattle.indexmap.specs.IndexSet.{insert_key}
-use Rattle.sq_value.specs.Arithmetic.{compared}
+use Rattle.sq_value.specs.Arithmetic.{numbers_compared}
 use Rattle.sq_value.specs.Comparison.{texts_compared}
 use Rattle.sq_value.specs.Truth.{either, known}
 use Rattle.sq_value.specs.declared.truth.Truth.{Truth}
@@ -73,7 +73,7 @@ one_more Null (Chars t) keys k = ap (λ u. truth_among false u) (or_true (k.null
 one_more (Num a) Null keys k = truth_unknown (is_among keys (Num a)) (has_unknown k (Num a))
 one_more (Num a) (Num b) keys k =
     ap (λ f. truth_among f (has_unknown k (Num a))) (key_more (Num a) (Num b) keys)
-    ∙ truth_or (is_among keys (Num a)) (is_eq (compared a b)) (has_unknown k (Num a))
+    ∙ truth_or (is_among keys (Num a)) (is_eq (numbers_compared a b)) (has_unknown k (Num a))
 one_more (Num a) (Chars t) keys k =
     ap (λ f. truth_among f (k.nulls || true)) (key_more (Num a) (Chars t) keys)
     ∙ apart (is_among keys (Num a)) (has_unknown k (Num a)) (k.nulls || true) (or_true k.nulls)

@@ -16,7 +16,7 @@ use sq_value::{Row, Truth, Value};
 use std::cmp::Ordering;
 
 fn holds(comparison: Comparison, order: Ordering) -> bool
-    ensures { result ≡ meaning.holds comparison order }
+    ensures { result ≡ meaning.comparison_holds comparison order }
 {
     match comparison {
         Comparison::Equal => order.is_eq(),

@@ -28,7 +28,7 @@ use Rattle.sq_tree.proofs.CondLaws.{and_test, or_conj}
 use Rattle.sq_tree.proofs.ExprLaws as exprs
 use Rattle.sq_grammar.specs.declared.cond_or_expr.CondOrExpr.{CondOrExpr}
 use Rattle.sq_grammar.specs.declared.cond_or_expr.CondOrExpr.TheVariants as came
-use Rattle.sq_grammar.specs.Reading.{Parser, eat, sees, one_if_any, behind, listed, all, pure, ◌>>=◌}
+use Rattle.sq_grammar.specs.Reading.{Parser, eat, sees, one_if_any, behind, comma_separated, all, pure, ◌>>=◌}
 use Rattle.sq_grammar.specs.Expr as expressions
 use Rattle.sq_grammar.specs.Expr.{expr, expr_from}
 use Rattle.sq_grammar.specs.Cond.{comparison_of, compared_if_any, sees_query, only_cond, must_be_cond, null_tail, inner_query, subquery, compared_query, comparison_tail, between_tail, in_tail, like_tail, by_between, negatable_tail, tail, predicate_from, bracket, body, tested, test_at, must_be_test, conj, must_be_conj, level, inside, cond, query_specification}
@@ -94,7 +94,7 @@ module _ (left : ℕ) (inner : Parser (CondOrExpr Cond)) (s : Sound inner (of_ei
   in_sound n = openly left _ (λ room. either (sees (lexeme.Word word.Select)) _ _
       (andthen (inner_query left inner) _ (inner_query_sound room) (λ q. expected (lexeme.Symbol symbol.Close) _
       (built (tails.InQuery n q) _ _ (law.tail_tokens-InQuery n q ∙ simp append_assoc) (λ h. rw (law.tail_depth-InQuery n q) (omega arith)))))
-      (andthen (listed (expressions.inside left)) _ (lifted left room (lists (expressions.inside left) (left - 1) inner_exprs)) (λ es. expected (lexeme.Symbol symbol.Close) _
+      (andthen (comma_separated (expressions.inside left)) _ (lifted left room (lists (expressions.inside left) (left - 1) inner_exprs)) (λ es. expected (lexeme.Symbol symbol.Close) _
       (built (tails.InList n es) _ _ (law.tail_tokens-InList n es ∙ simp append_assoc) (λ h. rw (law.tail_depth-InList n es) (omega arith))))))
 
   like_sound : (n : Bool) → After (not_tokens n ++ lexeme.Word word.Like ∷ []) 0 left (like_tail left inner n) tail_tokens tail_depth

@@ -22,7 +22,7 @@ use Rattle.sq_tree.proofs.ExprDepth.{primary_depth, factor_depth, scaled_depth, 
 use Rattle.sq_tree.proofs.ExprLaws as law
 use Rattle.sq_grammar.specs.Reading.{Parser, one_if_any, number_of, text_of, name_of, all}
 use Rattle.sq_grammar.specs.Names.{sign_if_any, column_from, parameter_from}
-use Rattle.sq_grammar.specs.Expr.{times_if_any, quantifier_if_any, function_of, argument_of, set_function, bracketed, primary_at, factor, scaled, term, added, level, level_from, inside, expr, expr_from}
+use Rattle.sq_grammar.specs.Expr.{times_if_any, quantifier_if_any, function_of, argument_of, set_function, bracketed, primary_at, factor, scaled_factor, term, added_term, level, level_from, inside, expr, expr_from}
 use Rattle.sq_grammar.proofs.Spells.{Sound, After, sound, unsound, built, andthen, eaten, expected, openly, maybe, following, a_number, a_text, a_name, rows, one_maybe, some_is, raised}
 use Rattle.sq_grammar.proofs.NamesSound.{signs, columns_behind, parameters_behind}
 
@@ -89,32 +89,32 @@ module _ (left : ℕ) (inner : Parser Expr) (s : Sound inner expr_tokens (λ e. 
   factor_sound = sound (andthen sign_if_any _ (signs left) (λ sign. andthen (primary_at left inner) _ primary_sound (λ p.
       built (record { sign = sign; primary = p }) _ _ (law.factor_tokens-out _) (λ h. rw (law.factor_depth-out (record { sign = sign; primary = p })) (omega arith)))))
 
-  scaled_sound : Sound (scaled left inner) (optional scaled_tokens) (optional_depth scaled_depth) left
-  unfolding scaled
+  scaled_sound : Sound (scaled_factor left inner) (optional scaled_tokens) (optional_depth scaled_depth) left
+  unfolding scaled_factor
   scaled_sound = sound (maybe times_if_any _ (times left)
       (built None _ _ refl (λ h. omega arith))
       (λ sign. andthen (factor left inner) _ factor_sound (λ f. built (Some (record { sign = sign; factor = f })) _ _ (law.scaled_tokens-out _) (λ h. rw (law.scaled_depth-out (record { sign = sign; factor = f })) (omega arith)))))
 
-  all_scaled_sound : Sound (all (scaled left inner)) (flat_map scaled_tokens) (λ xs. greatest (map scaled_depth xs)) left
-  all_scaled_sound = rows (scaled left inner) scaled_tokens scaled_depth left scaled_sound
+  all_scaled_sound : Sound (all (scaled_factor left inner)) (flat_map scaled_tokens) (λ xs. greatest (map scaled_depth xs)) left
+  all_scaled_sound = rows (scaled_factor left inner) scaled_tokens scaled_depth left scaled_sound
 
   term_sound : Sound (term left inner) term_tokens term_depth left
   unfolding term
-  term_sound = sound (andthen (factor left inner) _ factor_sound (λ first. andthen (all (scaled left inner)) _ all_scaled_sound (λ more.
+  term_sound = sound (andthen (factor left inner) _ factor_sound (λ first. andthen (all (scaled_factor left inner)) _ all_scaled_sound (λ more.
       built (roll-Term (record { first = first; rest = more })) _ _ (law.term_tokens-roll first more) (λ h. rw (law.term_depth-roll first more) (omega arith)))))
 
-  added_sound : Sound (added left inner) (optional added_tokens) (optional_depth added_depth) left
-  unfolding added
+  added_sound : Sound (added_term left inner) (optional added_tokens) (optional_depth added_depth) left
+  unfolding added_term
   added_sound = sound (maybe sign_if_any _ (signs left)
       (built None _ _ refl (λ h. omega arith))
       (λ sign. andthen (term left inner) _ term_sound (λ t. built (Some (roll-Added (record { sign = sign; term = t }))) _ _ (law.added_tokens-roll sign t) (λ h. rw (law.added_depth-roll sign t) (omega arith)))))
 
-  all_added_sound : Sound (all (added left inner)) (flat_map added_tokens) (λ xs. greatest (map added_depth xs)) left
-  all_added_sound = rows (added left inner) added_tokens added_depth left added_sound
+  all_added_sound : Sound (all (added_term left inner)) (flat_map added_tokens) (λ xs. greatest (map added_depth xs)) left
+  all_added_sound = rows (added_term left inner) added_tokens added_depth left added_sound
 
   pub level_sound : Sound (level left inner) expr_tokens expr_depth left
   unfolding level
-  level_sound = sound (andthen (term left inner) _ term_sound (λ first. andthen (all (added left inner)) _ all_added_sound (λ more.
+  level_sound = sound (andthen (term left inner) _ term_sound (λ first. andthen (all (added_term left inner)) _ all_added_sound (λ more.
       built (roll-Expr (record { first = first; rest = more })) _ _ (law.expr_tokens-roll first more) (λ h. rw (law.expr_depth-roll first more) (omega arith)))))
 
   abbrev from : Primary → List Scaled → List Added → Expr
@@ -128,7 +128,7 @@ module _ (left : ℕ) (inner : Parser Expr) (s : Sound inner expr_tokens (λ e. 
 
   pub level_from_sound : (p : Primary) → After (primary_tokens p) (primary_depth p) left (level_from left inner p) expr_tokens expr_depth
   unfolding level_from
-  level_from_sound p = andthen (all (scaled left inner)) _ all_scaled_sound (λ xs. andthen (all (added left inner)) _ all_added_sound (λ ys.
+  level_from_sound p = andthen (all (scaled_factor left inner)) _ all_scaled_sound (λ xs. andthen (all (added_term left inner)) _ all_added_sound (λ ys.
       built (from p xs ys) _ _ (from_tokens p xs ys) (λ h. rw (from_depth p xs ys) (omega arith))))
 
 pub inside_sound : (left : ℕ) → Sound (inside left) expr_tokens (λ e. expr_depth e + 1) left

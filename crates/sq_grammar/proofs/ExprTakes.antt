@@ -34,7 +34,7 @@ use Rattle.sq_tree.proofs.ExprLaws as law
 use Rattle.sq_tree.proofs.ExprLaws.{primary_cases}
 use Rattle.sq_grammar.specs.Reading.{Tokens, Parser, sees, number_of, text_of, name_of, all, pure}
 use Rattle.sq_grammar.specs.Names.{sign_if_any, column_from, parameter_from}
-use Rattle.sq_grammar.specs.Expr.{times_if_any, quantifier_if_any, function_of, argument_of, set_function, primary_at, factor, scaled, term, added, level, level_from, inside, expr, expr_from}
+use Rattle.sq_grammar.specs.Expr.{times_if_any, quantifier_if_any, function_of, argument_of, set_function, primary_at, factor, scaled_factor, term, added_term, level, level_from, inside, expr, expr_from}
 use Rattle.sq_grammar.specs.Expr as spec
 use Rattle.sq_grammar.proofs.Takes.{Takes, done, fits, lifted, andthen, plainly, mapped, word, mark, closing, expected, eaten, uneaten, met, unmet, openly, rows, follows}
 use Rattle.sq_grammar.proofs.NamesTakes.{a_colon, column_cases, column_1, column_2, column_3, column_from_1, column_from_2, column_from_3, parameter_from_takes, sign_takes}
@@ -257,8 +257,8 @@ module _ (left : ℕ) (inner : Parser Expr) (inner_takes : 0 < left → (e : Exp
       (plainly sign_if_any _ f.sign (sign_takes f.sign (primary_starts _ primary_no_plus f.primary rest) (primary_starts _ primary_no_minus f.primary rest)) (mapped (primary_at left inner) _ f.primary (primary_takes f.primary rest ends) refl))
 
   -- ( "*" | "/" ) factor
-  pub scaled_each : (s : Scaled) (rest : Tokens) → EndsFactor rest → Takes (scaled left inner) (scaled_tokens s) 0 0 (scaled_depth s) left (Some s) rest
-  unfolding scaled
+  pub scaled_each : (s : Scaled) (rest : Tokens) → EndsFactor rest → Takes (scaled_factor left inner) (scaled_tokens s) 0 0 (scaled_depth s) left (Some s) rest
+  unfolding scaled_factor
   scaled_each s rest ends = rw (law.scaled_tokens-out s, law.scaled_depth-out s) (plainly times_if_any _ (Some s.sign) {tx = times_token s.sign ∷ []} (times_takes s.sign) (mapped (factor left inner) _ s.factor (factor_takes s.factor rest ends) refl))
 
   scaled_starts : (s : Scaled) (rest : Tokens) → EndsFactor (scaled_tokens s ++ rest)
@@ -267,28 +267,28 @@ module _ (left : ℕ) (inner : Parser Expr) (inner_takes : 0 < left → (e : Exp
   scaled_long : (s : Scaled) → 0 < length (scaled_tokens s)
   scaled_long s = rw (law.scaled_tokens-out s) (omega arith)
 
-  no_scaled : (rest : Tokens) → EndsTerm rest → scaled left inner rest ≡ Ok (None, rest)
-  unfolding scaled
+  no_scaled : (rest : Tokens) → EndsTerm rest → scaled_factor left inner rest ≡ Ok (None, rest)
+  unfolding scaled_factor
   no_scaled rest ends =
-      let s : Takes (scaled left inner) [] 0 0 0 left None rest = mapped times_if_any _ None (no_times ends.star ends.slash) refl in
+      let s : Takes (scaled_factor left inner) [] 0 0 0 left None rest = mapped times_if_any _ None (no_times ends.star ends.slash) refl in
       s.taken (omega arith)
 
-  all_scaled : (xs : List Scaled) (rest : Tokens) → EndsTerm rest → Takes (all (scaled left inner)) (flat_map scaled_tokens xs) 0 0 (greatest (map scaled_depth xs)) left xs rest
-  all_scaled xs rest ends = rows (scaled left inner) scaled_tokens scaled_depth 0 left EndsFactor scaled_each scaled_starts scaled_long xs rest ends.factor (no_scaled rest ends)
+  all_scaled : (xs : List Scaled) (rest : Tokens) → EndsTerm rest → Takes (all (scaled_factor left inner)) (flat_map scaled_tokens xs) 0 0 (greatest (map scaled_depth xs)) left xs rest
+  all_scaled xs rest ends = rows (scaled_factor left inner) scaled_tokens scaled_depth 0 left EndsFactor scaled_each scaled_starts scaled_long xs rest ends.factor (no_scaled rest ends)
 
   behind_scaled : (xs : List Scaled) (rest : Tokens) → EndsFactor rest → EndsFactor (flat_map scaled_tokens xs ++ rest)
-  behind_scaled = follows (scaled left inner) scaled_tokens scaled_depth 0 left EndsFactor scaled_each scaled_starts scaled_long
+  behind_scaled = follows (scaled_factor left inner) scaled_tokens scaled_depth 0 left EndsFactor scaled_each scaled_starts scaled_long
 
   pub term_takes : (t : Term) (rest : Tokens) → EndsTerm rest → Takes (term left inner) (term_tokens t) 0 0 (term_depth t) left t rest
   unfolding term
   term_takes t rest ends =
       let first : Factor = (out-Term t).first in
       let others : List Scaled = (out-Term t).rest in
-      rw (law.term_tokens-out t, law.term_depth-out t) (andthen (factor left inner) _ first (factor_takes first _ (behind_scaled others rest ends.factor)) (mapped (all (scaled left inner)) _ others (all_scaled others rest ends) (ap pure (roll-out-Term t))))
+      rw (law.term_tokens-out t, law.term_depth-out t) (andthen (factor left inner) _ first (factor_takes first _ (behind_scaled others rest ends.factor)) (mapped (all (scaled_factor left inner)) _ others (all_scaled others rest ends) (ap pure (roll-out-Term t))))
 
   -- ( "+" | "-" ) term
-  pub added_each : (s : Added) (rest : Tokens) → EndsTerm rest → Takes (added left inner) (added_tokens s) 0 0 (added_depth s) left (Some s) rest
-  unfolding added
+  pub added_each : (s : Added) (rest : Tokens) → EndsTerm rest → Takes (added_term left inner) (added_tokens s) 0 0 (added_depth s) left (Some s) rest
+  unfolding added_term
   added_each s rest ends =
       let sign : Sign = (out-Added s).sign in
       let t : Term = (out-Added s).term in
@@ -304,24 +304,24 @@ module _ (left : ℕ) (inner : Parser Expr) (inner_takes : 0 < left → (e : Exp
   added_long : (s : Added) → 0 < length (added_tokens s)
   added_long s = rw (law.added_tokens-out s) (omega arith)
 
-  no_added : (rest : Tokens) → EndsExpr rest → added left inner rest ≡ Ok (None, rest)
-  unfolding added
+  no_added : (rest : Tokens) → EndsExpr rest → added_term left inner rest ≡ Ok (None, rest)
+  unfolding added_term
   no_added rest ends =
-      let s : Takes (added left inner) [] 0 0 0 left None rest = mapped sign_if_any _ None (sign_takes None ends.plus ends.minus) refl in
+      let s : Takes (added_term left inner) [] 0 0 0 left None rest = mapped sign_if_any _ None (sign_takes None ends.plus ends.minus) refl in
       s.taken (omega arith)
 
-  all_added : (xs : List Added) (rest : Tokens) → EndsExpr rest → Takes (all (added left inner)) (flat_map added_tokens xs) 0 0 (greatest (map added_depth xs)) left xs rest
-  all_added xs rest ends = rows (added left inner) added_tokens added_depth 0 left EndsTerm added_each added_starts added_long xs rest ends.term (no_added rest ends)
+  all_added : (xs : List Added) (rest : Tokens) → EndsExpr rest → Takes (all (added_term left inner)) (flat_map added_tokens xs) 0 0 (greatest (map added_depth xs)) left xs rest
+  all_added xs rest ends = rows (added_term left inner) added_tokens added_depth 0 left EndsTerm added_each added_starts added_long xs rest ends.term (no_added rest ends)
 
   behind_added : (xs : List Added) (rest : Tokens) → EndsTerm rest → EndsTerm (flat_map added_tokens xs ++ rest)
-  behind_added = follows (added left inner) added_tokens added_depth 0 left EndsTerm added_each added_starts added_long
+  behind_added = follows (added_term left inner) added_tokens added_depth 0 left EndsTerm added_each added_starts added_long
 
   pub level_takes : (e : Expr) (rest : Tokens) → EndsExpr rest → Takes (level left inner) (expr_tokens e) 0 0 (expr_depth e) left e rest
   unfolding level
   level_takes e rest ends =
       let first : Term = (out-Expr e).first in
       let others : List Added = (out-Expr e).rest in
-      rw (law.expr_tokens-out e, law.expr_depth-out e) (andthen (term left inner) _ first (term_takes first _ (behind_added others rest ends.term)) (mapped (all (added left inner)) _ others (all_added others rest ends) (ap pure (roll-out-Expr e))))
+      rw (law.expr_tokens-out e, law.expr_depth-out e) (andthen (term left inner) _ first (term_takes first _ (behind_added others rest ends.term)) (mapped (all (added_term left inner)) _ others (all_added others rest ends) (ap pure (roll-out-Expr e))))
 
   -- an expression in its parts
   abbrev pub built : Option Sign → Primary → List Scaled → List Added → Expr
@@ -331,7 +331,7 @@ module _ (left : ℕ) (inner : Parser Expr) (inner_takes : 0 < left → (e : Exp
   pub level_from_takes : (p : Primary) (xs : List Scaled) (ys : List Added) (rest : Tokens) → EndsExpr rest → Takes (level_from left inner p) (flat_map scaled_tokens xs ++ flat_map added_tokens ys) 0 0 (max (greatest (map scaled_depth xs)) (greatest (map added_depth ys))) left (built None p xs ys) rest
   unfolding level_from
   level_from_takes p xs ys rest ends =
-      andthen (all (scaled left inner)) _ xs (all_scaled xs _ (behind_added ys rest ends.term)) (mapped (all (added left inner)) _ ys (all_added ys rest ends) refl)
+      andthen (all (scaled_factor left inner)) _ xs (all_scaled xs _ (behind_added ys rest ends.term)) (mapped (all (added_term left inner)) _ ys (all_added ys rest ends) refl)
 
 -- behind a bracket that is one of `left`
 pub inside_takes : (left : ℕ) (e : Expr) (rest : Tokens) → 0 < left → EndsExpr rest → Takes (inside left) (expr_tokens e) 1 1 (suc (expr_depth e)) left e rest

@@ -3,7 +3,7 @@ use Rattle.std.proofs.Common.{◌≡◌, ℕ, zero, suc, ◌+◌, ◌-◌, ◌<�
 use Rattle.std.proofs.lemmas.Bool.{ltb-true, lt-ltb}
 use Rattle.sq_grammar.specs.Reading.{Tokens}
 use Rattle.sq_lex.specs.declared.lexeme.Lexeme.{Lexeme}
-use Rattle.sq_grammar.specs.Reading.{Parser, Outcome, turn, many, all, with_front, behind, eat, comma, listed}
+use Rattle.sq_grammar.specs.Reading.{Parser, Outcome, turn, many, all, with_front, behind, eat, comma, comma_separated}
 
 cond-same : {A : Type 0} (b : Bool) (x y z : A) → (b ≡ true → x ≡ y) → cond b x z ≡ cond b y z
 cond-same true x y z h = h refl
@@ -58,7 +58,7 @@ all_ends token item xs now after found r read e gone =
     front-none (behind token item) xs now after r read (rw h refl)
 
 -- A list with commas that ends since no comma comes; its first item is read before the loop.
-pub listed_ends : {A : Type 0} (item : Parser A) (ts start now after : Tokens) (first : A) (xs : List A) (found : Bool) → item ts ≡ Ok (first, start) → with_front xs (all (behind comma item) now) ≡ all (behind comma item) start → eat comma now ≡ Ok (found, after) → found ≡ false → listed item ts ≡ Ok (record { first = first; rest = xs }, after)
+pub listed_ends : {A : Type 0} (item : Parser A) (ts start now after : Tokens) (first : A) (xs : List A) (found : Bool) → item ts ≡ Ok (first, start) → with_front xs (all (behind comma item) now) ≡ all (behind comma item) start → eat comma now ≡ Ok (found, after) → found ≡ false → comma_separated item ts ≡ Ok (record { first = first; rest = xs }, after)
 listed_ends item ts start now after first xs found one read e gone =
     let h = all_ends comma item xs now after found _ read e gone in
     rw one (rw h refl)

@@ -17,7 +17,7 @@ use Rattle.sq_tree.proofs.QueryDepth.{query_depth}
 use Rattle.sq_tree.specs.Module as tree
 use Rattle.sq_tree.proofs.ModuleDepth as depths
 use Rattle.sq_tree.proofs.ModuleNests.{module_depth-parts}
-use Rattle.sq_grammar.specs.Reading.{eat, one_if_any, number_of, name, listed, all}
+use Rattle.sq_grammar.specs.Reading.{eat, one_if_any, number_of, name, comma_separated, all}
 use Rattle.sq_grammar.specs.DataType.{data_type}
 use Rattle.sq_grammar.specs.Query.{query}
 use Rattle.sq_grammar.specs.Statement.{statement}
@@ -52,7 +52,7 @@ bare_declaration_sound left room = sound (eaten (lexeme.Symbol symbol.Comma) _
 declarations_sound : (left : ℕ) → 2 ≤ left → Sound declarations tree.declarations_tokens depths.declarations_depth left
 unfolding declarations
 declarations_sound left room = sound (eaten (lexeme.Symbol symbol.Open) _
-    (andthen (listed declaration) _ (lifted left (omega arith) (lists declaration (left - 1) (declaration_sound (left - 1) (omega arith)))) (λ ds. expected (lexeme.Symbol symbol.Close) _ (built (Bracketed ds) _ _ refl (λ h. omega arith))))
+    (andthen (comma_separated declaration) _ (lifted left (omega arith) (lists declaration (left - 1) (declaration_sound (left - 1) (omega arith)))) (λ ds. expected (lexeme.Symbol symbol.Close) _ (built (Bracketed ds) _ _ refl (λ h. omega arith))))
     (andthen declaration _ (declaration_sound left (omega arith)) (λ d. andthen (all bare_declaration) _ (rows bare_declaration tree.bare_declaration_tokens depths.bare_declaration_depth left (bare_declaration_sound left (omega arith))) (λ ds. built (Bare d ds) _ _ refl (λ h. omega arith)))))
 
 procedure_sound : (left : ℕ) → 2 ≤ left → After (lexeme.Word word.Procedure ∷ []) 0 left (procedure left) tree.procedure_tokens depths.procedure_depth
@@ -79,7 +79,7 @@ sort_sound left = sound (andthen sort_key _ (sort_key_sound left) (λ k. andthen
 
 by_sorts_sound : (left : ℕ) → Sound by_sorts (λ l. lexeme.Word word.By ∷ comma_tokens tree.sort_specification_tokens l) (comma_depth (λ _. 0)) left
 unfolding by_sorts
-by_sorts_sound left = sound (expected (lexeme.Word word.By) _ (finally (listed sort_specification) (lists sort_specification left (sort_sound left)) (λ x. refl) (λ x h i. i)))
+by_sorts_sound left = sound (expected (lexeme.Word word.By) _ (finally (comma_separated sort_specification) (lists sort_specification left (sort_sound left)) (λ x. refl) (λ x h i. i)))
 
 order_by_sound : (left : ℕ) → Sound order_by (optional tree.order_by_tokens) (optional_depth (comma_depth (λ _. 0))) left
 unfolding order_by

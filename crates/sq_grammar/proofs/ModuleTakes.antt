@@ -29,7 +29,7 @@ use Rattle.sq_tree.specs.declared.module.Declaration.{Declaration}
 use Rattle.sq_tree.specs.declared.module.Declaration.TheVariants.{Parameter, Sqlcode, Sqlstate}
 use Rattle.sq_tree.specs.declared.query.Query.{Query}
 use Rattle.sq_tree.specs.declared.statement.Statement.{Statement}
-use Rattle.sq_grammar.specs.Reading.{Tokens, Parser, ◌>>=◌, eat, sees, first_of, name_of, number_of, comma, listed, all}
+use Rattle.sq_grammar.specs.Reading.{Tokens, Parser, ◌>>=◌, eat, sees, first_of, name_of, number_of, comma, comma_separated, all}
 use Rattle.sq_grammar.specs.DataType.{data_type}
 use Rattle.sq_grammar.specs.Query.{query}
 use Rattle.sq_grammar.specs.Statement.{statement}
@@ -114,7 +114,7 @@ unfolding declarations
 bracketed_takes list {left = left} room =
     let starts : (ts : Tokens) → EndsType (comma ∷ ts) = λ ts. record { open_bracket = refl; varying = refl } in
     let within = commas declaration tree.declaration_tokens depths.declaration_depth 0 left EndsType (λ d ts ends. declaration_takes d room ends) starts list _ (record { open_bracket = refl; varying = refl }) refl in
-    eaten opening _ (fits (λ h. omega arith) (λ h. omega arith) (andthen (listed declaration) _ list (lifted within) (expected closing _ done)))
+    eaten opening _ (fits (λ h. omega arith) (λ h. omega arith) (andthen (comma_separated declaration) _ list (lifted within) (expected closing _ done)))
 
 pub declarations_takes : (left : ℕ) → 2 ≤ left → (ds : Declarations) (rest : Tokens) → Takes declarations (tree.declarations_tokens ds) 0 0 (depths.declarations_depth ds) left ds (lexeme.Symbol symbol.Semicolon ∷ rest)
 declarations_takes zero room ds rest = absurd (omega arith)

@@ -9,8 +9,8 @@ use Rattle.sq_tree.specs.Names.{name_tokens, table_name_tokens, column_reference
 use Rattle.sq_tree.specs.Expr.{sign_tokens, signed_number_tokens}
 use Rattle.sq_tree.proofs.DataTypeDepth.{bracket_depth}
 use Rattle.sq_tree.specs.declared.expr.Sign.TheVariants.{Plus, Minus}
-use Rattle.sq_grammar.specs.Reading.{name, number, listed}
-use Rattle.sq_grammar.specs.Names.{dot, name_behind_dot, table_of, table_name, column_of, column_from, column_reference, indicator, parameter_from, parameter, sign_if_any, signed_number, columns_from, columns, columns_if_any}
+use Rattle.sq_grammar.specs.Reading.{name, number, comma_separated}
+use Rattle.sq_grammar.specs.Names.{dot, name_behind_dot, qualified_table, table_name, column_of, column_from, column_reference, indicator, parameter_from, parameter, sign_if_any, signed_number, columns_from, columns, columns_if_any}
 use Rattle.sq_grammar.proofs.Spells.{Sound, After, sound, built, andthen, eaten, expected, maybe, following, names, numbers, lists}
 
 dot_names : (left : ℕ) → Sound name_behind_dot (optional (λ n. dot ∷ name_tokens n)) (λ _. 0) left
@@ -21,8 +21,8 @@ dot_names left = sound (eaten dot _
 pub table_names : (left : ℕ) → Sound table_name table_name_tokens (λ _. 0) left
 unfolding table_name
 table_names left = sound (andthen name _ (names left) (λ first. maybe name_behind_dot _ (dot_names left)
-    (built (table_of first None) _ _ refl (λ h. h))
-    (λ second. built (table_of first (Some second)) _ _ refl (λ h. h))))
+    (built (qualified_table first None) _ _ refl (λ h. h))
+    (λ second. built (qualified_table first (Some second)) _ _ refl (λ h. h))))
 
 pub columns_behind : (first : Name) (left : ℕ) → After (name_tokens first) 0 left (column_from first) column_reference_tokens (λ _. 0)
 unfolding column_from
@@ -65,7 +65,7 @@ signed_numbers left = sound (andthen sign_if_any _ (signs left) (λ sign. andthe
 
 columns_done : (left : ℕ) → 1 ≤ left → After (lexeme.Symbol symbol.Open ∷ []) 0 left columns_from columns_tokens (λ _. 1)
 unfolding columns_from
-columns_done left room = andthen (listed name) _ (lists name left (names left)) (λ list. expected (lexeme.Symbol symbol.Close) _ (built list _ _ refl (λ h. room)))
+columns_done left room = andthen (comma_separated name) _ (lists name left (names left)) (λ list. expected (lexeme.Symbol symbol.Close) _ (built list _ _ refl (λ h. room)))
 
 pub column_lists : (left : ℕ) → 1 ≤ left → Sound columns columns_tokens (λ _. 1) left
 unfolding columns

@@ -16,7 +16,7 @@ use Rattle.sq_tree.specs.declared.names.Indicator.{Indicator}
 use Rattle.sq_tree.specs.declared.expr.Sign.{Sign}
 use Rattle.sq_tree.specs.declared.expr.Sign.TheVariants.{Plus, Minus}
 use Rattle.sq_tree.specs.declared.expr.SignedNumber.{SignedNumber}
-use Rattle.sq_grammar.specs.Reading.{Tokens, sees, name, listed}
+use Rattle.sq_grammar.specs.Reading.{Tokens, sees, name, comma_separated}
 use Rattle.sq_grammar.specs.Names.{dot, name_behind_dot, table_name, column_from, column_reference, indicator, parameter_from, parameter, sign_if_any, signed_number, columns_from, columns, columns_if_any}
 use Rattle.sq_grammar.proofs.Takes.{Takes, Token, done, plainly, mapped, word, mark, opening, closing, expected, eaten, uneaten, behind_it, one, a_name, named, numbered, flat_commas}
 
@@ -118,7 +118,7 @@ signed_takes n = plainly sign_if_any _ n.sign (sign_takes n.sign refl refl) (num
 
 columns_from_takes : (c : CommaList Name) {a left : ℕ} {rest : Tokens} → Takes columns_from (comma_tokens name_tokens c ++ lexeme.Symbol symbol.Close ∷ []) (suc a) a 0 left c rest
 unfolding columns_from
-columns_from_takes c {a = a} {left = left} = plainly (listed name) _ c (flat_commas name name_tokens (suc a) left (λ _. Unit {0}) (λ x r f. a_name x) (λ r. tt) c _ tt refl) (expected closing _ done)
+columns_from_takes c {a = a} {left = left} = plainly (comma_separated name) _ c (flat_commas name name_tokens (suc a) left (λ _. Unit {0}) (λ x r f. a_name x) (λ r. tt) c _ tt refl) (expected closing _ done)
 
 pub columns_takes : (c : CommaList Name) {a left : ℕ} {rest : Tokens} → Takes columns (columns_tokens c) a a 0 left c rest
 unfolding columns

@@ -20,7 +20,7 @@ use Rattle.sq_tree.proofs.CondDepth.{cond_depth}
 use Rattle.sq_tree.specs.Schema as tree
 use Rattle.sq_tree.proofs.SchemaDepth as depths
 use Rattle.sq_tree.proofs.SchemaNests.{schema_depth-parts}
-use Rattle.sq_grammar.specs.Reading.{eat, one_if_any, name_of, text_of, name, listed, all}
+use Rattle.sq_grammar.specs.Reading.{eat, one_if_any, name_of, text_of, name, comma_separated, all}
 use Rattle.sq_grammar.specs.Names.{table_name, signed_number, columns, columns_if_any}
 use Rattle.sq_grammar.specs.DataType.{data_type}
 use Rattle.sq_grammar.specs.Cond as conditions
@@ -98,7 +98,7 @@ element_sound left room = sound (maybe (one_if_any name_of) _ (a_name left)
 
 table_sound : (left : ℕ) → 2 ≤ left → After (lexeme.Word word.Create ∷ lexeme.Word word.Table ∷ []) 0 left (table_definition (left - 1)) tree.table_definition_tokens depths.table_definition_depth
 unfolding table_definition
-table_sound left room = andthen table_name _ (table_names left) (λ n. expected (lexeme.Symbol symbol.Open) _ (andthen (listed (table_element (left - 1))) _ (lifted left (omega arith) (lists (table_element (left - 1)) (left - 1) (element_sound (left - 1) (omega arith)))) (λ es.
+table_sound left room = andthen table_name _ (table_names left) (λ n. expected (lexeme.Symbol symbol.Open) _ (andthen (comma_separated (table_element (left - 1))) _ (lifted left (omega arith) (lists (table_element (left - 1)) (left - 1) (element_sound (left - 1) (omega arith)))) (λ es.
     expected (lexeme.Symbol symbol.Close) _ (built (record { name = n; elements = es }) _ _ (simp append_assoc) (λ h. omega arith)))))
 
 check_option_sound : (left : ℕ) → Sound check_option (λ o. if_written o (lexeme.Word word.With ∷ lexeme.Word word.Check ∷ lexeme.Word word.Option ∷ [])) (λ _. 0) left
@@ -128,7 +128,7 @@ privileges_sound : (left : ℕ) → 1 ≤ left → Sound privileges tree.privile
 unfolding privileges
 privileges_sound left room = sound (eaten (lexeme.Word word.All) _
     (expected (lexeme.Word word.Privileges) _ (built privilege.All _ _ refl (λ h. omega arith)))
-    (andthen (listed action) _ (lists action left (action_sound left room)) (λ acts. built (privilege.Actions acts) _ _ refl (λ h. omega arith))))
+    (andthen (comma_separated action) _ (lists action left (action_sound left room)) (λ acts. built (privilege.Actions acts) _ _ refl (λ h. omega arith))))
 
 grantee_sound : (left : ℕ) → Sound grantee tree.grantee_tokens (λ _. 0) left
 unfolding grantee
@@ -149,7 +149,7 @@ grant_text head w t gs o =
 grant_sound : (left : ℕ) → 1 ≤ left → After (lexeme.Word word.Grant ∷ []) 0 left grant tree.grant_tokens (λ g. depths.privileges_depth g.privileges)
 unfolding grant
 grant_sound left room = andthen privileges _ (privileges_sound left room) (λ ps. expected (lexeme.Word word.On) _ (andthen (eat (lexeme.Word word.Table)) _ (eats (lexeme.Word word.Table) left) (λ w. andthen table_name _ (table_names left) (λ t.
-    expected (lexeme.Word word.To) _ (andthen (listed grantee) _ (lists grantee left (grantee_sound left)) (λ gs. andthen grant_option _ (grant_option_sound left) (λ o.
+    expected (lexeme.Word word.To) _ (andthen (comma_separated grantee) _ (lists grantee left (grantee_sound left)) (λ gs. andthen grant_option _ (grant_option_sound left) (λ o.
     built (record { privileges = ps; table_word = w; table = t; grantees = gs; grant_option = o }) _ _ (grant_text (lexeme.Word word.Grant ∷ tree.privileges_tokens ps) (if_written w (lexeme.Word word.Table ∷ [])) (table_name_tokens t) (comma_tokens tree.grantee_tokens gs) (if_written o (lexeme.Word word.With ∷ lexeme.Word word.Grant ∷ lexeme.Word word.Option ∷ []))) (λ h. omega arith))))))))
 
 created_sound : (left : ℕ) → 2 ≤ left → Sound (created left (left - 1)) (optional tree.schema_element_tokens) (optional_depth depths.schema_element_depth) left

@@ -30,7 +30,7 @@ use Rattle.sq_tree.specs.declared.schema.Action.{Action}
 use Rattle.sq_tree.specs.declared.schema.Action.TheVariants as actions
 use Rattle.sq_tree.specs.declared.schema.Grantee.{Grantee}
 use Rattle.sq_tree.specs.declared.schema.Grantee.TheVariants as grantees
-use Rattle.sq_grammar.specs.Reading.{Tokens, Parser, sees, name, comma, listed, all}
+use Rattle.sq_grammar.specs.Reading.{Tokens, Parser, sees, name, comma, comma_separated, all}
 use Rattle.sq_grammar.specs.Names.{dot, table_name, columns_if_any}
 use Rattle.sq_grammar.specs.DataType.{data_type}
 use Rattle.sq_grammar.specs.Cond as conditions
@@ -139,7 +139,7 @@ unfolding privileges
 privileges_takes privilege.All room no_open no_comma = eaten (word word.All) _ (expected (word word.Privileges) _ done)
 privileges_takes (privilege.Actions xs) {a = a} {left = left} {rest = rest} room no_open no_comma =
     let items = commas action tree.action_tokens depths.action_depth a left (λ ts. sees (lexeme.Symbol symbol.Open) ts ≡ false) (λ x ts none. action_takes x room none) (λ ts. refl) xs rest no_open no_comma in
-    uneaten _ _ (action_no_all xs.first _ rest) (mapped (listed action) _ xs items refl)
+    uneaten _ _ (action_no_all xs.first _ rest) (mapped (comma_separated action) _ xs items refl)
 
 pub grantee_takes : (g : Grantee) {a left : ℕ} {rest : Tokens} → Takes grantee (tree.grantee_tokens g) a a 0 left g rest
 unfolding grantee
@@ -170,7 +170,7 @@ grant_takes g {a = a} {left = left} {rest = rest} room no_comma no_with =
     (either (word word.Table) g.table_word _ (name_no_table g.table (to ++ option) rest)
     (plainly table_name _ g.table (table_takes g.table refl)
     (expected (word word.To) _
-    (plainly (listed grantee) _ g.grantees each
+    (plainly (comma_separated grantee) _ g.grantees each
     (mapped grant_option _ g.grant_option (grant_option_takes g.grant_option no_with) refl))))))))))
   where
     behind_grantees : (o : Bool) → sees comma (if_written o grant_words ++ rest) ≡ false

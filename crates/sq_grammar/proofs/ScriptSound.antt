@@ -13,9 +13,9 @@ use Rattle.sq_tree.proofs.TreeDepth.{optional_depth}
 use Rattle.sq_tree.specs.Script.{argument_tokens, arguments_tokens, ended_item_tokens, script_tokens, script_depth}
 use Rattle.sq_tree.proofs.ScriptDepth.{arguments_depth, script_item_depth, script_text_depth}
 use Rattle.sq_tree.proofs.ScriptNests.{script_depth-parts}
-use Rattle.sq_grammar.specs.Reading.{name, one_if_any, text_of, listed, all}
+use Rattle.sq_grammar.specs.Reading.{name, one_if_any, text_of, comma_separated, all}
 use Rattle.sq_grammar.specs.Names.{signed_number}
-use Rattle.sq_grammar.specs.Script.{argument, arguments, two_names, call_of, item, script_text}
+use Rattle.sq_grammar.specs.Script.{argument, arguments, two_names, call_word, item, script_text}
 use Rattle.sq_grammar.proofs.Spells.{as_deep, Sound, sound, built, andthen, eaten, expected, maybe, names, a_text, lists, rows, one_maybe}
 use Rattle.sq_grammar.proofs.NamesSound.{signed_numbers}
 
@@ -32,7 +32,7 @@ unfolding arguments
 arguments_sound left room = sound (eaten (lexeme.Symbol symbol.Open) _
     (eaten (lexeme.Symbol symbol.Close) _
     (built Empty _ _ refl (λ h. room))
-    (andthen (listed argument) _ (lists argument left (argument_sound left)) (λ list.
+    (andthen (comma_separated argument) _ (lists argument left (argument_sound left)) (λ list.
     expected (lexeme.Symbol symbol.Close) _ (built (Listed list) _ _ refl (λ h. room)))))
     (built Unwritten _ _ refl (λ h. omega arith)))
 
@@ -40,7 +40,7 @@ two_names_sound : (left : ℕ) → Sound two_names (λ p. lexeme.Name p.0 ∷ le
 unfolding two_names
 two_names_sound left = sound (andthen name _ (names left) (λ first. expected (lexeme.Symbol symbol.Dot) _ (andthen name _ (names left) (λ second. built (first, second) _ _ refl (λ h. omega arith)))))
 
-call_is : (t : Lexeme) (x : Unit {0}) → call_of t ≡ Some x → t ≡ lexeme.Name (codes "CALL")
+call_is : (t : Lexeme) (x : Unit {0}) → call_word t ≡ Some x → t ≡ lexeme.Name (codes "CALL")
 call_is (lexeme.Name n) x e = by (pointwise nat_eq n (codes "CALL")) refl e
   where
     by : (same : Bool) → pointwise nat_eq n (codes "CALL") ≡ same → (let o : Option (Unit {0}) = cond same (Some tt) None in o ≡ Some x) → lexeme.Name n ≡ lexeme.Name (codes "CALL")
@@ -52,7 +52,7 @@ item_sound : (left : ℕ) → 1 ≤ left → Sound item (optional ended_item_tok
 unfolding item
 item_sound left room = sound (eaten (lexeme.Word word.Table) _
     (andthen two_names _ (two_names_sound left) (λ p. expected (lexeme.Symbol symbol.Semicolon) _ (built (Some (Table p.0 p.1)) _ _ refl (λ h. omega arith))))
-    (maybe (one_if_any call_of) _ (one_maybe call_of (λ _. lexeme.Name (codes "CALL")) call_is left)
+    (maybe (one_if_any call_word) _ (one_maybe call_word (λ _. lexeme.Name (codes "CALL")) call_is left)
     (built None _ _ refl (λ h. omega arith))
     (λ x. andthen two_names _ (two_names_sound left) (λ p. andthen arguments _ (arguments_sound left room) (λ list. expected (lexeme.Symbol symbol.Semicolon) _
     (built (Some (Call p.0 p.1 list)) _ _ refl (λ h. omega arith)))))))

@@ -21,9 +21,9 @@ use Rattle.sq_tree.specs.declared.script.Arguments.{Arguments}
 use Rattle.sq_tree.specs.declared.script.Arguments.TheVariants.{Unwritten, Empty, Listed}
 use Rattle.sq_tree.specs.declared.script.Argument.{Argument}
 use Rattle.sq_tree.specs.declared.script.Argument.TheVariants as value
-use Rattle.sq_grammar.specs.Reading.{Tokens, sees, eat, one_if_any, text_of, listed, all}
+use Rattle.sq_grammar.specs.Reading.{Tokens, sees, eat, one_if_any, text_of, comma_separated, all}
 use Rattle.sq_grammar.specs.Names.{signed_number}
-use Rattle.sq_grammar.specs.Script.{by_text, argument, arguments, two_names, call_of, by_call, item, script_text}
+use Rattle.sq_grammar.specs.Script.{by_text, argument, arguments, two_names, call_word, by_call, item, script_text}
 use Rattle.sq_grammar.proofs.Takes.{Takes, done, fits, plainly, mapped, word, mark, opening, closing, expected, eaten, uneaten, met, unmet, named, flat_commas, rows}
 use Rattle.sq_grammar.proofs.NamesTakes.{a_dot, signed_takes}
 
@@ -67,7 +67,7 @@ unfolding arguments
 arguments_takes Unwritten none = uneaten (lexeme.Symbol symbol.Open) _ none done
 arguments_takes Empty none = eaten opening _ (eaten closing _ done)
 arguments_takes (Listed list) {a = a} {left = left} none = eaten opening _ (uneaten (lexeme.Symbol symbol.Close) _ (list_no_close list _ _)
-    (plainly (listed argument) _ list (flat_commas argument argument_tokens (suc a) left (λ _. Unit {0}) (λ x r f. argument_takes x) (λ r. tt) list _ tt refl) (expected closing _ done)))
+    (plainly (comma_separated argument) _ list (flat_commas argument argument_tokens (suc a) left (λ _. Unit {0}) (λ x r f. argument_takes x) (λ r. tt) list _ tt refl) (expected closing _ done)))
 
 -- ---- items
 
@@ -75,14 +75,14 @@ two_names_takes : (first second : Name) {a left : ℕ} {rest : Tokens} → Takes
 unfolding two_names
 two_names_takes first second = named first _ (expected a_dot _ (named second _ done))
 
-call_met : call_of (lexeme.Name (codes "CALL")) ≡ Some tt
+call_met : call_word (lexeme.Name (codes "CALL")) ≡ Some tt
 call_met = refl
 
 -- item ";"
 pub item_takes : (x : ScriptItem) {a left : ℕ} {rest : Tokens} → Takes item (ended_item_tokens x) a a 0 left (Some x) rest
 unfolding item
 item_takes (Table schema table) = eaten (word word.Table) _ (plainly two_names _ (schema, table) {tx = lexeme.Name schema ∷ lexeme.Symbol symbol.Dot ∷ lexeme.Name table ∷ []} {more = lexeme.Symbol symbol.Semicolon ∷ []} (two_names_takes schema table) (expected (mark symbol.Semicolon (λ k. refl)) _ done))
-item_takes (Call «module» procedure list) = uneaten (lexeme.Word word.Table) _ refl (met call_of (lexeme.Name (codes "CALL")) tt call_met (λ k. refl) by_call
+item_takes (Call «module» procedure list) = uneaten (lexeme.Word word.Table) _ refl (met call_word (lexeme.Name (codes "CALL")) tt call_met (λ k. refl) by_call
     (plainly two_names _ («module», procedure) {tx = lexeme.Name «module» ∷ lexeme.Symbol symbol.Dot ∷ lexeme.Name procedure ∷ []} {more = arguments_tokens list ++ lexeme.Symbol symbol.Semicolon ∷ []} (two_names_takes «module» procedure)
     (plainly arguments _ list (arguments_takes list refl) (expected (mark symbol.Semicolon (λ k. refl)) _ done))))
 

@@ -18,7 +18,7 @@ use Rattle.sq_tree.proofs.ExprDepth.{expr_depth}
 use Rattle.sq_tree.specs.Cond.{correlation_tokens, table_reference_tokens, select_list_tokens, group_by_tokens, cond_tokens, table_expression_tokens, query_specification_tokens}
 use Rattle.sq_tree.proofs.CondDepth.{select_list_depth, cond_depth, table_expression_depth, query_specification_depth}
 use Rattle.sq_tree.proofs.CondLaws as law
-use Rattle.sq_grammar.specs.Reading.{Parser, name, name_of, one_if_any, behind, listed}
+use Rattle.sq_grammar.specs.Reading.{Parser, name, name_of, one_if_any, behind, comma_separated}
 use Rattle.sq_grammar.specs.Names.{table_name, column_reference}
 use Rattle.sq_grammar.specs.Expr.{quantifier_if_any}
 use Rattle.sq_grammar.specs.Select.{correlation, table_reference, from_clause, by_columns, group_by, select_list, table_expression, specification}
@@ -40,11 +40,11 @@ table_references left = sound (andthen table_name _ (table_names left) (λ t. an
 
 from_sound : (left : ℕ) → Sound from_clause (λ l. lexeme.Word word.From ∷ comma_tokens table_reference_tokens l) (comma_depth (λ _. 0)) left
 unfolding from_clause
-from_sound left = sound (expected (lexeme.Word word.From) _ (finally (listed table_reference) (lists table_reference left (table_references left)) (λ x. refl) (λ x h i. i)))
+from_sound left = sound (expected (lexeme.Word word.From) _ (finally (comma_separated table_reference) (lists table_reference left (table_references left)) (λ x. refl) (λ x h i. i)))
 
 by_columns_sound : (left : ℕ) → Sound by_columns (λ l. lexeme.Word word.By ∷ comma_tokens column_reference_tokens l) (comma_depth (λ _. 0)) left
 unfolding by_columns
-by_columns_sound left = sound (expected (lexeme.Word word.By) _ (finally (listed column_reference) (lists column_reference left (column_references left)) (λ x. refl) (λ x h i. i)))
+by_columns_sound left = sound (expected (lexeme.Word word.By) _ (finally (comma_separated column_reference) (lists column_reference left (column_references left)) (λ x. refl) (λ x h i. i)))
 
 group_by_sound : (left : ℕ) → Sound group_by (optional group_by_tokens) (optional_depth (comma_depth (λ _. 0))) left
 unfolding group_by
@@ -54,7 +54,7 @@ pub select_list_sound : (left : ℕ) (exprs : Parser Expr) → Sound exprs expr_
 unfolding select_list
 select_list_sound left exprs es = sound (eaten (lexeme.Symbol symbol.Star) _
     (built list.Star _ _ refl (λ h. omega arith))
-    (andthen (listed exprs) _ (lists exprs left es) (λ items. built (list.Items items) _ _ refl (λ h. omega arith))))
+    (andthen (comma_separated exprs) _ (lists exprs left es) (λ items. built (list.Items items) _ _ refl (λ h. omega arith))))
 
 pub table_expression_sound : (left : ℕ) (conds : Parser Cond) → Sound conds cond_tokens cond_depth left → Sound (table_expression conds) table_expression_tokens table_expression_depth left
 unfolding table_expression

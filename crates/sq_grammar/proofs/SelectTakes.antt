@@ -26,7 +26,7 @@ use Rattle.sq_tree.specs.Cond.{correlation_tokens, table_reference_tokens, selec
 use Rattle.sq_tree.proofs.CondDepth.{select_list_depth, cond_depth, table_expression_depth, query_specification_depth}
 use Rattle.sq_tree.proofs.CondLaws as law
 use Rattle.sq_tree.proofs.CondLaws.{where_cond, having_cond}
-use Rattle.sq_grammar.specs.Reading.{Tokens, Parser, sees, first_of, name_of, comma, listed}
+use Rattle.sq_grammar.specs.Reading.{Tokens, Parser, sees, first_of, name_of, comma, comma_separated}
 use Rattle.sq_grammar.specs.Names.{dot, table_name, column_reference}
 use Rattle.sq_grammar.specs.Expr.{quantifier_if_any}
 use Rattle.sq_grammar.specs.Select.{correlation, table_reference, from_clause, by_columns, group_by, select_list, where_clause, having_clause, table_expression, specification}
@@ -130,7 +130,7 @@ module _ (a left : ℕ) (exprs : Parser Expr) (conds : Parser Cond) (room : a �
   list_takes (list.Items items) rest ends no_comma =
       let d = raised_all a expr_depth (expr_depth items.first) items.rest in
       uneaten (lexeme.Symbol symbol.Star) _ (rw (append_assoc (expr_tokens items.first)) (not_star items.first _))
-      (fits (λ h. omega arith) (λ h. omega arith) (mapped (listed exprs) _ items (commas exprs expr_tokens (λ e. a + expr_depth e) a left EndsExpr expr_takes comma_ends items rest ends no_comma) refl))
+      (fits (λ h. omega arith) (λ h. omega arith) (mapped (comma_separated exprs) _ items (commas exprs expr_tokens (λ e. a + expr_depth e) a left EndsExpr expr_takes comma_ends items rest ends no_comma) refl))
 
   table_by : (f : CommaList TableReference) (w : Option Cond) (g : Option (CommaList ColumnReference)) (h : Option Cond) (rest : Tokens) → EndsTable rest →
       Takes (table_expression conds) (lexeme.Word word.From ∷ comma_tokens table_reference_tokens f ++ (optional where_cond w ++ (optional group_by_tokens g ++ optional having_cond h))) a a (a + max (optional_depth cond_depth w) (optional_depth cond_depth h)) left (roll-TableExpression (record { from = f; where_clause = w; group_by = g; having = h })) rest

@@ -18,7 +18,7 @@ use Rattle.sq_tree.specs.Expr.{expr_tokens}
 use Rattle.sq_grammar.specs.declared.cond_or_expr.CondOrExpr.{CondOrExpr}
 use Rattle.sq_grammar.specs.declared.cond_or_expr.CondOrExpr.TheVariants as came
 use Rattle.std.proofs.lemmas.Bool.{eqb-false}
-use Rattle.sq_grammar.specs.Reading.{Tokens, Outcome, Parser, ◌>>=◌, and_then, pure, stuck, eat, expect, opened, sees, rest, one_of, one_if_any, first_of, taken, taken_if_any, name_of, number_of, text_of, name, number, behind, comma, listed, all, many, turn, with_front, end_of, whole}
+use Rattle.sq_grammar.specs.Reading.{Tokens, Outcome, Parser, ◌>>=◌, and_then, pure, stuck, eat, expect, opening_bracket, sees, rest, one_of, one_if_any, first_of, taken, taken_if_any, name_of, number_of, text_of, name, number, behind, comma, comma_separated, all, many, turn, with_front, end_of, whole}
 use Rattle.sq_grammar.proofs.Ranks.{is_token-is}
 
 -- text stands before the rest, with d for its depth
@@ -122,8 +122,8 @@ eats token left = record {
         record { text_is = subst (λ b. ts ≡ if_written b (token ∷ []) ++ after) p.0 p.1; shallow = omega arith }
 
 -- an opening bracket
-pub opens : (n left : ℕ) → Sound (opened n) (λ _. lexeme.Symbol symbol.Open ∷ []) (λ _. 0) left
-unfolding opened
+pub opens : (n left : ℕ) → Sound (opening_bracket n) (λ _. lexeme.Symbol symbol.Open ∷ []) (λ _. 0) left
+unfolding opening_bracket
 opens n left = by (nat_eq n 0)
   where
     by : (none : Bool) → Sound (cond none stuck (expect (lexeme.Symbol symbol.Open))) (λ _. lexeme.Symbol symbol.Open ∷ []) (λ _. 0) left
@@ -239,7 +239,7 @@ behinds {A = A} {text = text} {depth = depth} token p left s = sound (andthen (e
     by true = andthen p _ s (λ x. built (Some x) (token ∷ text x) _ refl (λ h. omega arith))
     by false = built None [] _ refl (λ h. omega arith)
 
-pub lists : {A : Type 0} {text : A → Tokens} {depth : A → ℕ} (item : Parser A) (left : ℕ) → Sound item text depth left → Sound (listed item) (comma_tokens text) (comma_depth depth) left
+pub lists : {A : Type 0} {text : A → Tokens} {depth : A → ℕ} (item : Parser A) (left : ℕ) → Sound item text depth left → Sound (comma_separated item) (comma_tokens text) (comma_depth depth) left
 lists {A = A} {text = text} {depth = depth} item left s =
     sound (andthen item _ s (λ first.
     andthen (all (behind comma item)) _ (rows (behind comma item) (comma_then text) depth left (behinds comma item left s)) (λ more.
@@ -258,8 +258,8 @@ pub expected : {A : Type 0} {text : A → Tokens} {depth : A → ℕ} {left : �
 expected {left = left} token f {d = d} next = andthen (expect token) f (expects token left) (λ x. record { spells = λ ts y rest h e. next.spells ts y rest (omega arith) e })
 
 -- an opening bracket, and then the others, which know that one may be opened
-pub openly : {A : Type 0} {text : A → Tokens} {depth : A → ℕ} {left : ℕ} (n : ℕ) (f : Unit {0} → Parser A) {done : Tokens} {d : ℕ} → (0 < n → After (done ++ lexeme.Symbol symbol.Open ∷ []) d left (f tt) text depth) → After done d left (opened n >>= f) text depth
-unfolding opened
+pub openly : {A : Type 0} {text : A → Tokens} {depth : A → ℕ} {left : ℕ} (n : ℕ) (f : Unit {0} → Parser A) {done : Tokens} {d : ℕ} → (0 < n → After (done ++ lexeme.Symbol symbol.Open ∷ []) d left (f tt) text depth) → After done d left (opening_bracket n >>= f) text depth
+unfolding opening_bracket
 openly {A = A} {text = text} {depth = depth} {left = left} n f {done = done} {d = d} next = record { spells = λ ts y rest h e. by (nat_eq n 0) refl ts y rest h e }
   where
     by : (none : Bool) → nat_eq n 0 ≡ none → (ts : Tokens) (y : A) (rest : Tokens) → d ≤ left → and_then (cond none stuck (expect (lexeme.Symbol symbol.Open)) ts) f ≡ Ok (y, rest) → Spells (done ++ ts) (text y) (depth y) left rest

@@ -23,7 +23,7 @@ use Rattle.sq_tree.specs.Statement.{position_tokens, orientation_tokens, fetch_f
 use Rattle.sq_tree.proofs.StatementDepth.{select_depth, new_value_depth, insert_source_depth, insert_depth, target_depth, assignment_depth, update_depth, delete_depth, statement_depth}
 use Rattle.sq_grammar.specs.declared.verb.Verb.{Verb}
 use Rattle.sq_grammar.specs.declared.verb.Verb.TheVariants as verb
-use Rattle.sq_grammar.specs.Reading.{Parser, eat, one_if_any, name, listed}
+use Rattle.sq_grammar.specs.Reading.{Parser, eat, one_if_any, name, comma_separated}
 use Rattle.sq_grammar.specs.Names.{table_name, parameter, signed_number, columns_if_any}
 use Rattle.sq_grammar.specs.Expr as expressions
 use Rattle.sq_grammar.specs.Expr.{expr, quantifier_if_any}
@@ -70,7 +70,7 @@ fetch_from_sound left = sound (maybe orientation _ (orientation_sound left)
 
 fetch_sound : (left : ℕ) → After (lexeme.Word word.Fetch ∷ []) 0 left fetch fetch_tokens (λ _. 0)
 unfolding fetch
-fetch_sound left = andthen fetch_from _ (fetch_from_sound left) (λ f. andthen name _ (names left) (λ c. expected (lexeme.Word word.Into) _ (andthen (listed parameter) _ (lists parameter left (parameters left)) (λ ts.
+fetch_sound left = andthen fetch_from _ (fetch_from_sound left) (λ f. andthen name _ (names left) (λ c. expected (lexeme.Word word.Into) _ (andthen (comma_separated parameter) _ (lists parameter left (parameters left)) (λ ts.
     built (record { from = f; cursor = c; targets = ts }) _ _ (simp append_assoc) (λ h. omega arith)))))
 
 new_value_sound : (left : ℕ) (exprs : Parser Expr) → Sound exprs expr_tokens expr_depth left → Sound (new_value exprs) new_value_tokens new_value_depth left
@@ -90,13 +90,13 @@ target_sound left = sound (eaten (lexeme.Word word.Where) _
 select_sound : (left : ℕ) → After (lexeme.Word word.Select ∷ []) 0 left (select left) select_tokens select_depth
 unfolding select
 select_sound left = andthen quantifier_if_any _ (quantifiers left) (λ q. andthen (select_list (expr left)) _ (select_list_sound left (expr left) (expr_proof.expr_sound left)) (λ l.
-    expected (lexeme.Word word.Into) _ (andthen (listed parameter) _ (lists parameter left (parameters left)) (λ ts. andthen (table_expression (cond left)) _ (table_expression_sound left (cond left) (cond_sound left)) (λ t.
+    expected (lexeme.Word word.Into) _ (andthen (comma_separated parameter) _ (lists parameter left (parameters left)) (λ ts. andthen (table_expression (cond left)) _ (table_expression_sound left (cond left) (cond_sound left)) (λ t.
     built (record { quantifier = q; list = l; targets = ts; table = t }) _ _ (ap (λ u. u ++ table_expression_tokens t) (sym (append_assoc (lexeme.Word word.Select ∷ optional quantifier_tokens q ++ select_list_tokens l) (lexeme.Word word.Into ∷ []) (comma_tokens parameter_tokens ts)))) (λ h. omega arith))))))
 
 insert_source_sound : (left : ℕ) → 1 ≤ left → Sound (insert_source left) insert_source_tokens insert_source_depth left
 unfolding insert_source
 insert_source_sound left room = sound (eaten (lexeme.Word word.Values) _
-    (expected (lexeme.Symbol symbol.Open) _ (andthen (listed (new_value (expressions.inside left))) _ (lifted left (omega arith) (lists (new_value (expressions.inside left)) (left - 1) (new_value_sound (left - 1) (expressions.inside left) (lowered left (expr_proof.inside_sound left))))) (λ vs.
+    (expected (lexeme.Symbol symbol.Open) _ (andthen (comma_separated (new_value (expressions.inside left))) _ (lifted left (omega arith) (lists (new_value (expressions.inside left)) (left - 1) (new_value_sound (left - 1) (expressions.inside left) (lowered left (expr_proof.inside_sound left))))) (λ vs.
     expected (lexeme.Symbol symbol.Close) _ (built (sources.Values vs) _ _ refl (λ h. omega arith)))))
     (andthen (query_specification left) _ (query_specification_sound left) (λ q. built (sources.Query q) _ _ refl (λ h. omega arith))))
 
@@ -112,7 +112,7 @@ assignment_sound left = sound (andthen name _ (names left) (λ c. expected (lexe
 
 update_sound : (left : ℕ) → After (lexeme.Word word.Update ∷ []) 0 left (update left) update_tokens update_depth
 unfolding update
-update_sound left = andthen table_name _ (table_names left) (λ t. expected (lexeme.Word word.Set) _ (andthen (listed (assignment left)) _ (lists (assignment left) left (assignment_sound left)) (λ xs. andthen (target left) _ (target_sound left) (λ w.
+update_sound left = andthen table_name _ (table_names left) (λ t. expected (lexeme.Word word.Set) _ (andthen (comma_separated (assignment left)) _ (lists (assignment left) left (assignment_sound left)) (λ xs. andthen (target left) _ (target_sound left) (λ w.
     built (record { table = t; assignments = xs; target = w }) _ _ (simp append_assoc) (λ h. omega arith)))))
 
 delete_sound : (left : ℕ) → After (lexeme.Word word.Delete ∷ []) 0 left (delete left) delete_tokens delete_depth

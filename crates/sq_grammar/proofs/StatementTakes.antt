@@ -54,7 +54,7 @@ use Rattle.sq_tree.proofs.StatementDepth.{select_depth, new_value_depth, insert_
 use Rattle.sq_tree.proofs.CondLaws as law
 use Rattle.sq_tree.proofs.CondLaws.{body_cases}
 use Rattle.sq_grammar.specs.declared.verb.Verb.TheVariants as verb
-use Rattle.sq_grammar.specs.Reading.{Tokens, Parser, sees, first_of, comma, listed}
+use Rattle.sq_grammar.specs.Reading.{Tokens, Parser, sees, first_of, comma, comma_separated}
 use Rattle.sq_grammar.specs.Names.{dot, table_name, parameter, signed_number, columns_if_any}
 use Rattle.sq_grammar.specs.Expr as expressions
 use Rattle.sq_grammar.specs.Expr.{expr, quantifier_if_any}
@@ -99,14 +99,14 @@ fetch_from_takes (Some f) cursor {a = a} {left = left} {rest = rest} = by f.orie
     by (Some o) = plainly orientation _ (Some o) (orientation_takes (Some o) refl refl refl) (expected (word word.From) _ done)
 
 -- INTO .., whose word is read already
-pub targets_takes : (targets : CommaList Parameter) {a left : ℕ} {rest : Tokens} → EndsFactor rest → sees comma rest ≡ false → Takes (listed parameter) (comma_tokens parameter_tokens targets) a a 0 left targets rest
+pub targets_takes : (targets : CommaList Parameter) {a left : ℕ} {rest : Tokens} → EndsFactor rest → sees comma rest ≡ false → Takes (comma_separated parameter) (comma_tokens parameter_tokens targets) a a 0 left targets rest
 targets_takes targets {a = a} {left = left} {rest = rest} ends none =
     flat_commas parameter parameter_tokens a left EndsFactor (λ p r e. parameter_takes p e.indicator e.colon) (λ r. record { dot = refl; colon = refl; indicator = refl }) targets rest ends none
 
 -- its first word is read already
 pub fetch_takes : (f : Fetch) {a left : ℕ} {rest : Tokens} → EndsFactor rest → sees comma rest ≡ false → Takes fetch (optional fetch_from_tokens f.from ++ lexeme.Name f.cursor ∷ lexeme.Word word.Into ∷ comma_tokens parameter_tokens f.targets) a a 0 left f rest
 unfolding fetch
-fetch_takes f ends none = plainly fetch_from _ f.from (fetch_from_takes f.from f.cursor) (named f.cursor _ (expected (word word.Into) _ (mapped (listed parameter) _ f.targets (targets_takes f.targets ends none) refl)))
+fetch_takes f ends none = plainly fetch_from _ f.from (fetch_from_takes f.from f.cursor) (named f.cursor _ (expected (word word.Into) _ (mapped (comma_separated parameter) _ f.targets (targets_takes f.targets ends none) refl)))
 
 -- ---- what may follow
 
@@ -211,7 +211,7 @@ unfolding assignment
 assignment_takes left x rest ends = named x.column _ (expected (mark symbol.Equal (λ n. refl)) _ (mapped (new_value (expr left)) _ x.value (new_value_takes (expr left) (λ n. n) (omega arith) (expr_takes left) x.value rest ends) refl))
 
 -- VALUES ( .. ), whose word is read already: a bracket is open before its values
-values_takes : (left : ℕ) → 1 ≤ left → (vs : CommaList NewValue) (rest : Tokens) → Takes (listed (new_value (expressions.inside left))) (comma_tokens new_value_tokens vs) 1 1 (comma_depth new_value_depth vs + 1) left vs (lexeme.Symbol symbol.Close ∷ rest)
+values_takes : (left : ℕ) → 1 ≤ left → (vs : CommaList NewValue) (rest : Tokens) → Takes (comma_separated (new_value (expressions.inside left))) (comma_tokens new_value_tokens vs) 1 1 (comma_depth new_value_depth vs + 1) left vs (lexeme.Symbol symbol.Close ∷ rest)
 values_takes left room vs rest =
     let each = new_value_takes (expressions.inside left) (λ n. suc n) {a = 1} {left = left} room (λ e r ends. inside_takes left e r room ends) in
     let same = deeper_commas new_value_depth vs in
@@ -231,7 +231,7 @@ module _
 
   pub insert_source_takes : (left : ℕ) → 1 ≤ left → (s : InsertSource) (rest : Tokens) → EndsTable rest → Takes (insert_source left) (insert_source_tokens s) 0 0 (insert_source_depth s) left s rest
   unfolding insert_source
-  insert_source_takes left room (sources.Values vs) rest ends = fits (λ h. omega arith) (λ h. omega arith) (eaten (word word.Values) _ (expected opening _ (andthen (listed (new_value (expressions.inside left))) _ vs (values_takes left room vs rest) (expected closing _ done))))
+  insert_source_takes left room (sources.Values vs) rest ends = fits (λ h. omega arith) (λ h. omega arith) (eaten (word word.Values) _ (expected opening _ (andthen (comma_separated (new_value (expressions.inside left))) _ vs (values_takes left room vs rest) (expected closing _ done))))
   insert_source_takes left room (sources.Query q) rest ends = uneaten (lexeme.Word word.Values) _ (no_values q rest) (mapped (query_specification left) _ q (specification_takes left q rest ends) refl)
 
   -- ---- the statements, whose first words are read already
@@ -243,7 +243,7 @@ module _
       rw (append_assoc (first ++ select_list_tokens s.list), append_assoc first (select_list_tokens s.list))
       (plainly quantifier_if_any _ s.quantifier (quantifier_takes s.quantifier (list_starts word.All not_all s.list _ rest) (list_starts word.Distinct not_distinct s.list _ rest))
       (andthen (select_list (expr left)) _ s.list (select_list_takes left s.list _ (into_ends _) refl) (expected (word word.Into) _
-      (plainly (listed parameter) _ s.targets (targets_takes s.targets (from_ends s.table rest) (no_comma_from s.table rest))
+      (plainly (comma_separated parameter) _ s.targets (targets_takes s.targets (from_ends s.table rest) (no_comma_from s.table rest))
       (mapped (table_expression (cond left)) _ s.table (table_expression_takes left s.table rest ends) refl)))))
 
   pub insert_takes : (left : ℕ) → 1 ≤ left → (i : Insert) (rest : Tokens) → EndsTable rest → Takes (insert left) (lexeme.Word word.Into ∷ table_name_tokens i.table ++ optional columns_tokens i.columns ++ insert_source_tokens i.source) 0 0 (insert_depth i) left i rest
@@ -265,7 +265,7 @@ module _
       let sets = commas (assignment left) assignment_tokens assignment_depth 0 left EndsExpr (assignment_takes left) comma_ends u.assignments (optional target_tokens u.target ++ rest) (target_ends u.target rest (table_expr_ends ends)) (target_starts symbol.Comma u.target rest ends.comma) in
       rw (append_assoc (table_name_tokens u.table) (lexeme.Word word.Set ∷ comma_tokens assignment_tokens u.assignments) (optional target_tokens u.target))
       (plainly table_name _ u.table (table_takes u.table refl) (expected (word word.Set) _
-      (andthen (listed (assignment left)) _ u.assignments sets
+      (andthen (comma_separated (assignment left)) _ u.assignments sets
       (mapped (target left) _ u.target (target_takes left u.target rest ends.cond ends.where_word) refl))))
 
   pub delete_takes : (left : ℕ) (d : Delete) (rest : Tokens) → EndsTable rest → Takes (delete left) (lexeme.Word word.From ∷ table_name_tokens d.table ++ optional target_tokens d.target) 0 0 (delete_depth d) left d rest

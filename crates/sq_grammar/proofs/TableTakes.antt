@@ -32,7 +32,7 @@ use Rattle.sq_tree.specs.declared.schema.DefaultValue.{DefaultValue}
 use Rattle.sq_tree.specs.declared.schema.DefaultValue.TheVariants as defaults
 use Rattle.sq_tree.specs.declared.schema.ColumnConstraint.{ColumnConstraint}
 use Rattle.sq_tree.specs.declared.schema.ColumnConstraint.TheVariants as constraints
-use Rattle.sq_grammar.specs.Reading.{Tokens, Parser, sees, first_of, name_of, text_of, comma, listed, all}
+use Rattle.sq_grammar.specs.Reading.{Tokens, Parser, sees, first_of, name_of, text_of, comma, comma_separated, all}
 use Rattle.sq_grammar.specs.Names.{dot, table_name, signed_number, columns, columns_if_any}
 use Rattle.sq_grammar.specs.DataType.{data_type}
 use Rattle.sq_grammar.specs.Cond as conditions
@@ -218,4 +218,4 @@ module _ (data_type_takes : (t : DataType) (a left : ℕ) (rest : Tokens) → se
       let close : Tokens = lexeme.Symbol symbol.Close ∷ rest in
       let items = commas (table_element inner) tree.table_element_tokens depths.table_element_depth 0 inner EndsColumn (table_element_takes inner room) column_comma t.elements close (column_close rest) refl in
       plainly table_name _ t.name (table_takes t.name refl) (expected opening _
-      (fits (λ h. omega arith) (λ h. omega arith) (andthen (listed (table_element inner)) _ t.elements (lifted items) (expected closing _ done))))
+      (fits (λ h. omega arith) (λ h. omega arith) (andthen (comma_separated (table_element inner)) _ t.elements (lifted items) (expected closing _ done))))

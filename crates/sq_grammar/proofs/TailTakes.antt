@@ -28,7 +28,7 @@ use Rattle.sq_tree.proofs.CondDepth.{cond_depth, tail_depth, query_specification
 use Rattle.sq_tree.proofs.CondLaws as law
 use Rattle.sq_grammar.specs.declared.cond_or_expr.CondOrExpr.{CondOrExpr}
 use Rattle.sq_grammar.specs.declared.cond_or_expr.CondOrExpr.TheVariants as came
-use Rattle.sq_grammar.specs.Reading.{Tokens, Parser, sees, rest, behind, listed}
+use Rattle.sq_grammar.specs.Reading.{Tokens, Parser, sees, rest, behind, comma_separated}
 use Rattle.sq_tree.specs.Brackets.{open_after}
 use Rattle.sq_grammar.specs.Expr as expressions
 use Rattle.sq_grammar.specs.Expr.{expr}
@@ -153,7 +153,7 @@ module _ (left : ℕ) (inner : Parser (CondOrExpr Cond))
   in_list_takes n es rest =
       let d = deeper_commas expr_depth es in
       openly _ (omega arith) (λ room. unseeing (sees (lexeme.Word word.Select)) _ _ (rw (append_assoc (comma_tokens expr_tokens es), append_assoc (expr_tokens es.first)) (lacks_select es.first _))
-      (fits (λ h. omega arith) (λ h. omega arith) (andthen (listed (expressions.inside left)) _ es
+      (fits (λ h. omega arith) (λ h. omega arith) (andthen (comma_separated (expressions.inside left)) _ es
       (commas (expressions.inside left) expr_tokens (λ e. suc (expr_depth e)) 1 left EndsExpr (λ e ts f. inside_takes left e ts room f) comma_ends es _ (close_ends rest) refl) (expected closing _ done))))
 
   like_takes : (n : Bool) (p : Expr) (e : Option Expr) (rest : Tokens) → EndsTest rest → Reads (like_tail left inner n) (expr_tokens p ++ optional escape_tokens e) (max (expr_depth p) (optional_depth expr_depth e)) (tails.Like n p e) rest

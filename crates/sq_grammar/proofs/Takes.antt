@@ -19,7 +19,7 @@ use Rattle.sq_tree.specs.List.{comma_tokens, comma_then}
 use Rattle.sq_tree.proofs.ListDepth.{comma_depth}
 use Rattle.sq_tree.specs.declared.list.CommaList.{CommaList}
 use Rattle.sq_lex.specs.Symbol.{symbol_rank}
-use Rattle.sq_grammar.specs.Reading.{Tokens, Outcome, Parser, ◌>>=◌, and_then, pure, stuck, eat, expect, opened, sees, rest, one_of, one_if_any, first_of, taken, taken_if_any, name_of, number_of, name, number, behind, comma, listed, all}
+use Rattle.sq_grammar.specs.Reading.{Tokens, Outcome, Parser, ◌>>=◌, and_then, pure, stuck, eat, expect, opening_bracket, sees, rest, one_of, one_if_any, first_of, taken, taken_if_any, name_of, number_of, name, number, behind, comma, comma_separated, all}
 use Rattle.sq_tree.specs.Brackets.{open_after}
 use Rattle.sq_grammar.proofs.Many.{all-none, all-err, all-some}
 
@@ -235,8 +235,8 @@ numbered n f s = picked number_of (lexeme.Number n) n refl (λ k. refl) f s
 
 -- ---- a bracket that may be one too many
 
-pub openly : {A : Type 0} {left : ℕ} (f : Unit {0} → Parser A) {more : Tokens} {b d : ℕ} {y : A} {rest : Tokens} → 0 < d → (0 < left → Takes (f tt) more 1 b d left y rest) → Takes (opened left >>= f) (lexeme.Symbol symbol.Open ∷ more) 0 b d left y rest
-unfolding opened
+pub openly : {A : Type 0} {left : ℕ} (f : Unit {0} → Parser A) {more : Tokens} {b d : ℕ} {y : A} {rest : Tokens} → 0 < d → (0 < left → Takes (f tt) more 1 b d left y rest) → Takes (opening_bracket left >>= f) (lexeme.Symbol symbol.Open ∷ more) 0 b d left y rest
+unfolding opening_bracket
 openly {left = zero} f {more = more} {rest = rs} h s = record {
   moves = λ i. absurd (omega arith);
   taken = λ i. absurd (omega arith);
@@ -313,7 +313,7 @@ module _ {A : Type 0} (item : Parser A) (tx : A → Tokens) (depth : A → ℕ) 
   comma_long : (x : A) → 0 < length (comma_then tx x)
   comma_long x = omega arith
 
-  pub commas : (list : CommaList A) (rest : Tokens) → Follows rest → sees comma rest ≡ false → Takes (listed item) (comma_tokens tx list) a a (comma_depth depth list) left list rest
+  pub commas : (list : CommaList A) (rest : Tokens) → Follows rest → sees comma rest ≡ false → Takes (comma_separated item) (comma_tokens tx list) a a (comma_depth depth list) left list rest
   commas list rest f none =
       let first = each list.first (flat_map (comma_then tx) list.rest ++ rest) (follows (behind comma item) (comma_then tx) depth a left Follows behind_comma comma_starts comma_long list.rest rest f) in
       let others = rows (behind comma item) (comma_then tx) depth a left Follows behind_comma comma_starts comma_long list.rest rest f (none_behind comma item rest none) in
@@ -330,7 +330,7 @@ no_depth list = let h = zeros list.rest in omega arith
 module _ {A : Type 0} (item : Parser A) (tx : A → Tokens) (a left : ℕ) (Follows : Tokens → Type 0)
     (each : (x : A) (rest : Tokens) → Follows rest → Takes item (tx x) a a 0 left x rest)
     (starts : (rest : Tokens) → Follows (comma ∷ rest)) where
-  pub flat_commas : (list : CommaList A) (rest : Tokens) → Follows rest → sees comma rest ≡ false → Takes (listed item) (comma_tokens tx list) a a 0 left list rest
+  pub flat_commas : (list : CommaList A) (rest : Tokens) → Follows rest → sees comma rest ≡ false → Takes (comma_separated item) (comma_tokens tx list) a a 0 left list rest
   flat_commas list rest f none = let z = no_depth list in fits (λ h. omega arith) (λ h. omega arith) (commas item tx (λ _. 0) a left Follows each starts list rest f none)
 
 -- items that are each one deeper are together one deeper

@@ -21,7 +21,7 @@ use Rattle.sq_tree.specs.declared.cond.Cond.{Cond, roll-Cond}
 use Rattle.sq_tree.specs.declared.cond.QuerySpecification.{QuerySpecification}
 use Rattle.sq_grammar.specs.declared.cond_or_expr.CondOrExpr.{CondOrExpr}
 use Rattle.sq_grammar.specs.declared.cond_or_expr.CondOrExpr.TheVariants as came
-use Rattle.sq_grammar.specs.Reading.{Parser, Tokens, ◌>>=◌, ◌>>◌, pure, stuck, eat_word, expect_word, opened, sees, rest, one_if_any, token_if_any, behind, listed, all}
+use Rattle.sq_grammar.specs.Reading.{Parser, Tokens, ◌>>=◌, ◌>>◌, pure, stuck, eat_word, expect_word, opening_bracket, sees, rest, one_if_any, token_if_any, behind, comma_separated, all}
 use Rattle.sq_grammar.specs.Expr as expressions
 use Rattle.sq_grammar.specs.Expr.{expr, expr_from, close}
 use Rattle.sq_grammar.specs.Select.{specification}
@@ -70,7 +70,7 @@ module _ (left : ℕ) (inner : Parser (CondOrExpr Cond)) where
   -- subquery = "(" specification ")"
   unfoldable pub subquery : Parser QuerySpecification
   subquery = do
-    opened left
+    opening_bracket left
     q ← inner_query
     close
     pure q
@@ -105,7 +105,7 @@ module _ (left : ℕ) (inner : Parser (CondOrExpr Cond)) where
 
   abbrev pub in_list : Bool → Parser Tail
   in_list negated = do
-    es ← listed (expressions.inside left)
+    es ← comma_separated (expressions.inside left)
     close
     pure (tails.InList negated es)
 
@@ -114,7 +114,7 @@ module _ (left : ℕ) (inner : Parser (CondOrExpr Cond)) where
 
   -- IN ( subquery | "(" expr { "," expr } ")" ), whose word is read already
   unfoldable pub in_tail : Bool → Parser Tail
-  in_tail negated = opened left >> in_by negated
+  in_tail negated = opening_bracket left >> in_by negated
 
   -- LIKE expr [ ESCAPE expr ], whose first word is read already
   unfoldable pub like_tail : Bool → Parser Tail
@@ -175,7 +175,7 @@ module _ (left : ℕ) (inner : Parser (CondOrExpr Cond)) where
 
   unfoldable pub bracket : Parser (CondOrExpr Body)
   bracket = do
-    opened left
+    opening_bracket left
     m ← inner
     close
     by_inner m

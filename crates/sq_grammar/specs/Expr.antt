@@ -20,7 +20,7 @@ use Rattle.sq_tree.specs.declared.expr.Term.{Term, roll-Term}
 use Rattle.sq_tree.specs.declared.expr.Factor.{Factor}
 use Rattle.sq_tree.specs.declared.expr.Added.{Added, roll-Added}
 use Rattle.sq_tree.specs.declared.expr.Scaled.{Scaled}
-use Rattle.sq_grammar.specs.Reading.{Parser, ◌>>=◌, ◌>>◌, pure, stuck, eat_symbol, eat_word, expect_symbol, opened, one_if_any, name_of, number_of, text_of, token_if_any, all}
+use Rattle.sq_grammar.specs.Reading.{Parser, ◌>>=◌, ◌>>◌, pure, stuck, eat_symbol, eat_word, expect_symbol, opening_bracket, one_if_any, name_of, number_of, text_of, token_if_any, all}
 use Rattle.sq_grammar.specs.Names.{sign_if_any, column_from, parameter_from}
 
 -- "*" | "/"
@@ -65,13 +65,13 @@ module _ (left : ℕ) (inner : Parser Expr) where
   -- ( COUNT "(" "*" ")" | function "(" [ ALL | DISTINCT ] expr ")" ), whose word is read already
   unfoldable pub set_function : SetFunction → Parser Primary
   set_function f = do
-    opened left
+    opening_bracket left
     star ← star_of f
     argument_of f star
 
   unfoldable pub bracketed : Parser Primary
   bracketed = do
-    opened left
+    opening_bracket left
     e ← inner
     close
     pure (primary.Bracketed e)
@@ -124,14 +124,14 @@ module _ (left : ℕ) (inner : Parser Expr) where
   scaled_by (Some sign) = factor >>= λ f. pure (Some (record { sign = sign; factor = f }))
 
   -- ( "*" | "/" ) factor
-  unfoldable pub scaled : Parser (Option Scaled)
-  scaled = times_if_any >>= scaled_by
+  unfoldable pub scaled_factor : Parser (Option Scaled)
+  scaled_factor = times_if_any >>= scaled_by
 
   -- term = factor { ( "*" | "/" ) factor }
   unfoldable pub term : Parser Term
   term = do
     first ← factor
-    rest ← all scaled
+    rest ← all scaled_factor
     pure (roll-Term (record { first = first; rest = rest }))
 
   abbrev pub added_by : Option Sign → Parser (Option Added)
@@ -139,21 +139,21 @@ module _ (left : ℕ) (inner : Parser Expr) where
   added_by (Some sign) = term >>= λ t. pure (Some (roll-Added (record { sign = sign; term = t })))
 
   -- ( "+" | "-" ) term
-  unfoldable pub added : Parser (Option Added)
-  added = sign_if_any >>= added_by
+  unfoldable pub added_term : Parser (Option Added)
+  added_term = sign_if_any >>= added_by
 
   -- expr = term { ( "+" | "-" ) term }
   unfoldable pub level : Parser Expr
   level = do
     first ← term
-    rest ← all added
+    rest ← all added_term
     pure (roll-Expr (record { first = first; rest = rest }))
 
   -- an expression whose first primary is read already
   unfoldable pub level_from : Primary → Parser Expr
   level_from p = do
-    scaled ← all scaled
-    added ← all added
+    scaled ← all scaled_factor
+    added ← all added_term
     pure (roll-Expr (record {
       first = roll-Term (record {
         first = record { sign = None; primary = p };

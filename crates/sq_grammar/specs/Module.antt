@@ -21,7 +21,7 @@ use Rattle.sq_tree.specs.declared.module.BareDeclaration.{BareDeclaration}
 use Rattle.sq_tree.specs.declared.module.Declaration.{Declaration}
 use Rattle.sq_tree.specs.declared.module.Declaration.TheVariants.{Parameter, Sqlcode, Sqlstate}
 use Rattle.sq_tree.specs.declared.query.Query.{Query}
-use Rattle.sq_grammar.specs.Reading.{Parser, ◌>>=◌, ◌>>◌, pure, stuck, eat_symbol, eat_word, expect_word, expect_symbol, one_if_any, number_of, name, token_if_any, behind, listed, all}
+use Rattle.sq_grammar.specs.Reading.{Parser, ◌>>=◌, ◌>>◌, pure, stuck, eat_symbol, eat_word, expect_word, expect_symbol, one_if_any, number_of, name, token_if_any, behind, comma_separated, all}
 use Rattle.sq_grammar.specs.DataType.{data_type}
 use Rattle.sq_grammar.specs.Query.{query}
 use Rattle.sq_grammar.specs.Statement.{statement}
@@ -66,7 +66,7 @@ bare_declaration = eat_symbol symbol.Comma >>= by_comma
 
 abbrev pub by_open : Bool → Parser Declarations
 by_open true = do
-  ds ← listed declaration
+  ds ← comma_separated declaration
   expect_symbol symbol.Close
   pure (Bracketed ds)
 by_open false = do
@@ -109,7 +109,7 @@ sort_specification = do
 
 -- BY sort { "," sort }
 unfoldable pub by_sorts : Parser (CommaList SortSpecification)
-by_sorts = expect_word word.By >> listed sort_specification
+by_sorts = expect_word word.By >> comma_separated sort_specification
 
 -- [ ORDER BY sort { "," sort } ]
 unfoldable pub order_by : Parser (Option (CommaList SortSpecification))

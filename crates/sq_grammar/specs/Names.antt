@@ -13,7 +13,7 @@ use Rattle.sq_tree.specs.declared.names.Indicator.{Indicator}
 use Rattle.sq_tree.specs.declared.expr.Sign.{Sign}
 use Rattle.sq_tree.specs.declared.expr.Sign.TheVariants.{Plus, Minus}
 use Rattle.sq_tree.specs.declared.expr.SignedNumber.{SignedNumber}
-use Rattle.sq_grammar.specs.Reading.{Parser, ◌>>=◌, ◌>>◌, pure, eat_symbol, eat_word, expect_symbol, token_if_any, name, number, behind, listed}
+use Rattle.sq_grammar.specs.Reading.{Parser, ◌>>=◌, ◌>>◌, pure, eat_symbol, eat_word, expect_symbol, token_if_any, name, number, behind, comma_separated}
 
 abbrev pub dot : Lexeme
 dot = lexeme.Symbol symbol.Dot
@@ -22,21 +22,21 @@ dot = lexeme.Symbol symbol.Dot
 abbrev pub name_behind_dot : Parser (Option Name)
 name_behind_dot = behind dot name
 
-abbrev pub table_of : Name → Option Name → TableName
-table_of first None = record { schema = None; table = first }
-table_of first (Some second) = record { schema = Some first; table = second }
+abbrev pub qualified_table : Name → Option Name → TableName
+qualified_table first None = record { schema = None; table = first }
+qualified_table first (Some second) = record { schema = Some first; table = second }
 
 -- table-name = name [ "." name ]
 unfoldable pub table_name : Parser TableName
 table_name = do
   first ← name
   second ← name_behind_dot
-  pure (table_of first second)
+  pure (qualified_table first second)
 
 abbrev pub column_of : Name → Name → Option Name → ColumnReference
-column_of first second None = record { qualifier = Some (table_of first None); column = second }
+column_of first second None = record { qualifier = Some (qualified_table first None); column = second }
 column_of first second (Some third) = record {
-  qualifier = Some (table_of first (Some second));
+  qualifier = Some (qualified_table first (Some second));
   column = third;
 }
 
@@ -95,7 +95,7 @@ signed_number = do
 -- columns = "(" name { "," name } ")", where the bracket is read already
 unfoldable pub columns_from : Parser (CommaList Name)
 columns_from = do
-  columns ← listed name
+  columns ← comma_separated name
   expect_symbol symbol.Close
   pure columns
 

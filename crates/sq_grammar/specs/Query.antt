@@ -7,7 +7,7 @@ use Rattle.sq_tree.specs.declared.query.QueryTerm.{QueryTerm}
 use Rattle.sq_tree.specs.declared.query.QueryTerm.TheVariants as terms
 use Rattle.sq_tree.specs.declared.query.UnionTerm.{UnionTerm}
 use Rattle.sq_tree.specs.declared.query.Query.{Query, roll-Query}
-use Rattle.sq_grammar.specs.Reading.{Parser, ◌>>=◌, ◌>>◌, pure, stuck, eat_word, opened, sees, behind, all}
+use Rattle.sq_grammar.specs.Reading.{Parser, ◌>>=◌, ◌>>◌, pure, stuck, eat_word, opening_bracket, sees, behind, all}
 use Rattle.sq_grammar.specs.Expr.{close}
 use Rattle.sq_grammar.specs.Cond.{query_specification}
 
@@ -16,7 +16,7 @@ module _ (left : ℕ) (inner : Parser Query) where
   -- "(" query ")"
   unfoldable pub bracketed : Parser Query
   bracketed = do
-    opened left
+    opening_bracket left
     q ← inner
     close
     pure q
@@ -24,12 +24,12 @@ module _ (left : ℕ) (inner : Parser Query) where
   unfoldable pub bracketed_term : Parser QueryTerm
   bracketed_term = bracketed >>= λ q. pure (terms.Bracketed q)
 
-  abbrev pub alone : Parser QueryTerm
-  alone = query_specification left >>= λ s. pure (terms.Specification s)
+  abbrev pub lone_specification : Parser QueryTerm
+  lone_specification = query_specification left >>= λ s. pure (terms.Specification s)
 
   -- query-term = specification | "(" query ")"
   unfoldable pub query_term : Parser QueryTerm
-  query_term = λ ts. (if sees (lexeme.Symbol symbol.Open) ts then bracketed_term else alone) ts
+  query_term = λ ts. (if sees (lexeme.Symbol symbol.Open) ts then bracketed_term else lone_specification) ts
 
   -- UNION [ ALL ] query-term, whose first word is read already
   unfoldable pub union_term : Parser UnionTerm

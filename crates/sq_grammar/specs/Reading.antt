@@ -11,9 +11,7 @@ use Rattle.sq_lex.specs.declared.number.Number.{Number}
 use Rattle.sq_lex.specs.Symbol.{same_symbol}
 use Rattle.sq_lex.specs.Word.{same_word}
 use Rattle.sq_tree.specs.declared.list.CommaList.{CommaList}
-
-abbrev pub Tokens : Type 0
-Tokens = List Lexeme
+pub use Rattle.sq_tree.specs.Tree.{Tokens}
 
 -- What was read and the tokens after it; or how many tokens are left where the next one does not fit.
 abbrev pub Outcome : Type 0 → Type 0
@@ -87,8 +85,8 @@ abbrev pub expect_symbol : Symbol → Parser (Unit {0})
 expect_symbol s = expect (lexeme.Symbol s)
 
 -- Brackets: with no more left to open, the next one does not fit.
-unfoldable pub opened : ℕ → Parser (Unit {0})
-opened left = if nat_eq left 0 then stuck else expect_symbol symbol.Open
+unfoldable pub opening_bracket : ℕ → Parser (Unit {0})
+opening_bracket left = if nat_eq left 0 then stuck else expect_symbol symbol.Open
 
 -- takes the first of these tokens that comes next, and gives what it stands for
 abbrev pub token_if_any : {A : Type 0} → List (Lexeme × A) → Parser (Option A)
@@ -169,8 +167,8 @@ abbrev pub comma : Lexeme
 comma = lexeme.Symbol symbol.Comma
 
 -- item { "," item }
-abbrev pub listed : {A : Type 0} → Parser A → Parser (CommaList A)
-listed item = do
+abbrev pub comma_separated : {A : Type 0} → Parser A → Parser (CommaList A)
+comma_separated item = do
   first ← item
   rest ← all (behind comma item)
   pure (record { first = first; rest = rest })

@@ -27,7 +27,7 @@ use Rattle.sq_tree.specs.declared.schema.Action.{Action}
 use Rattle.sq_tree.specs.declared.schema.Action.TheVariants as actions
 use Rattle.sq_tree.specs.declared.schema.Grantee.{Grantee}
 use Rattle.sq_tree.specs.declared.schema.Grantee.TheVariants as grantees
-use Rattle.sq_grammar.specs.Reading.{Parser, Tokens, ◌>>=◌, ◌>>◌, pure, eat_symbol, eat_word, expect_word, expect_symbol, sees, rest, one_if_any, name_of, text_of, name, behind, listed, all}
+use Rattle.sq_grammar.specs.Reading.{Parser, Tokens, ◌>>=◌, ◌>>◌, pure, eat_symbol, eat_word, expect_word, expect_symbol, sees, rest, one_if_any, name_of, text_of, name, behind, comma_separated, all}
 use Rattle.sq_grammar.specs.Names.{table_name, signed_number, columns, columns_if_any}
 use Rattle.sq_grammar.specs.DataType.{data_type}
 use Rattle.sq_grammar.specs.Cond as conditions
@@ -147,7 +147,7 @@ unfoldable pub table_definition : ℕ → Parser TableDefinition
 table_definition left = do
   n ← table_name
   expect_symbol symbol.Open
-  es ← listed (table_element left)
+  es ← comma_separated (table_element left)
   expect_symbol symbol.Close
   pure (record { name = n; elements = es })
 
@@ -197,7 +197,7 @@ action = eat_word word.Select >>= action_select
 
 abbrev pub by_all : Bool → Parser Privileges
 by_all true = expect_word word.Privileges >> pure privilege.All
-by_all false = listed action >>= λ acts. pure (privilege.Actions acts)
+by_all false = comma_separated action >>= λ acts. pure (privilege.Actions acts)
 
 -- privileges = ALL PRIVILEGES | action { "," action }
 unfoldable pub privileges : Parser Privileges
@@ -230,7 +230,7 @@ grant = do
   w ← eat_word word.Table
   t ← table_name
   expect_word word.To
-  gs ← listed grantee
+  gs ← comma_separated grantee
   o ← grant_option
   pure (record { privileges = ps; table_word = w; table = t; grantees = gs; grant_option = o })
 

@@ -14,7 +14,7 @@ use Rattle.sq_tree.specs.declared.script.Arguments.{Arguments}
 use Rattle.sq_tree.specs.declared.script.Arguments.TheVariants.{Unwritten, Empty, Listed}
 use Rattle.sq_tree.specs.declared.script.Argument.{Argument}
 use Rattle.sq_tree.specs.declared.script.Argument.TheVariants as value
-use Rattle.sq_grammar.specs.Reading.{Parser, ◌>>=◌, ◌>>◌, pure, eat_symbol, eat_word, expect_symbol, one_if_any, text_of, name, listed, all}
+use Rattle.sq_grammar.specs.Reading.{Parser, ◌>>=◌, ◌>>◌, pure, eat_symbol, eat_word, expect_symbol, one_if_any, text_of, name, comma_separated, all}
 use Rattle.sq_grammar.specs.Names.{signed_number}
 
 abbrev pub by_text : Option (List ℕ) → Parser Argument
@@ -32,7 +32,7 @@ argument = eat_symbol symbol.Star >>= by_star
 abbrev pub by_close : Bool → Parser Arguments
 by_close true = pure Empty
 by_close false = do
-  arguments ← listed argument
+  arguments ← comma_separated argument
   expect_symbol symbol.Close
   pure (Listed arguments)
 
@@ -56,8 +56,8 @@ abbrev pub is_call : Lexeme → Bool
 is_call (lexeme.Name n) = pointwise nat_eq n (codes "CALL")
 is_call _ = false
 
-abbrev pub call_of : Lexeme → Option (Unit {0})
-call_of t = if is_call t then Some tt else None
+abbrev pub call_word : Lexeme → Option (Unit {0})
+call_word t = if is_call t then Some tt else None
 
 abbrev pub by_call : Option (Unit {0}) → Parser (Option ScriptItem)
 by_call None = pure None
@@ -72,7 +72,7 @@ by_table true = do
   names ← two_names
   expect_symbol symbol.Semicolon
   pure (Some (Table names.0 names.1))
-by_table false = one_if_any call_of >>= by_call
+by_table false = one_if_any call_word >>= by_call
 
 -- ( CALL name "." name [ .. ] | TABLE name "." name ) ";"
 unfoldable pub item : Parser (Option ScriptItem)

@@ -14,7 +14,7 @@ use Rattle.sq_tree.specs.declared.cond.SelectList.TheVariants as list
 use Rattle.sq_tree.specs.declared.cond.Cond.{Cond}
 use Rattle.sq_tree.specs.declared.cond.TableExpression.{TableExpression, roll-TableExpression}
 use Rattle.sq_tree.specs.declared.cond.QuerySpecification.{QuerySpecification, roll-QuerySpecification}
-use Rattle.sq_grammar.specs.Reading.{Parser, ◌>>=◌, ◌>>◌, pure, eat_symbol, eat_word, expect_word, one_if_any, name_of, name, behind, listed}
+use Rattle.sq_grammar.specs.Reading.{Parser, ◌>>=◌, ◌>>◌, pure, eat_symbol, eat_word, expect_word, one_if_any, name_of, name, behind, comma_separated}
 use Rattle.sq_grammar.specs.Names.{table_name, column_reference}
 use Rattle.sq_grammar.specs.Expr.{quantifier_if_any}
 
@@ -42,11 +42,11 @@ table_reference = do
 
 -- FROM table-ref { "," table-ref }
 unfoldable pub from_clause : Parser (CommaList TableReference)
-from_clause = expect_word word.From >> listed table_reference
+from_clause = expect_word word.From >> comma_separated table_reference
 
 -- BY column-ref { "," column-ref }
 unfoldable pub by_columns : Parser (CommaList ColumnReference)
-by_columns = expect_word word.By >> listed column_reference
+by_columns = expect_word word.By >> comma_separated column_reference
 
 -- [ GROUP BY column-ref { "," column-ref } ]
 unfoldable pub group_by : Parser (Option (CommaList ColumnReference))
@@ -54,7 +54,7 @@ group_by = behind (lexeme.Word word.Group) by_columns
 
 abbrev pub by_star : Parser Expr → Bool → Parser SelectList
 by_star exprs true = pure list.Star
-by_star exprs false = listed exprs >>= λ items. pure (list.Items items)
+by_star exprs false = comma_separated exprs >>= λ items. pure (list.Items items)
 
 -- list = "*" | expr { "," expr }
 unfoldable pub select_list : Parser Expr → Parser SelectList

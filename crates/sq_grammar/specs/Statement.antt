@@ -26,7 +26,7 @@ use Rattle.sq_tree.specs.declared.statement.Where.{Where}
 use Rattle.sq_tree.specs.declared.statement.Where.TheVariants.{Condition, CurrentOf}
 use Rattle.sq_grammar.specs.declared.verb.Verb.{Verb}
 use Rattle.sq_grammar.specs.declared.verb.Verb.TheVariants as verb
-use Rattle.sq_grammar.specs.Reading.{Parser, ◌>>=◌, ◌>>◌, pure, stuck, eat_symbol, eat_word, expect_word, expect_symbol, one_if_any, name, listed}
+use Rattle.sq_grammar.specs.Reading.{Parser, ◌>>=◌, ◌>>◌, pure, stuck, eat_symbol, eat_word, expect_word, expect_symbol, one_if_any, name, comma_separated}
 use Rattle.sq_grammar.specs.Names.{table_name, parameter, signed_number, columns_if_any}
 use Rattle.sq_grammar.specs.Expr as expressions
 use Rattle.sq_grammar.specs.Expr.{expr, quantifier_if_any}
@@ -83,7 +83,7 @@ fetch = do
   f ← fetch_from
   c ← name
   expect_word word.Into
-  targets ← listed parameter
+  targets ← comma_separated parameter
   pure (record { from = f; cursor = c; targets = targets })
 
 abbrev pub by_null : Parser Expr → Bool → Parser NewValue
@@ -117,14 +117,14 @@ select left = do
   q ← quantifier_if_any
   l ← select_list (expr left)
   expect_word word.Into
-  targets ← listed parameter
+  targets ← comma_separated parameter
   t ← table_expression (cond left)
   pure (record { quantifier = q; list = l; targets = targets; table = t })
 
 abbrev pub by_values : ℕ → Bool → Parser InsertSource
 by_values left true = do
   expect_symbol symbol.Open
-  vs ← listed (new_value (expressions.inside left))
+  vs ← comma_separated (new_value (expressions.inside left))
   expect_symbol symbol.Close
   pure (sources.Values vs)
 by_values left false = query_specification left >>= λ s. pure (sources.Query s)
@@ -155,7 +155,7 @@ unfoldable pub update : ℕ → Parser Update
 update left = do
   t ← table_name
   expect_word word.Set
-  sets ← listed (assignment left)
+  sets ← comma_separated (assignment left)
   w ← target left
   pure (record { table = t; assignments = sets; target = w })
 

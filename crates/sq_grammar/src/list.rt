@@ -3,7 +3,7 @@
 
 ghost use Rattle.std.specs.Prelude.{◌≡◌, ◌<◌, ◌≤◌, Option, length, OnOk};
 ghost use Rattle.sq_grammar.specs.List.{Advances, AdvancesIfAny, Follows};
-ghost use Rattle.sq_grammar.specs.Reading.{Parser, all, behind, comma, listed};
+ghost use Rattle.sq_grammar.specs.Reading.{Parser, all, behind, comma, comma_separated};
 ghost use Rattle.sq_grammar.specs.Reads.{Reads};
 
 use crate::reader::Reader;
@@ -43,7 +43,7 @@ pub fn comma_list<T: Drop, P: Fn(&mut Reader<'_>) -> Result<T, Stop>>(
 ) -> Result<CommaList<T>, Stop>
     requires { Advances (P.pre item) (P.post item) }
     ensures value { (parser : Parser T) → Follows parser (P.post item)
-        → Reads (listed parser tokens.old) result tokens.new }
+        → Reads (comma_separated parser tokens.old) result tokens.new }
     ensures shorter { OnOk result (length tokens.new < length tokens.old) }
 {
     let first = match item(tokens) {

@@ -2,7 +2,7 @@
 
 ghost use Rattle.std.specs.Prelude.{◌≡◌, ◌<◌, ◌≤◌, length, OnOk, OnSome, IfOk};
 ghost use Rattle.sq_grammar.specs.Names as spec;
-ghost use Rattle.sq_grammar.specs.Reading.{listed, name};
+ghost use Rattle.sq_grammar.specs.Reading.{comma_separated, name};
 ghost use Rattle.sq_grammar.specs.Reads.{Reads};
 
 use crate::list::comma_list;
@@ -151,7 +151,7 @@ pub fn signed_number(tokens: &mut Reader<'_>) -> Result<SignedNumber, Stop>
 }
 
 fn names(alloc: Global, tokens: &mut Reader<'_>) -> Result<CommaList<Name>, Stop>
-    ensures value { Reads (listed name tokens.old) result tokens.new }
+    ensures value { Reads (comma_separated name tokens.old) result tokens.new }
     ensures shorter { OnOk result (length tokens.new < length tokens.old) }
 {
     comma_list(alloc, tokens, |tokens| tokens.name())

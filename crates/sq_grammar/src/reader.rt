@@ -146,9 +146,9 @@ impl<'a> Reader<'a> {
     }
 
     /// Takes an opening bracket, of which `left` may still be opened.
-    #[tactic(auto, unfolding(crate::specs::Reading::opened))]
+    #[tactic(auto, unfolding(crate::specs::Reading::opening_bracket))]
     pub fn open(&mut self, left: usize) -> Result<(), Stop>
-        ensures value { Reads (spec.opened left self.old) result self.new }
+        ensures value { Reads (spec.opening_bracket left self.old) result self.new }
         ensures shorter { OnOk result (length self.new < length self.old) }
         ensures allowed { OnOk result (0 < left) }
     {

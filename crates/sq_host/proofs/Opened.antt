@@ -3,7 +3,7 @@ use Rattle.std.proofs.Common.{◌≡◌, ℕ, List, Vec, Result, Ok, Err, refl, 
 use Rattle.std.specs.Prelude.{IsErr}
 use Rattle.std.specs.declared.alloc.Global.{Global}
 use Rattle.sq_meaning.specs.Machine.{Program, first_state}
-use Rattle.sq_run.specs.Answer.{opened}
+use Rattle.sq_run.specs.Answer.{accepted_program}
 use Rattle.sq_run.specs.Opens.{IsOfTexts, Opens}
 use Rattle.sq_run.specs.Processor.{Machine}
 use Rattle.sq_run.specs.Texts.{texts}
@@ -29,15 +29,15 @@ is_refused answer (Write bytes) h of_texts = absurd h
 is_refused answer (NoMemory items) h of_texts = absurd of_texts
 
 module _ (row_numbers : ℕ) (schemas modules given_schemas given_modules : List Text) (same_schemas : schemas ≡ given_schemas) (same_modules : modules ≡ given_modules) where
-  of_given : (P : Result Program RunFault → Type 0) → P (opened (texts schemas) (texts modules) row_numbers) → P (opened (texts given_schemas) (texts given_modules) row_numbers)
+  of_given : (P : Result Program RunFault → Type 0) → P (accepted_program (texts schemas) (texts modules) row_numbers) → P (accepted_program (texts given_schemas) (texts given_modules) row_numbers)
   of_given P h =
-      subst (λ s. P (opened (texts s) (texts given_modules) row_numbers)) same_schemas
-      (subst (λ m. P (opened (texts schemas) (texts m) row_numbers)) same_modules h)
+      subst (λ s. P (accepted_program (texts s) (texts given_modules) row_numbers)) same_schemas
+      (subst (λ m. P (accepted_program (texts schemas) (texts m) row_numbers)) same_modules h)
 
-  pub opened_by : (m : Machine) → Opens (opened (texts schemas) (texts modules) row_numbers) (Ok m)
-      → (opened (texts given_schemas) (texts given_modules) row_numbers ≡ Ok m.program) × (m.state ≡ first_state m.program)
-  opened_by m h = is_opened (opened (texts given_schemas) (texts given_modules) row_numbers) m (of_given (λ answer. Opens answer (Ok m)) h)
+  pub opened_by : (m : Machine) → Opens (accepted_program (texts schemas) (texts modules) row_numbers) (Ok m)
+      → (accepted_program (texts given_schemas) (texts given_modules) row_numbers ≡ Ok m.program) × (m.state ≡ first_state m.program)
+  opened_by m h = is_opened (accepted_program (texts given_schemas) (texts given_modules) row_numbers) m (of_given (λ answer. Opens answer (Ok m)) h)
 
-  pub refused_by : (fault : RunFault) → Opens (opened (texts schemas) (texts modules) row_numbers) (Err fault) → IsOfTexts fault
-      → IsErr (opened (texts given_schemas) (texts given_modules) row_numbers)
-  refused_by fault h of_texts = is_refused (opened (texts given_schemas) (texts given_modules) row_numbers) fault (of_given (λ answer. Opens answer (Err fault)) h) of_texts
+  pub refused_by : (fault : RunFault) → Opens (accepted_program (texts schemas) (texts modules) row_numbers) (Err fault) → IsOfTexts fault
+      → IsErr (accepted_program (texts given_schemas) (texts given_modules) row_numbers)
+  refused_by fault h of_texts = is_refused (accepted_program (texts given_schemas) (texts given_modules) row_numbers) fault (of_given (λ answer. Opens answer (Err fault)) h) of_texts

@@ -67,11 +67,11 @@ opened (Some m) = Ok m
 abbrev pub IsOf : ℕ → List Bytes → List Bytes → Option Machine → Type 0
 IsOf row_numbers schemas modules None = ⊥
 IsOf row_numbers schemas modules (Some m) =
-    (run.opened schemas modules row_numbers ≡ Ok m.program) × (m.state ≡ first_state m.program) × AllHold m
+    (run.accepted_program schemas modules row_numbers ≡ Ok m.program) × (m.state ≡ first_state m.program) × AllHold m
 
 -- the texts are refused, as `run` refuses them
 abbrev pub AreRefused : ℕ → List Bytes → List Bytes → Type 0
-AreRefused row_numbers schemas modules = IsErr (run.opened schemas modules row_numbers)
+AreRefused row_numbers schemas modules = IsErr (run.accepted_program schemas modules row_numbers)
 
 abbrev pub IsOutOfBounds : ℕ → Type 0
 IsOutOfBounds row_numbers = (row_numbers ≡ 0) ⊎ (MOST_ROW_NUMBERS < row_numbers)

@@ -1,6 +1,7 @@
 -- Kinds of characters (ISO/IEC 9075:1992, 5.1 <SQL terminal character>, here the bytes 32 to 126 with tab, LF and CR).
 use Rattle.std.specs.Prelude.{ℕ, ◌≤◌, Bool, ◌&&◌, ◌||◌, ◌==◌, nat_le}
 use Rattle.std.specs.Char.{is_ascii_digit, is_ascii_alphabetic}
+pub use Rattle.sq_items.specs.Characters.{blank, point, underscore}
 use Rattle.sq_lex.specs.declared.characters.Class.{Class}
 use Rattle.sq_lex.specs.declared.characters.Class.TheVariants as class
 
@@ -13,22 +14,13 @@ line_feed = 10
 abbrev pub carriage_return : ℕ
 carriage_return = 13
 
-abbrev pub blank : ℕ
-blank = 32
-
-abbrev pub underscore : ℕ
-underscore = 95
-
 -- the last printable character
 abbrev pub tilde : ℕ
 tilde = 126
 
--- the characters that begin a comment, a fraction and a literal
+-- the characters that begin a comment and a literal
 abbrev pub minus : ℕ
 minus = 45
-
-abbrev pub point : ℕ
-point = 46
 
 abbrev pub quote : ℕ
 quote = 39

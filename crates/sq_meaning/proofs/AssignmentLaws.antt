@@ -20,7 +20,7 @@ store_statuses d (Num n) = split (storing.fitted d n)
     split : (o : Option Number) → IsStoreOutcome (storing.number_or_range o) (or_status NumericValueOutOfRange (option_map Num o))
     split None = refl
     split (Some k) = refl
-store_statuses d (Chars t) = split (storing.kept d t)
+store_statuses d (Chars t) = split (storing.kept_text d t)
   where
     split : (o : Option (List ℕ)) → IsStoreOutcome (storing.text_or_too_long o) (or_status TextTooLong (option_map Chars o))
     split None = refl

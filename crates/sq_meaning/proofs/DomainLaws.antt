@@ -36,7 +36,7 @@ use Rattle.sq_meaning.specs.declared.status.Status.{Status}
 use Rattle.sq_meaning.specs.declared.status.Status.TheVariants as status
 use Rattle.sq_meaning.proofs.Bind.{bind_ok}
 use Rattle.sq_meaning.specs.Catalog.{column_domain}
-use Rattle.sq_meaning.specs.Change.{Setting, default_value, domain_at, given_at, given_rows, if_some, new_row, outer_env, reading, replaced, row_env, set_places, stored_row, stored_value, stored_values, updated_row, value_or_default, with_rows, with_values}
+use Rattle.sq_meaning.specs.Change.{Setting, value_of_default, domain_at, given_at, given_rows, if_some, new_row, outer_env, reading_in, replaced, row_env, set_places, stored_row, stored_value, stored_values, updated_row, value_or_default, with_rows, with_values}
 use Rattle.sq_meaning.specs.Constraints.{AreInDomains}
 use Rattle.sq_meaning.specs.Schema.{BaseTable, column_definitions}
 
@@ -152,7 +152,7 @@ abbrev pub IsGiven : BaseTable → ℕ × Value → Type 0
 IsGiven t g = IsInDomain (domain_at t g.0) g.1
 
 stored_in : (s : Setting) (env : Env Item) (d : Domain) (n : NewValue) (w : Value) → stored_value s env d n ≡ Ok w → IsInDomain d w
-stored_in s env d (new_value.Expr e) w h = let b = bind_ok (expr_value (reading s) (expr_of e) env) (assigned d) w h in assigned_in d b.0 w b.2
+stored_in s env d (new_value.Expr e) w h = let b = bind_ok (expr_value (reading_in s) (expr_of e) env) (assigned d) w h in assigned_in d b.0 w b.2
 stored_in s env d new_value.Null w h = assigned_in d value.Null w h
 
 stored_given : (s : Setting) (env : Env Item) (t : BaseTable) (news : List (ℕ × NewValue)) (given : List (ℕ × Value)) → stored_values s env t news ≡ Ok given → Each (IsGiven t) given
@@ -252,7 +252,7 @@ value_in : (s : Setting) (t : BaseTable) (given : List (ℕ × Value)) (c : Colu
 value_in s t given c place w d g e = go (given_at given place) refl e
   where
     go : (o : Option Value) → given_at given place ≡ o → value_or_default s c o ≡ Ok w → IsInDomain (column_domain c) w
-    go None k h = assigned_in (column_domain c) (default_value s.user c.default) w h
+    go None k h = assigned_in (column_domain c) (value_of_default s.user c.default) w h
     go (Some v) k h =
         let same : v ≡ w = cc in
         subst (λ (x : Value). IsInDomain (column_domain c) x) same (subst (λ (x : Domain). IsInDomain x v) d (given_in t given place v g k))
@@ -288,7 +288,7 @@ given_rows_in s t places (source.Values values) given e =
     let same : (b.0 ∷ []) ≡ given = cc in
     subst (Each (Each (IsGiven t))) same (stored_given s (outer_env s) t (zip places (listed values)) b.0 b.1, tt)
 given_rows_in s t places (source.Query q) given e =
-    let found = bind_ok (query_rows_of (reading s) (select_of s.user q) (outer_env s)) _ given e in
+    let found = bind_ok (query_rows_of (reading_in s) (select_of s.user q) (outer_env s)) _ given e in
     let some = bind_ok (if_some found.0) _ given found.2 in
     each_all (λ row. ⊤) (Each (IsGiven t)) (stored_row t places) (λ row g u h. stored_row_in t places row g h) some.0 given (each_true some.0) some.2
 

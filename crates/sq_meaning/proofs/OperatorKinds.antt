@@ -10,7 +10,7 @@ use Rattle.sq_value.specs.Arithmetic.{in_range, at_scale}
 use Rattle.sq_value.specs.Comparison.{is_same}
 use Rattle.sq_value.specs.Domain.{IsOfKind}
 use Rattle.sq_value.specs.Number.{Number}
-use Rattle.sq_value.specs.SetFunctions.{numbers, sum_of as numbers_sum, mean_of, total, extreme, without_nulls, is_null, is_unsurpassed}
+use Rattle.sq_value.specs.SetFunctions.{numbers, sum_of_numbers as numbers_sum, mean_of_numbers, total, extreme, without_nulls, is_null, is_unsurpassed}
 use Rattle.sq_value.specs.Text.{of_length}
 use Rattle.sq_value.specs.declared.domain.Kind.{Kind}
 use Rattle.sq_value.specs.declared.domain.Kind.TheVariants as kind
@@ -157,9 +157,9 @@ sum_of_scale : (s : ℕ) (ns : List Number) → AllByRecursion (λ n. n.scale �
 sum_of_scale s [] h = tt
 sum_of_scale s (n ∷ ns) h = scaled_so n.scale s (with_status arithmetic_status (numbers_sum (n ∷ ns))) h.0 (number_of_scale n.scale (total (n ∷ ns)))
 
-mean_of_scale : (s : ℕ) (ns : List Number) → AllByRecursion (λ n. n.scale ≡ s) ns → Answers (IsOfKind (kind.Num s)) (with_status arithmetic_status (mean_of ns))
+mean_of_scale : (s : ℕ) (ns : List Number) → AllByRecursion (λ n. n.scale ≡ s) ns → Answers (IsOfKind (kind.Num s)) (with_status arithmetic_status (mean_of_numbers ns))
 mean_of_scale s [] h = tt
-mean_of_scale s (n ∷ ns) h = scaled_so n.scale s (with_status arithmetic_status (mean_of (n ∷ ns))) h.0 (number_of_scale n.scale (int_div (total (n ∷ ns)) (pos (length (n ∷ ns)))))
+mean_of_scale s (n ∷ ns) h = scaled_so n.scale s (with_status arithmetic_status (mean_of_numbers (n ∷ ns))) h.0 (number_of_scale n.scale (int_div (total (n ∷ ns)) (pos (length (n ∷ ns)))))
 
 -- the values of a kind of numbers are of one scale
 all_of_scale : (s : ℕ) (vs : List Value) → AllByRecursion (IsOfKind (kind.Num s)) vs → list_all (is_of_scale s) vs ≡ true
@@ -196,7 +196,7 @@ of_values Sum (kind.Num s) vs h =
 of_values Sum (kind.Chars n) vs h = tt
 of_values Sum (kind.Vary n) vs h = tt
 of_values Avg (kind.Num s) vs h =
-    if_one_scale s vs (with_status arithmetic_status (mean_of (numbers vs))) h (mean_of_scale s (numbers vs) (numbers_of_scale s vs h))
+    if_one_scale s vs (with_status arithmetic_status (mean_of_numbers (numbers vs))) h (mean_of_scale s (numbers vs) (numbers_of_scale s vs h))
 of_values Avg (kind.Chars n) vs h = tt
 of_values Avg (kind.Vary n) vs h = tt
 of_values Min c vs h = extreme_of_kind c Least vs h

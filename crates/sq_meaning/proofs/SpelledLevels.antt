@@ -48,7 +48,7 @@ use Rattle.sq_tree.specs.declared.cond.Body.TheBlock.{member-Body, member-Tail, 
 use Rattle.sq_tree.specs.declared.query.QueryTerm.TheBlock as query
 use Rattle.sq_tree.specs.declared.query.QueryTerm.TheBlock.{member-QueryTerm, member-Query}
 use Rattle.sq_meaning.specs.Syntax.{Expr, SelectList, literal, parameter, user, column, count_rows, set_function, added, scaled, bracketed, Cond, Select, compare, between, in_subquery, in_list, like, is_null, exists, conjunction, disjunction, select, conds, union, specification}
-use Rattle.sq_meaning.specs.Spelled.{Named, ExprSeen, expr_levels, CondSeen, cond_levels, QuerySeen, query_levels, number_of, is_distinct_word, with_sign_if, expr_of, term_of, factor_of, primary_of, added_of, scaled_of, reference_of, list_of, listed, listed_if_any, not_if, clause, compared_with, cond_of, conj_of, test_of, body_of, tail_of, select_of, table_expression_of, query_of, query_term_of, union_term_of}
+use Rattle.sq_meaning.specs.Spelled.{Named, ExprSeen, expr_levels, CondSeen, cond_levels, QuerySeen, query_levels, spelled_number, is_distinct_word, with_sign_if, expr_of, term_of, factor_of, primary_of, added_of, scaled_of, reference_of, list_of, listed, listed_if_any, not_if, clause, compared_with, cond_of, conj_of, test_of, body_of, tail_of, select_of, table_expression_of, query_of, query_term_of, union_term_of}
 
 -- ---- a tree that is put together, level by level
 
@@ -92,7 +92,7 @@ pub factor_of-out : (f : Factor) → factor_of f ≡ with_sign_if f.sign (primar
 unfolding factor_of primary_of
 factor_of-out f = refl
 
-pub primary_of-Number : (n : Number) → primary_of (primary.Number n) ≡ literal (value.Num (number_of n))
+pub primary_of-Number : (n : Number) → primary_of (primary.Number n) ≡ literal (value.Num (spelled_number n))
 unfolding primary_of roll-Primary
 primary_of-Number n = ap primary_of (sym (primary.rolls-Number n)) ∙ expr_law member-Primary (layer.Number n)
 

@@ -18,7 +18,7 @@ use Rattle.sq_meaning.specs.declared.status.Status.TheVariants.{NumericValueOutO
 abbrev pub assigned : Domain → Value → Outcome Value
 assigned d Null = Ok Null
 assigned d (Num n) = or_status NumericValueOutOfRange (option_map Num (storing.fitted d n))
-assigned d (Chars t) = or_status TextTooLong (option_map Chars (storing.kept d t))
+assigned d (Chars t) = or_status TextTooLong (option_map Chars (storing.kept_text d t))
 
 -- the value as a parameter of the domain receives it and, where a text was cut, its length before (9.1)
 abbrev pub retrieved_into : Domain → Value → Outcome Retrieved

@@ -27,7 +27,7 @@ use Rattle.sq_meaning.specs.Assignment.{assigned}
 use Rattle.sq_meaning.specs.Environment.{Env, Input, Item, Row, TableName, outermost}
 use Rattle.sq_meaning.specs.Expression.{Reading, user_value, value}
 use Rattle.sq_meaning.specs.Query.{rows}
-use Rattle.sq_meaning.specs.Spelled.{Named, clause, expr_of, listed, select_of, signed_number, table_of}
+use Rattle.sq_meaning.specs.Spelled.{Named, clause, expr_of, listed, select_of, number_with_sign, table_of}
 use Rattle.sq_meaning.specs.Status.{Outcome, and_then, each, well_formed, ◌>>=◌}
 use Rattle.sq_meaning.specs.Syntax.{Clause}
 use Rattle.sq_meaning.specs.Syntax.{absent}
@@ -50,8 +50,8 @@ pub record Setting : Type 0 where
 abbrev pub tables_in : Setting → Tables
 tables_in s = tables_of s.elements
 
-abbrev pub reading : Setting → Reading Named
-reading s = by_name (tables_in s) s.content s.user
+abbrev pub reading_in : Setting → Reading Named
+reading_in s = by_name (tables_in s) s.content s.user
 
 abbrev pub outer_env : Setting → Env Item
 outer_env s = outermost s.inputs s.user
@@ -66,7 +66,7 @@ rows_at s place = (table_at s.content place).rows
 
 -- null is stored as it is
 abbrev pub stored_value : Setting → Env Item → Domain → NewValue → Outcome Value
-stored_value s env d (new_value.Expr e) = value (reading s) (expr_of e) env >>= assigned d
+stored_value s env d (new_value.Expr e) = value (reading_in s) (expr_of e) env >>= assigned d
 stored_value s env d new_value.Null = assigned d value.Null
 
 abbrev pub domain_at : BaseTable → ℕ → Domain
@@ -85,7 +85,7 @@ given_at given place = option_map (λ g. g.1) (find (λ g. g.0 == place) given)
 -- ---- after the change
 
 abbrev pub check_options_met : Setting → Target → List Row → Outcome (Unit {0})
-check_options_met s target rows = all_satisfied (meets_check_option (reading s) (outer_env s) target) rows
+check_options_met s target rows = all_satisfied (meets_check_option (reading_in s) (outer_env s) target) rows
 
 -- a database in which constraints hold of what was changed
 abbrev pub completed_with : Setting → BaseTable → Content → Outcome Content
@@ -124,20 +124,20 @@ given_rows s t places (source.Values values) = do
   row ← stored_values s (outer_env s) t (zip places (listed values))
   Ok (row ∷ [])
 given_rows s t places (source.Query q) = do
-  found ← rows (reading s) (select_of s.user q) (outer_env s)
+  found ← rows (reading_in s) (select_of s.user q) (outer_env s)
   some ← if_some found
   each (stored_row t places) some
 
 -- what a column without a value gets (11.5); USER is the caller
-abbrev pub default_value : Name → Option DefaultValue → Value
-default_value user None = value.Null
-default_value user (Some (default.Number n)) = value.Num (signed_number n)
-default_value user (Some (default.Text characters)) = value.Chars characters
-default_value user (Some default.User) = user_value user
-default_value user (Some default.Null) = value.Null
+abbrev pub value_of_default : Name → Option DefaultValue → Value
+value_of_default user None = value.Null
+value_of_default user (Some (default.Number n)) = value.Num (number_with_sign n)
+value_of_default user (Some (default.Text characters)) = value.Chars characters
+value_of_default user (Some default.User) = user_value user
+value_of_default user (Some default.Null) = value.Null
 
 abbrev pub value_or_default : Setting → ColumnDefinition → Option Value → Outcome Value
-value_or_default s c None = assigned (column_domain c) (default_value s.user c.default)
+value_or_default s c None = assigned (column_domain c) (value_of_default s.user c.default)
 value_or_default s c (Some v) = Ok v
 
 -- a new row: each column has the value that is given for it, or else its default
@@ -177,7 +177,7 @@ which_target s name (Which.numbered n) = searched_target (tables_in s) name abse
 -- the numbers of the rows that are changed; where the search condition keeps none, there is no data
 abbrev pub numbers_changed : Setting → Target → Which → Outcome (List ℕ)
 numbers_changed s target (Which.searched clause) =
-    chosen_numbers (reading s) (outer_env s) target (rows_at s target.place) >>= if_some
+    chosen_numbers (reading_in s) (outer_env s) target (rows_at s target.place) >>= if_some
 numbers_changed s target (Which.numbered n) = Ok (n ∷ [])
 
 abbrev pub is_numbered : List ℕ → Numbered → Bool

@@ -25,7 +25,7 @@ use Rattle.sq_meaning.specs.Query.{rows}
 use Rattle.sq_meaning.specs.QueryExpression.{ordered_rows}
 use Rattle.sq_meaning.specs.Rows.{SortColumn}
 use Rattle.sq_meaning.specs.SortKeys.{sort_columns}
-use Rattle.sq_meaning.specs.Spelled.{cond_of, listed, listed_if_any, signed_number}
+use Rattle.sq_meaning.specs.Spelled.{cond_of, listed, listed_if_any, number_with_sign}
 use Rattle.sq_meaning.specs.Status.{Outcome, ◌>>=◌, or_status}
 use Rattle.sq_meaning.specs.Syntax.{present}
 use Rattle.sq_meaning.specs.Syntax.{absent}
@@ -34,7 +34,7 @@ use Rattle.sq_meaning.specs.Target.{Target, chosen_numbers}
 use Rattle.sq_meaning.specs.declared.status.Status.{Status}
 use Rattle.sq_meaning.specs.declared.status.Status.TheVariants as status
 use Rattle.sq_meaning.specs.Catalog.{base_count, tables_of}
-use Rattle.sq_meaning.specs.Change.{Setting, Which, delete_outcome, insert_outcome, outer_env, reading, rows_at, update_outcome}
+use Rattle.sq_meaning.specs.Change.{Setting, Which, delete_outcome, insert_outcome, outer_env, reading_in, rows_at, update_outcome}
 use Rattle.sq_meaning.specs.Cursor.{CursorState, Fetched, Move, before_numbers, before_rows, fetched, is_open, number_on, off_row}
 use Rattle.sq_meaning.specs.Module.{cursor_named, cursors, declared_parameters, module_named, procedure_named}
 use Rattle.sq_meaning.specs.Parameter.{Parameters, Reply, inputs_of, parameter_named, replied_row, replied_with, started_parameters}
@@ -137,7 +137,7 @@ moved r name state = with_cursor r.state r.in_module.name name state
 
 abbrev pub sorted_query : Running → Cursor → List SortColumn → Outcome (List Row)
 sorted_query r c order =
-    ordered_rows (reading (setting r))
+    ordered_rows (reading_in (setting r))
     (kinds_by_name (tables_of r.program.elements) (surroundings r).parameters)
     (cursor_query (surroundings r) c) order (outer_env (setting r))
 
@@ -159,7 +159,7 @@ numbers_or_rows r c None = do
   found ← cursor_rows r c
   Ok (before_rows found)
 numbers_or_rows r c (Some target) = do
-  numbers ← chosen_numbers (reading (setting r)) (outer_env (setting r)) target
+  numbers ← chosen_numbers (reading_in (setting r)) (outer_env (setting r)) target
       (rows_at (setting r) target.place)
   Ok (before_numbers numbers)
 
@@ -187,7 +187,7 @@ parameter_integer parameters name =
 
 -- the number of ABSOLUTE and RELATIVE, read before any target is set
 abbrev pub position_integer : Parameters → Position → ℤ
-position_integer parameters (position_of.Number n) = (signed_number n).unscaled
+position_integer parameters (position_of.Number n) = (number_with_sign n).unscaled
 position_integer parameters (position_of.Parameter name) = parameter_integer parameters name
 
 abbrev pub move_of : Parameters → Option Orientation → Move
@@ -241,7 +241,7 @@ single_row (row ∷ next ∷ others) = Err status.CardinalityViolation
 
 abbrev pub selected_row : Running → SelectStatement → Outcome Row
 selected_row r s = do
-  found ← rows (reading (setting r)) (select_of_statement r.in_module.authorization s) (outer_env (setting r))
+  found ← rows (reading_in (setting r)) (select_of_statement r.in_module.authorization s) (outer_env (setting r))
   single_row found
 
 abbrev pub select_reply : Running → SelectStatement → Outcome Row → Reply

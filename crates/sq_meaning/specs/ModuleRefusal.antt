@@ -11,7 +11,7 @@ use Rattle.sq_tree.specs.declared.module.ModuleText.{ModuleText}
 use Rattle.sq_meaning.specs.Spelled.{domain_of}
 use Rattle.sq_meaning.specs.Module.{ParameterDeclaration, cursor_in, declarations_of, is_sqlcode, is_sqlstate, opener_count, parameter_declarations, procedure_in}
 use Rattle.sq_meaning.specs.Schema.{has_name_twice, is_among}
-use Rattle.sq_meaning.specs.Words.{first_of, is_some_and}
+use Rattle.sq_meaning.specs.Words.{first_some, is_some_and}
 use Rattle.sq_meaning.specs.declared.refusal.ModuleFault.{ModuleFault}
 use Rattle.sq_meaning.specs.declared.refusal.ModuleFault.TheVariants as module_fault
 
@@ -82,7 +82,7 @@ name_refusal earlier text m =
 
 -- each refusal is looked for over the whole module before the next
 abbrev pub module_refusal : List Name → ℕ → ModuleText → Option ModuleRefusal
-module_refusal earlier text m = first_of (
+module_refusal earlier text m = first_some (
     name_refusal earlier text m
     ∷ at_item text module_fault.TwoProcedures (first_repeated (map procedure_name m.items))
     ∷ at_item text module_fault.TwoCursors (first_repeated (map cursor_name m.items))
@@ -97,4 +97,4 @@ modules_before modules place = map (λ m. m.name) (take place modules)
 -- the first refusal, module by module
 abbrev pub first_module_refusal : List ModuleText → Option ModuleRefusal
 first_module_refusal modules =
-    first_of (map (λ m. module_refusal (modules_before modules m.0) m.0 m.1) (enumerate_from 0 modules))
+    first_some (map (λ m. module_refusal (modules_before modules m.0) m.0 m.1) (enumerate_from 0 modules))

@@ -55,13 +55,13 @@ pub record Retrieval : Type 0 where
   pub assignments : List Assignment
   pub cut : Bool
 
-abbrev pub whole : ℤ → Value
-whole n = value.Num (record { unscaled = n; scale = 0 })
+abbrev pub integer_value : ℤ → Value
+integer_value n = value.Num (record { unscaled = n; scale = 0 })
 
 -- an indicator is set to -1 beside null, to the length before a cut, and otherwise to 0
 abbrev pub indicated : Option Indicator → ℤ → List Assignment
 indicated None n = []
-indicated (Some indicator) n = record { name = indicator.name; value = whole n } ∷ []
+indicated (Some indicator) n = record { name = indicator.name; value = integer_value n } ∷ []
 
 -- null is retrieved beside an indicator alone
 abbrev pub null_retrieved : Parameter → Outcome Retrieval

@@ -26,18 +26,18 @@ use Rattle.sq_meaning.specs.Rows.{product, firsts, classes, same_row}
 
 -- ---- comparison (8.2)
 
-abbrev pub holds : Comparison → Ordering → Bool
-holds Equal = is_eq
-holds NotEqual = is_ne
-holds Less = is_lt
-holds Greater = is_gt
-holds LessOrEqual = is_le
-holds GreaterOrEqual = is_ge
+abbrev pub comparison_holds : Comparison → Ordering → Bool
+comparison_holds Equal = is_eq
+comparison_holds NotEqual = is_ne
+comparison_holds Less = is_lt
+comparison_holds Greater = is_gt
+comparison_holds LessOrEqual = is_le
+comparison_holds GreaterOrEqual = is_ge
 
 -- unknown where a value is null
 abbrev pub truth_of_ordering : Comparison → Option Ordering → Truth
 truth_of_ordering op None = Unknown
-truth_of_ordering op (Some o) = known (holds op o)
+truth_of_ordering op (Some o) = known (comparison_holds op o)
 
 abbrev pub comparison : Comparison → Value → Value → Truth
 comparison op x y = truth_of_ordering op (values_compared x y)

@@ -11,7 +11,7 @@ use Rattle.sq_meaning.specs.Status.{sqlcode, sqlstate}
 use Rattle.sq_meaning.specs.declared.status.Status.{Status}
 use Rattle.sq_meaning.specs.Machine.{Call, Program, State, replied}
 use Rattle.sq_meaning.specs.Parameter.{Assignment, Reply}
-use Rattle.sq_meaning.specs.Run.{Item, after_item}
+use Rattle.sq_meaning.specs.Run.{RunItem, after_item}
 use Rattle.sq_meaning.specs.Schema.{base_place}
 
 abbrev pub Bytes : Type 0
@@ -62,10 +62,10 @@ table_lines name t =
 abbrev pub shown_table : Program → State → TableName → Table
 shown_table p s name = unwrap_or (option_map (table_at s.tables) (base_place p.elements name)) empty
 
-abbrev pub item_lines : Program → State → Item → Bytes
-item_lines p s (Item.call c) = call_line c (replied p s c)
-item_lines p s (Item.show name) = table_lines name (shown_table p s name)
+abbrev pub item_lines : Program → State → RunItem → Bytes
+item_lines p s (RunItem.call c) = call_line c (replied p s c)
+item_lines p s (RunItem.show name) = table_lines name (shown_table p s name)
 
-abbrev pub report : Program → State → List Item → Bytes
+abbrev pub report : Program → State → List RunItem → Bytes
 report p s [] = []
 report p s (i ∷ rest) = item_lines p s i ++ report p (after_item p s i) rest

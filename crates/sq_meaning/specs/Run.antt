@@ -10,14 +10,14 @@ use Rattle.sq_meaning.specs.SchemaRefusal.{elements_of}
 use Rattle.sq_meaning.specs.Script.{argument_values}
 
 -- a call, or a base table that is shown
-pub data Item : Type 0 where
-  call : Call → Item
-  show : TableName → Item
+pub data RunItem : Type 0 where
+  call : Call → RunItem
+  show : TableName → RunItem
 
-abbrev pub item_of_script : ScriptItem → Item
+abbrev pub item_of_script : ScriptItem → RunItem
 item_of_script (script.Call «module» procedure arguments) =
-    Item.call (record { in_module = «module»; procedure = procedure; values = argument_values arguments })
-item_of_script (script.Table user table) = Item.show (record { user = user; name = table })
+    RunItem.call (record { in_module = «module»; procedure = procedure; values = argument_values arguments })
+item_of_script (script.Table user table) = RunItem.show (record { user = user; name = table })
 
 -- what texts say: all schemas, then all modules
 abbrev pub program_of : List SchemaText → List ModuleText → ℕ → Program
@@ -27,10 +27,10 @@ program_of schemas modules row_numbers = record {
   row_numbers = row_numbers;
 }
 
-abbrev pub after_item : Program → State → Item → State
-after_item p s (Item.call c) = stepped p s c
-after_item p s (Item.show name) = s
+abbrev pub after_item : Program → State → RunItem → State
+after_item p s (RunItem.call c) = stepped p s c
+after_item p s (RunItem.show name) = s
 
 -- the state after some items
-abbrev pub after : Program → State → List Item → State
+abbrev pub after : Program → State → List RunItem → State
 after p s items = fold (after_item p) s items

@@ -28,7 +28,7 @@ use Rattle.sq_tree.specs.declared.schema.TableDefinition.{TableDefinition}
 use Rattle.sq_tree.specs.declared.schema.ViewDefinition.{ViewDefinition}
 use Rattle.sq_meaning.specs.Assignment.{assigned}
 use Rattle.sq_meaning.specs.Environment.{TableName, same_name, same_table}
-use Rattle.sq_meaning.specs.Spelled.{cond_of, domain_of, listed, listed_if_any, select_of, signed_number, table_of}
+use Rattle.sq_meaning.specs.Spelled.{cond_of, domain_of, listed, listed_if_any, select_of, number_with_sign, table_of}
 use Rattle.sq_meaning.specs.Tables.{descriptor_of}
 use Rattle.sq_meaning.specs.Tables.{column_names}
 use Rattle.sq_meaning.specs.Binding.{Judged, has_syntax_fault, lacks_privilege}
@@ -141,7 +141,7 @@ nullable_key _ = false
 
 -- what a default clause gives, stored in its column; USER needs 18 characters (own rule)
 abbrev pub is_bad_default : Domain → DefaultValue → Bool
-is_bad_default d (default.Number n) = is_err (assigned d (value.Num (signed_number n)))
+is_bad_default d (default.Number n) = is_err (assigned d (value.Num (number_with_sign n)))
 is_bad_default d (default.Text characters) = is_err (assigned d (value.Chars characters))
 is_bad_default d default.User = nat_lt (domain_length d) 18
 is_bad_default d default.Null = false
@@ -379,8 +379,8 @@ pub record SchemaRefusal : Type 0 where
   pub element : Option ℕ
   pub fault : SchemaFault
 
-abbrev pub refusal_at : Part → SchemaFault → SchemaRefusal
-refusal_at p f = record { text = p.text; schema = p.schema; element = p.number; fault = f }
+abbrev pub part_refusal : Part → SchemaFault → SchemaRefusal
+part_refusal p f = record { text = p.text; schema = p.schema; element = p.number; fault = f }
 
 abbrev pub users_with : List Name → Name → Option SchemaElement → List Name
 users_with users user None = user ∷ users
@@ -393,7 +393,7 @@ elements_with before user (Some e) = with_element before user e
 abbrev pub schema_refusal : List Name → Elements → List Part → Option SchemaRefusal
 schema_refusal users before [] = None
 schema_refusal users before (p ∷ ps) =
-    option_or (option_map (refusal_at p) (part_fault users before p.user p.element))
+    option_or (option_map (part_refusal p) (part_fault users before p.user p.element))
     (schema_refusal (users_with users p.user p.element) (elements_with before p.user p.element) ps)
 
 -- the first refusal of some schema texts

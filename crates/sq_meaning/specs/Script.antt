@@ -15,18 +15,18 @@ use Rattle.sq_tree.specs.declared.script.Arguments.TheVariants as arguments
 use Rattle.sq_tree.specs.declared.script.ScriptItem.{ScriptItem}
 use Rattle.sq_tree.specs.declared.script.ScriptItem.TheVariants as script
 use Rattle.sq_tree.specs.declared.script.ScriptText.{ScriptText}
-use Rattle.sq_meaning.specs.Spelled.{listed, signed_number}
+use Rattle.sq_meaning.specs.Spelled.{listed, number_with_sign}
 use Rattle.sq_meaning.specs.Tables.{Declared}
 use Rattle.sq_meaning.specs.Module.{declared_parameters, module_named, procedure_named}
 use Rattle.sq_meaning.specs.Schema.{Elements, base_place}
-use Rattle.sq_meaning.specs.Words.{first_of}
+use Rattle.sq_meaning.specs.Words.{first_some}
 use Rattle.sq_meaning.specs.declared.refusal.ScriptFault.{ScriptFault}
 use Rattle.sq_meaning.specs.declared.refusal.ScriptFault.TheVariants as script_fault
 
 -- ---- the values that are handed in
 
 abbrev pub argument_value : Argument → Value
-argument_value (argument.Number n) = value.Num (signed_number n)
+argument_value (argument.Number n) = value.Num (number_with_sign n)
 argument_value (argument.Text characters) = value.Chars characters
 argument_value argument.Null = value.Null
 
@@ -80,4 +80,4 @@ item_refusal elements modules i =
 -- the first refusal of a script
 abbrev pub first_script_refusal : Elements → List ModuleText → ScriptText → Option ScriptRefusal
 first_script_refusal elements modules text =
-    first_of (map (item_refusal elements modules) (enumerate_from 0 text.items))
+    first_some (map (item_refusal elements modules) (enumerate_from 0 text.items))

@@ -166,8 +166,8 @@ abbrev pub escape_sites : Known → Around → Option (Expr Named) → List Site
 escape_sites k a None = []
 escape_sites k a (Some e) = text_sites k a e
 
-abbrev pub inside : Around → EnclosingQuery → (functions_allowed : Bool) → Around
-inside a query allowed = record {
+abbrev pub inside_query : Around → EnclosingQuery → (functions_allowed : Bool) → Around
+inside_query a query allowed = record {
   queries = query ∷ a.queries;
   functions_allowed = allowed;
   in_function = false;
@@ -215,10 +215,10 @@ abbrev mutual
   pub select_sites : Known → Around → Select Named → List Site
   select_sites k a (select distinct list from filter by having) =
       map Site.table_read from ++ Site.from_whole from ∷ Site.column_count (list_count k.tables from list) ∷
-      list_sites k (inside a (shown_query from list by having) true) list (is_grouped list by having)
-      ++ clause_sites k (inside a (plain_query from) false) filter
-      ++ map (Site.column_read (inside a (plain_query from) false)) by
-      ++ clause_sites k (inside a (shown_query from list by having) true) having
+      list_sites k (inside_query a (shown_query from list by having) true) list (is_grouped list by having)
+      ++ clause_sites k (inside_query a (plain_query from) false) filter
+      ++ map (Site.column_read (inside_query a (plain_query from) false)) by
+      ++ clause_sites k (inside_query a (shown_query from list by having) true) having
 
 -- outside every query
 abbrev pub outside : Around

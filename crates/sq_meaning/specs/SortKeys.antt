@@ -11,7 +11,7 @@ use Rattle.sq_meaning.specs.Status.{Outcome, ◌>>=◌, each, not_well_formed}
 use Rattle.sq_meaning.specs.Syntax.{Expr, column, all_columns, expressions, Select, select, Query, specification, union}
 use Rattle.sq_meaning.specs.Environment.{same_name}
 use Rattle.sq_meaning.specs.Rows.{SortColumn}
-use Rattle.sq_meaning.specs.Spelled.{Named, whole}
+use Rattle.sq_meaning.specs.Spelled.{Named, spelled_whole}
 use Rattle.sq_meaning.specs.Tables.{Tables, item_of}
 
 -- a select item has a name if it is a column reference, and nothing stands around it
@@ -58,7 +58,7 @@ column_numbered names (Some k) = if nat_le 1 k && nat_le k (length names) then O
 -- a name that is exactly one column's, or a position written without a point, counted from 1
 abbrev pub key_column : List (Option Name) → SortKey → Outcome ℕ
 key_column names (Column name) = only_of (columns_named name names)
-key_column names (Position number) = column_numbered names (whole number)
+key_column names (Position number) = column_numbered names (spelled_whole number)
 
 abbrev pub goes_down : Option SortDirection → Bool
 goes_down None = false

@@ -78,8 +78,8 @@ abbrev pub zero_number : Number
 zero_number = record { unscaled = pos 0; scale = 0 }
 
 -- the number of a literal (5.3); the lexer reads no other spellings than those of numbers
-abbrev pub number_of : List ℕ → Number
-number_of spelling = result_unwrap_or (read spelling) zero_number
+abbrev pub spelled_number : List ℕ → Number
+spelled_number spelling = result_unwrap_or (read spelling) zero_number
 
 abbrev pub has_point : List ℕ → Bool
 has_point spelling = list_any is_point spelling
@@ -89,12 +89,12 @@ signed_by None n = n
 signed_by (Some Plus) n = n
 signed_by (Some Minus) n = negated_number n
 
-abbrev pub signed_number : SignedNumber → Number
-signed_number n = signed_by n.sign (number_of n.number)
+abbrev pub number_with_sign : SignedNumber → Number
+number_with_sign n = signed_by n.sign (spelled_number n.number)
 
 -- the whole number that a precision, a scale or a length is, if it is written without a point
-abbrev pub whole : List ℕ → Option ℕ
-whole spelling = if has_point spelling then None else Some (unsigned_abs (number_of spelling).unscaled)
+abbrev pub spelled_whole : List ℕ → Option ℕ
+spelled_whole spelling = if has_point spelling then None else Some (unsigned_abs (spelled_number spelling).unscaled)
 
 -- a precision is from 1 to 18 and 18 if it is omitted, a scale at most that and 0 if it is omitted (own rule)
 abbrev pub exact_domain : Option ℕ → Option ℕ → Option Domain
@@ -104,11 +104,11 @@ exact_domain _ _ = None
 
 abbrev pub scale_of : Option (List ℕ) → Option ℕ
 scale_of None = Some 0
-scale_of (Some spelling) = whole spelling
+scale_of (Some spelling) = spelled_whole spelling
 
 abbrev pub domain_of_precision : Option Precision → Option Domain
 domain_of_precision None = Some (domain.Numeric 18 0)
-domain_of_precision (Some p) = exact_domain (whole p.precision) (scale_of p.scale)
+domain_of_precision (Some p) = exact_domain (spelled_whole p.precision) (scale_of p.scale)
 
 -- a length is from 1 to 240 (own rule)
 abbrev pub text_domain : (ℕ → Domain) → Option ℕ → Option Domain
@@ -118,7 +118,7 @@ text_domain texts (Some n) = if nat_le 1 n && nat_le n 240 then Some (texts n) e
 -- the length of CHAR is 1
 abbrev pub length_of : Option (List ℕ) → Option ℕ
 length_of None = Some 1
-length_of (Some spelling) = whole spelling
+length_of (Some spelling) = spelled_whole spelling
 
 -- the domain of a data type (6.1); none where its precision, scale or length is none
 abbrev pub domain_of : DataType → Option Domain
@@ -127,7 +127,7 @@ domain_of data_type.Integer = Some domain.Int
 domain_of data_type.Int = Some domain.Int
 domain_of (data_type.Exact word precision) = domain_of_precision precision
 domain_of (data_type.Character word length) = text_domain domain.Char (length_of length)
-domain_of (data_type.Varying word length) = text_domain domain.VarChar (whole length)
+domain_of (data_type.Varying word length) = text_domain domain.VarChar (spelled_whole length)
 
 -- ---- value expressions
 
@@ -142,7 +142,7 @@ E = Expr Named
 -- One level of a tree, with each part seen already.
 
 abbrev primary_level : Primary-F E (Sign × E) E E (TimesSign × E) E → E
-primary_level (layer.Number n) = literal (value.Num (number_of n))
+primary_level (layer.Number n) = literal (value.Num (spelled_number n))
 primary_level (layer.Text characters) = literal (value.Chars characters)
 primary_level (layer.Parameter p) = parameter p
 primary_level layer.User = user

@@ -19,6 +19,6 @@ has_twice same [] = false
 has_twice same (x ∷ xs) = list_any (same x) xs || has_twice same xs
 
 -- the first that is there
-abbrev pub first_of : {A : Type 0} → List (Option A) → Option A
-first_of [] = None
-first_of (x ∷ xs) = option_or x (first_of xs)
+abbrev pub first_some : {A : Type 0} → List (Option A) → Option A
+first_some [] = None
+first_some (x ∷ xs) = option_or x (first_some xs)

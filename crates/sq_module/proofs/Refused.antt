@@ -18,7 +18,7 @@ use Rattle.sq_meaning.specs.Environment.{same_name}
 use Rattle.sq_meaning.specs.Module.{opens, procedure_in}
 use Rattle.sq_meaning.specs.ModuleRefusal.{ModuleRefusal as Refusal, at_item, cursor_name, first_module_refusal, first_repeated, has_bad_parameter, has_status_fault, module_refusal, modules_before, name_refusal, procedure_name}
 use Rattle.sq_meaning.specs.ModuleRefusal as rules
-use Rattle.sq_meaning.specs.Words.{first_of}
+use Rattle.sq_meaning.specs.Words.{first_some}
 use Rattle.sq_meaning.specs.declared.refusal.ModuleFault.{ModuleFault}
 use Rattle.sq_meaning.specs.declared.refusal.ModuleFault.TheVariants as fault
 use Rattle.sq_module.specs.FirstRefusal.{IsFaultAt, IsFaultFor, item_refusal, refusal_of}
@@ -142,15 +142,15 @@ module _ (modules : List ModuleText) where
 
   -- none of the first is refused
   abbrev pub AreTaken : ℕ → Type 0
-  AreTaken i = first_of (map refusal_at (take i numbered)) ≡ None
+  AreTaken i = first_some (map refusal_at (take i numbered)) ≡ None
 
-  first_more : (os : List (Option Refusal)) (o : Option Refusal) → first_of os ≡ None → first_of (os ++ o ∷ []) ≡ o
+  first_more : (os : List (Option Refusal)) (o : Option Refusal) → first_some os ≡ None → first_some (os ++ o ∷ []) ≡ o
   first_more [] o none = or_none o
   first_more (None ∷ os) o none = first_more os o none
   first_more (Some r ∷ os) o none = cc
 
-  first_behind : (os more : List (Option Refusal)) (o : Option Refusal) (r : Refusal) → first_of os ≡ None → o ≡ Some r → first_of (os ++ o ∷ more) ≡ Some r
-  first_behind [] more o r none is = ap (λ (p : Option Refusal). option_or p (first_of more)) is
+  first_behind : (os more : List (Option Refusal)) (o : Option Refusal) (r : Refusal) → first_some os ≡ None → o ≡ Some r → first_some (os ++ o ∷ more) ≡ Some r
+  first_behind [] more o r none is = ap (λ (p : Option Refusal). option_or p (first_some more)) is
   first_behind (None ∷ os) more o r none is = first_behind os more o r none is
   first_behind (Some s ∷ os) more o r none is = cc
 
@@ -178,16 +178,16 @@ module _ (modules : List ModuleText) where
         ∙ map-append refusal_at (take i numbered) ((i, m) ∷ drop (i + 1) numbered)
 
     pub taken_next : AreTaken i → module_refusal keys i m ≡ None → AreTaken (i + 1)
-    taken_next none one = ap first_of taken_more ∙ first_more (map refusal_at (take i numbered)) (refusal_at (i, m)) none ∙ refusal_is ∙ one
+    taken_next none one = ap first_some taken_more ∙ first_more (map refusal_at (take i numbered)) (refusal_at (i, m)) none ∙ refusal_is ∙ one
 
     pub refused_first : AreTaken i → (f : SessionFault) → IsFaultFor (module_refusal keys i m) f → IsFaultFor (first_module_refusal modules) f
     refused_first none NoMemory h = tt
     refused_first none (Refused r) h =
-        ap first_of whole
+        ap first_some whole
         ∙ first_behind (map refusal_at (take i numbered)) (map refusal_at (drop (i + 1) numbered)) (refusal_at (i, m)) _ none (refusal_is ∙ h)
 
   pub all_taken : (i : ℕ) → length modules ≤ i → AreTaken i → first_module_refusal modules ≡ None
   all_taken i past none =
       let as_many : length numbered ≡ length modules = length-enumerate_from 0 modules in
       let all : take i numbered ≡ numbered = take_whole i numbered (omega (arith, past, as_many)) in
-      subst (λ (l : List (ℕ × ModuleText)). first_of (map refusal_at l) ≡ None) all none
+      subst (λ (l : List (ℕ × ModuleText)). first_some (map refusal_at l) ≡ None) all none

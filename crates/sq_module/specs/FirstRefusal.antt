@@ -3,7 +3,7 @@
 use Rattle.std.specs.Prelude.{◌≡◌, ⊤, ℕ, List, [], ◌∷◌, map, position, Option, Some}
 use Rattle.sq_tree.specs.declared.module.ModuleItem.{ModuleItem}
 use Rattle.sq_meaning.specs.ModuleRefusal.{ModuleRefusal as Refusal, at_item, cursor_name, first_repeated, has_bad_parameter, has_status_fault, procedure_name}
-use Rattle.sq_meaning.specs.Words.{first_of}
+use Rattle.sq_meaning.specs.Words.{first_some}
 use Rattle.sq_meaning.specs.declared.refusal.ModuleFault.{ModuleFault}
 use Rattle.sq_meaning.specs.declared.refusal.ModuleFault.TheVariants as fault
 use Rattle.sq_module.specs.Refusal.{has_open_count}
@@ -31,14 +31,14 @@ IsFaultAt text place why So (Refused r) =
 
 -- the first refusal of the items of a module, behind those for their names
 abbrev pub procedure_refusal : ℕ → List ModuleItem → Option Refusal
-procedure_refusal text items = first_of (
+procedure_refusal text items = first_some (
     at_item text fault.OpenCount (position (has_open_count items) items)
     ∷ at_item text fault.StatusParameter (position has_status_fault items)
     ∷ at_item text fault.BadParameter (position has_bad_parameter items) ∷ [])
 
 -- the first refusal of the items of a module
 abbrev pub item_refusal : ℕ → List ModuleItem → Option Refusal
-item_refusal text items = first_of (
+item_refusal text items = first_some (
     at_item text fault.TwoProcedures (first_repeated (map procedure_name items))
     ∷ at_item text fault.TwoCursors (first_repeated (map cursor_name items))
     ∷ procedure_refusal text items ∷ [])

@@ -1,7 +1,7 @@
 //! Grants, behind GRANT: privileges, a table and to whom they are given.
 
 ghost use Rattle.std.specs.Prelude.{◌<◌, ◌≤◌, length, OnOk};
-ghost use Rattle.sq_grammar.specs.Reading.{listed};
+ghost use Rattle.sq_grammar.specs.Reading.{comma_separated};
 ghost use Rattle.sq_grammar.specs.Reads.{Reads};
 ghost use Rattle.sq_grammar.specs.Schema as spec;
 
@@ -36,7 +36,7 @@ fn action(alloc: Global, tokens: &mut Reader<'_>) -> Result<Action, Stop>
 
 /// The privileges that a grant names, with commas between them.
 fn actions(alloc: Global, tokens: &mut Reader<'_>) -> Result<CommaList<Action>, Stop>
-    ensures value { Reads (listed spec.action tokens.old) result tokens.new }
+    ensures value { Reads (comma_separated spec.action tokens.old) result tokens.new }
     ensures shorter { OnOk result (length tokens.new < length tokens.old) }
 {
     comma_list(alloc, tokens, |tokens| action(alloc, tokens))
@@ -71,7 +71,7 @@ fn grantee(tokens: &mut Reader<'_>) -> Result<Grantee, Stop>
 
 /// The users to whom a grant gives its privileges, with commas between them.
 fn grantees(alloc: Global, tokens: &mut Reader<'_>) -> Result<CommaList<Grantee>, Stop>
-    ensures value { Reads (listed spec.grantee tokens.old) result tokens.new }
+    ensures value { Reads (comma_separated spec.grantee tokens.old) result tokens.new }
     ensures shorter { OnOk result (length tokens.new < length tokens.old) }
 {
     comma_list(alloc, tokens, grantee)

@@ -3,7 +3,7 @@
 ghost use Rattle.std.specs.Prelude.{◌≡◌, ◌<◌, ◌≤◌, length, IfOk, OnOk, OnSome};
 ghost use Rattle.sq_grammar.specs.declared.brackets.TheConstants.{MAX_DEPTH};
 ghost use Rattle.sq_grammar.specs.Module as spec;
-ghost use Rattle.sq_grammar.specs.Reading.{all, listed, whole};
+ghost use Rattle.sq_grammar.specs.Reading.{all, comma_separated, whole};
 ghost use Rattle.sq_grammar.specs.Reads.{Reads};
 
 use crate::statement::statement;
@@ -75,7 +75,7 @@ fn bracketed_declarations(
     alloc: Global,
     tokens: &mut Reader<'_>,
 ) -> Result<CommaList<Declaration>, Stop>
-    ensures value { Reads (listed spec.declaration tokens.old) result tokens.new }
+    ensures value { Reads (comma_separated spec.declaration tokens.old) result tokens.new }
     ensures shorter { OnOk result (length tokens.new < length tokens.old) }
 {
     comma_list(alloc, tokens, declaration)
@@ -179,7 +179,7 @@ fn sort_specification(tokens: &mut Reader<'_>) -> Result<SortSpecification, Stop
 }
 
 fn sorts(alloc: Global, tokens: &mut Reader<'_>) -> Result<CommaList<SortSpecification>, Stop>
-    ensures value { Reads (listed spec.sort_specification tokens.old) result tokens.new }
+    ensures value { Reads (comma_separated spec.sort_specification tokens.old) result tokens.new }
     ensures shorter { OnOk result (length tokens.new < length tokens.old) }
 {
     comma_list(alloc, tokens, sort_specification)

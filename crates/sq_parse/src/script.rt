@@ -1,7 +1,7 @@
 //! Script texts.
 
 ghost use Rattle.std.specs.Prelude.{◌≡◌, ◌<◌, ◌≤◌, length, IfOk, OnOk, OnSome};
-ghost use Rattle.sq_grammar.specs.Reading.{all, listed, one_if_any, whole};
+ghost use Rattle.sq_grammar.specs.Reading.{all, comma_separated, one_if_any, whole};
 ghost use Rattle.sq_grammar.specs.Reads.{Reads};
 ghost use Rattle.sq_grammar.specs.Script as spec;
 
@@ -27,7 +27,7 @@ fn argument(alloc: Global, tokens: &mut Reader<'_>) -> Result<Argument, Stop>
 }
 
 fn listed_arguments(alloc: Global, tokens: &mut Reader<'_>) -> Result<CommaList<Argument>, Stop>
-    ensures value { Reads (listed spec.argument tokens.old) result tokens.new }
+    ensures value { Reads (comma_separated spec.argument tokens.old) result tokens.new }
     ensures shorter { OnOk result (length tokens.new < length tokens.old) }
 {
     comma_list(alloc, tokens, |tokens| argument(alloc, tokens))
@@ -77,7 +77,7 @@ fn is_call(lexeme: &Lexeme) -> bool
 /// Takes the name CALL if it comes next.
 #[tactic(auto, unfolding(sq_grammar::specs::Reading::one_if_any))]
 fn call_if_any(tokens: &mut Reader<'_>) -> Option<()>
-    ensures value { one_if_any spec.call_of tokens.old ≡ Ok (result, tokens.new) }
+    ensures value { one_if_any spec.call_word tokens.old ≡ Ok (result, tokens.new) }
     ensures no_longer { length tokens.new ≤ length tokens.old }
 {
     if !is_call(tokens.first()?) {

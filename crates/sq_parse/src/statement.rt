@@ -5,7 +5,7 @@ ghost use Rattle.std.specs.Prelude.{◌≡◌, ◌<◌, ◌≤◌, length, OnOk,
 ghost use Rattle.sq_grammar.specs.declared.brackets.TheConstants.{MAX_DEPTH};
 ghost use Rattle.sq_grammar.specs.Expr as expressions;
 ghost use Rattle.sq_grammar.specs.Names.{parameter};
-ghost use Rattle.sq_grammar.specs.Reading.{listed, one_if_any};
+ghost use Rattle.sq_grammar.specs.Reading.{comma_separated, one_if_any};
 ghost use Rattle.sq_grammar.specs.Reads.{Reads};
 ghost use Rattle.sq_grammar.specs.Statement as spec;
 
@@ -95,7 +95,7 @@ fn fetch_from(tokens: &mut Reader<'_>) -> Result<Option<FetchFrom>, Stop>
 }
 
 fn targets(alloc: Global, tokens: &mut Reader<'_>) -> Result<CommaList<Parameter>, Stop>
-    ensures value { Reads (listed parameter tokens.old) result tokens.new }
+    ensures value { Reads (comma_separated parameter tokens.old) result tokens.new }
     ensures shorter { OnOk result (length tokens.new < length tokens.old) }
 {
     comma_list(alloc, tokens, |tokens| parameter(tokens))
@@ -188,7 +188,7 @@ fn listed_values(
     left: usize,
 ) -> Result<CommaList<NewValue>, Stop>
     requires { 0 < left }
-    ensures value { Reads (listed (spec.new_value (expressions.inside left)) tokens.old) result tokens.new }
+    ensures value { Reads (comma_separated (spec.new_value (expressions.inside left)) tokens.old) result tokens.new }
     ensures shorter { OnOk result (length tokens.new < length tokens.old) }
 {
     comma_list(alloc, tokens, |tokens| listed_value(alloc, tokens, left))
@@ -267,7 +267,7 @@ fn assignments(
     tokens: &mut Reader<'_>,
     left: usize,
 ) -> Result<CommaList<Assignment>, Stop>
-    ensures value { Reads (listed (spec.assignment left) tokens.old) result tokens.new }
+    ensures value { Reads (comma_separated (spec.assignment left) tokens.old) result tokens.new }
     ensures shorter { OnOk result (length tokens.new < length tokens.old) }
 {
     comma_list(alloc, tokens, |tokens| assignment(alloc, tokens, left))

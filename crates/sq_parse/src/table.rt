@@ -2,7 +2,7 @@
 //! already.
 
 ghost use Rattle.std.specs.Prelude.{◌<◌, ◌≤◌, length, IfOk, OnOk, OnSome};
-ghost use Rattle.sq_grammar.specs.Reading.{all, listed};
+ghost use Rattle.sq_grammar.specs.Reading.{all, comma_separated};
 ghost use Rattle.sq_grammar.specs.Reads.{Reads};
 ghost use Rattle.sq_grammar.specs.Schema as spec;
 
@@ -234,7 +234,7 @@ fn table_elements(
     left: usize,
 ) -> Result<CommaList<TableElement>, Stop>
     requires { 0 < left }
-    ensures value { Reads (listed (spec.table_element left) tokens.old) result tokens.new }
+    ensures value { Reads (comma_separated (spec.table_element left) tokens.old) result tokens.new }
     ensures shorter { OnOk result (length tokens.new < length tokens.old) }
 {
     comma_list(alloc, tokens, |tokens| table_element(alloc, tokens, left))

@@ -14,7 +14,7 @@ use Rattle.sq_tree.specs.declared.module.ModuleItem.TheVariants as item
 use Rattle.sq_tree.specs.declared.module.ModuleText.{ModuleText}
 use Rattle.sq_meaning.specs.Schema.{is_among}
 use Rattle.sq_meaning.specs.ModuleRefusal.{ModuleRefusal as Found, at_item, cursor_name, first_module_refusal, first_repeated, has_bad_parameter, has_open_count, has_status_fault, module_refusal, modules_before, name_refusal, procedure_name}
-use Rattle.sq_meaning.specs.Words.{first_of}
+use Rattle.sq_meaning.specs.Words.{first_some}
 use Rattle.sq_meaning.specs.declared.refusal.ModuleFault.{ModuleFault}
 use Rattle.sq_meaning.specs.declared.refusal.ModuleFault.TheVariants as fault
 use Rattle.sq_meaning.specs.Report.{Bytes}
@@ -31,7 +31,7 @@ use Rattle.sq_perform.proofs.Spelled.{is_there, spelled_there, token_there}
 -- ---- a refused item is one of its module
 
 -- what is true of each that may be first is true of the first
-first_has : {A : Type 0} (P : A → Type 0) (os : List (Option A)) → AllByRecursion (λ o. IfSome o P) os → IfSome (first_of os) P
+first_has : {A : Type 0} (P : A → Type 0) (os : List (Option A)) → AllByRecursion (λ o. IfSome o P) os → IfSome (first_some os) P
 first_has P [] all = tt
 first_has P (None ∷ os) all = first_has P os all.1
 first_has P (Some x ∷ os) all = all.0
@@ -114,7 +114,7 @@ record IsRefusedOf (ms : List ModuleText) (n : ℕ) (r : Found) : Type 0 where
   within : Below (length tree.items) r.item
 
 abbrev first_refused : List ModuleText → ℕ → List ModuleText → Option Found
-first_refused all n ms = first_of (map (λ m. module_refusal (modules_before all m.0) m.0 m.1) (enumerate_from n ms))
+first_refused all n ms = first_some (map (λ m. module_refusal (modules_before all m.0) m.0 m.1) (enumerate_from n ms))
 
 refused_of : (all ms : List ModuleText) (n : ℕ) (r : Found) → first_refused all n ms ≡ Some r → IsRefusedOf ms n r
 refused_of all [] n r e = cc

@@ -13,7 +13,7 @@ use Rattle.sq_tree.specs.declared.schema.SchemaDefinition.{SchemaDefinition}
 use Rattle.sq_tree.specs.declared.schema.SchemaElement.{SchemaElement}
 use Rattle.sq_tree.specs.declared.schema.SchemaElement.TheVariants as element
 use Rattle.sq_tree.specs.declared.schema.SchemaText.{SchemaText}
-use Rattle.sq_meaning.specs.SchemaRefusal.{Part, SchemaRefusal as Found, parts_of_schema, parts_of_text, refusal_at, schema_parts}
+use Rattle.sq_meaning.specs.SchemaRefusal.{Part, SchemaRefusal as Found, parts_of_schema, parts_of_text, part_refusal, schema_parts}
 use Rattle.sq_meaning.specs.declared.refusal.SchemaFault.{SchemaFault}
 use Rattle.sq_meaning.specs.Report.{Bytes}
 use Rattle.sq_binding.specs.Catalog.{Catalog, empty}
@@ -88,14 +88,14 @@ parts_there trees =
     )))
 
 -- what is refused is one of the parts
-refused_there : (P : Part → Type 0) (ps : List Part) (c : Catalog) (r : Found) → AllByRecursion P ps → with_parts ps c ≡ Err r → (p : Part) × (f : SchemaFault) × P p × (r ≡ refusal_at p f)
+refused_there : (P : Part → Type 0) (ps : List Part) (c : Catalog) (r : Found) → AllByRecursion P ps → with_parts ps c ≡ Err r → (p : Part) × (f : SchemaFault) × P p × (r ≡ part_refusal p f)
 refused_there P [] c r all e = cc
 refused_there P (p ∷ ps) c r all e = by (λ d. refused_there P ps d r all.1) (with_part c p.user p.element) e
   where
-    by : ((d : Catalog) → with_parts ps d ≡ Err r → (q : Part) × (f : SchemaFault) × P q × (r ≡ refusal_at q f)) → (o : Outcome Catalog)
-        → then_parts (with_parts ps) p o ≡ Err r → (q : Part) × (f : SchemaFault) × P q × (r ≡ refusal_at q f)
+    by : ((d : Catalog) → with_parts ps d ≡ Err r → (q : Part) × (f : SchemaFault) × P q × (r ≡ part_refusal q f)) → (o : Outcome Catalog)
+        → then_parts (with_parts ps) p o ≡ Err r → (q : Part) × (f : SchemaFault) × P q × (r ≡ part_refusal q f)
     by later (Ok d) e = later d e
-    by later (Err f) e = let same : refusal_at p f ≡ r = cc in (p, f, all.0, sym same)
+    by later (Err f) e = let same : part_refusal p f ≡ r = cc in (p, f, all.0, sym same)
 
 part_refused : (trees : List SchemaText) (r : Found) → catalog_of trees ≡ Err r → IsThere trees r.text r.schema r.element
 part_refused trees r e =

@@ -8,7 +8,7 @@ use Rattle.sq_tree.specs.declared.expr.Expr.{Expr}
 use Rattle.sq_tree.specs.declared.expr.Primary.TheVariants as primary
 use Rattle.sq_lex.specs.declared.symbol.Symbol.{Symbol}
 use Rattle.sq_lex.specs.declared.word.Word.{Word}
-use Rattle.sq_grammar.specs.Reading.{Parser, Tokens, first_of, one_if_any, eat, expect, expect_symbol, opened, rest, stuck}
+use Rattle.sq_grammar.specs.Reading.{Parser, Tokens, first_of, one_if_any, eat, expect, expect_symbol, opening_bracket, rest, stuck}
 use Rattle.std.specs.Prelude.{nat_eq}
 use Rattle.sq_lex.specs.declared.symbol.Symbol.TheVariants as symbol
 use Rattle.sq_grammar.specs.Reads.{Stops}
@@ -41,14 +41,14 @@ module _ (left : ℕ) (inner : Parser Expr) (ts : Tokens) where
   unfolding primary_at one_if_any
   at_symbol s e = let is = split ts (lexeme.Symbol s) e in ap (primary_at left inner) is ∙ ap (symbol_primary left inner) (sym is)
 
-none_opened : (left : ℕ) (b : Bool) → nat_eq left 0 ≡ b → opened left [] ≡ Err 0
-unfolding opened expect
+none_opened : (left : ℕ) (b : Bool) → nat_eq left 0 ≡ b → opening_bracket left [] ≡ Err 0
+unfolding opening_bracket expect
 none_opened left true e = ap (λ b. (cond b stuck (expect_symbol symbol.Open)) []) e
 none_opened left false e = ap (λ b. (cond b stuck (expect_symbol symbol.Open)) []) e
 
 none_read : (left : ℕ) (inner : Parser Expr) → Stops (primary_at left inner []) (Unfit 0)
 unfolding primary_at one_if_any eat bracketed
-none_read left inner = stops_here (opened left) _ [] (Unfit 0) (none_opened left (nat_eq left 0) refl)
+none_read left inner = stops_here (opening_bracket left) _ [] (Unfit 0) (none_opened left (nat_eq left 0) refl)
 
 pub at_end : (left : ℕ) (inner : Parser Expr) (ts : Tokens) → first_of Some ts ≡ None → Stops (primary_at left inner ts) (Unfit (length ts))
 at_end left inner [] e = none_read left inner

@@ -202,11 +202,11 @@ impl<F: Fn(Global, &mut Reader<'_>, usize) -> Result<Expr, Stop>> Grammar<F> {
         Ok(Factor { sign, primary })
     }
 
-    #[tactic(auto, unfolding(sq_grammar::specs::Expr::scaled))]
+    #[tactic(auto, unfolding(sq_grammar::specs::Expr::scaled_factor))]
     fn scaled(&self, tokens: &mut Reader<'_>) -> Result<Option<Scaled>, Stop>
         requires { Nests spec.inside self.now.left (F.pre self.now.inner) (F.post self.now.inner) }
         ensures value { Reads
-            (spec.scaled self.now.left (spec.inside self.now.left) tokens.old) result tokens.new }
+            (spec.scaled_factor self.now.left (spec.inside self.now.left) tokens.old) result tokens.new }
         ensures shorter { IfOk result (λ item. OnSome item (length tokens.new < length tokens.old)) }
         ensures no_longer { OnOk result (length tokens.new ≤ length tokens.old) }
     {
@@ -221,7 +221,7 @@ impl<F: Fn(Global, &mut Reader<'_>, usize) -> Result<Expr, Stop>> Grammar<F> {
     fn all_scaled(&self, tokens: &mut Reader<'_>) -> Result<Items<Scaled>, Stop>
         requires { Nests spec.inside self.now.left (F.pre self.now.inner) (F.post self.now.inner) }
         ensures value { Reads
-            (all (spec.scaled self.now.left (spec.inside self.now.left)) tokens.old) result tokens.new }
+            (all (spec.scaled_factor self.now.left (spec.inside self.now.left)) tokens.old) result tokens.new }
         ensures no_longer { OnOk result (length tokens.new ≤ length tokens.old) }
     {
         let mut items = Items::new(self.alloc);
@@ -248,11 +248,11 @@ impl<F: Fn(Global, &mut Reader<'_>, usize) -> Result<Expr, Stop>> Grammar<F> {
         }
     }
 
-    #[tactic(auto, unfolding(sq_grammar::specs::Expr::added))]
+    #[tactic(auto, unfolding(sq_grammar::specs::Expr::added_term))]
     fn added(&self, tokens: &mut Reader<'_>) -> Result<Option<Added>, Stop>
         requires { Nests spec.inside self.now.left (F.pre self.now.inner) (F.post self.now.inner) }
         ensures value { Reads
-            (spec.added self.now.left (spec.inside self.now.left) tokens.old) result tokens.new }
+            (spec.added_term self.now.left (spec.inside self.now.left) tokens.old) result tokens.new }
         ensures shorter { IfOk result (λ item. OnSome item (length tokens.new < length tokens.old)) }
         ensures no_longer { OnOk result (length tokens.new ≤ length tokens.old) }
     {
@@ -267,7 +267,7 @@ impl<F: Fn(Global, &mut Reader<'_>, usize) -> Result<Expr, Stop>> Grammar<F> {
     fn all_added(&self, tokens: &mut Reader<'_>) -> Result<Items<Added>, Stop>
         requires { Nests spec.inside self.now.left (F.pre self.now.inner) (F.post self.now.inner) }
         ensures value { Reads
-            (all (spec.added self.now.left (spec.inside self.now.left)) tokens.old) result tokens.new }
+            (all (spec.added_term self.now.left (spec.inside self.now.left)) tokens.old) result tokens.new }
         ensures no_longer { OnOk result (length tokens.new ≤ length tokens.old) }
     {
         let mut items = Items::new(self.alloc);

@@ -7,7 +7,7 @@ ghost use Rattle.sq_grammar.specs.Cond.{must_be_cond};
 ghost use Rattle.sq_grammar.specs.Expr as expressions;
 ghost use Rattle.sq_phrase.specs.Nests.{Nests};
 ghost use Rattle.sq_grammar.specs.Names.{column_reference};
-ghost use Rattle.sq_grammar.specs.Reading.{listed};
+ghost use Rattle.sq_grammar.specs.Reading.{comma_separated};
 ghost use Rattle.sq_grammar.specs.Reads.{Reads};
 ghost use Rattle.sq_grammar.specs.Select as spec;
 
@@ -53,7 +53,7 @@ fn table_reference(tokens: &mut Reader<'_>) -> Result<TableReference, Stop>
 }
 
 fn tables(alloc: Global, tokens: &mut Reader<'_>) -> Result<CommaList<TableReference>, Stop>
-    ensures value { Reads (listed spec.table_reference tokens.old) result tokens.new }
+    ensures value { Reads (comma_separated spec.table_reference tokens.old) result tokens.new }
     ensures shorter { OnOk result (length tokens.new < length tokens.old) }
 {
     comma_list(alloc, tokens, table_reference)
@@ -72,7 +72,7 @@ fn grouping_columns(
     alloc: Global,
     tokens: &mut Reader<'_>,
 ) -> Result<CommaList<ColumnReference>, Stop>
-    ensures value { Reads (listed column_reference tokens.old) result tokens.new }
+    ensures value { Reads (comma_separated column_reference tokens.old) result tokens.new }
     ensures shorter { OnOk result (length tokens.new < length tokens.old) }
 {
     comma_list(alloc, tokens, |tokens| column_reference(tokens))
@@ -98,7 +98,7 @@ impl<F: Fn(Global, &mut Reader<'_>, usize) -> Result<CondOrExpr<Cond>, Stop>> Gr
     /// A list of expressions behind a bracket.
     pub fn inner_exprs(&self, tokens: &mut Reader<'_>) -> Result<CommaList<Expr>, Stop>
         requires { 0 < self.now.left }
-        ensures value { Reads (listed (expressions.inside self.now.left) tokens.old) result tokens.new }
+        ensures value { Reads (comma_separated (expressions.inside self.now.left) tokens.old) result tokens.new }
         ensures shorter { OnOk result (length tokens.new < length tokens.old) }
     {
         let (alloc, left) = (self.alloc, self.left);

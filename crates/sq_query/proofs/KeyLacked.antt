@@ -4,7 +4,7 @@ use Rattle.std.specs.Prelude.{IsTrue}
 use Rattle.std.specs.List.{AllByRecursion, AllZip, Contains, list_any, zip}
 use Rattle.std.specs.Cmp.Lexicographic.{pointwise}
 use Rattle.sq_lex.specs.declared.name.Name.{Name}
-use Rattle.sq_value.specs.Arithmetic.{compared as numbers_compared}
+use Rattle.sq_value.specs.Arithmetic.{numbers_compared}
 use Rattle.std.specs.Ordering.{is_eq}
 use Rattle.sq_value.specs.Comparison.{is_same, texts_compared}
 use Rattle.sq_value.specs.Domain.{IsOfKind}

@@ -13,7 +13,7 @@ use Rattle.sq_meaning.specs.SchemaRefusal.{SchemaRefusal, first_schema_refusal}
 use Rattle.sq_meaning.specs.Script.{ScriptRefusal, first_script_refusal}
 use Rattle.sq_meaning.specs.Machine.{Program, first_state}
 use Rattle.sq_meaning.specs.Report.{Bytes, report}
-use Rattle.sq_meaning.specs.Run.{Item, item_of_script, program_of}
+use Rattle.sq_meaning.specs.Run.{RunItem, item_of_script, program_of}
 use Rattle.sq_meaning.specs.declared.refusal.ScriptFault.{ScriptFault}
 use Rattle.sq_meaning.specs.declared.refusal.ScriptFault.TheVariants as fault
 use Rattle.sq_perform.specs.Read.{ReadText, module_rule, read_text, refusal_at, refusal_of, schema_rule, script_rule}
@@ -29,7 +29,7 @@ use Rattle.sq_perform.specs.declared.refusal.RunFault.TheVariants.{ModuleRefused
 -- a table machine, and what a script asks of it
 pub record Task : Type 0 where
   pub machine : Program
-  pub items : List Item
+  pub items : List RunItem
 
 -- what the tree of a script asks of a machine
 abbrev pub asked_of : Program → ScriptText → Task
@@ -40,7 +40,7 @@ abbrev pub task_of : List SchemaText → List ModuleText → ScriptText → ℕ 
 task_of schemas modules script row_numbers = asked_of (program_of schemas modules row_numbers) script
 
 -- the lines of these items, from the machine's first state on
-abbrev pub lines : Task → List Item → Bytes
+abbrev pub lines : Task → List RunItem → Bytes
 lines task items = report task.machine (first_state task.machine) items
 
 abbrev pub whole_report : Task → Bytes
@@ -90,14 +90,14 @@ refused_text number token_in what None = refusal_at number what lexed.start
 -- ---- schemas, modules and the script
 
 -- a schema definition or one of its elements is refused at its first token
-abbrev pub schema_refusal : List (ReadText SchemaText) → SchemaRefusal → Refusal
-schema_refusal texts r =
+abbrev pub refused_schema : List (ReadText SchemaText) → SchemaRefusal → Refusal
+refused_schema texts r =
     refused_text r.text (λ tree. refused_part tree r.schema r.element) (Schema (record { fault = r.fault }))
     (slice_get texts r.text)
 
 -- a module, a cursor or a procedure is refused at its first token
-abbrev pub module_refusal : List (ReadText ModuleText) → ModuleRefusal → Refusal
-module_refusal texts r =
+abbrev pub refused_module : List (ReadText ModuleText) → ModuleRefusal → Refusal
+refused_module texts r =
     refused_text r.text (λ tree. refused_start tree r.item) (Module r.fault) (slice_get texts r.text)
 
 abbrev pub script_fault_name : ScriptFault → RefusalName
@@ -106,30 +106,30 @@ script_fault_name fault.UnknownTable = UnknownTable
 script_fault_name fault.BadArguments = BadArguments
 
 -- an item of the script is refused at its first token
-abbrev pub script_refusal : ReadText ScriptText → ScriptRefusal → Refusal
-script_refusal t r =
+abbrev pub refused_script : ReadText ScriptText → ScriptRefusal → Refusal
+refused_script t r =
     refusal_of 0 t.text t.tokens (script_item_start t.tree r.item) (script_fault_name r.fault)
 
 abbrev pub accepted_schemas : List Bytes → Result (List SchemaText) Refusal
 accepted_schemas schemas = do
   texts ← read_texts schema_rule 0 schemas
-  accepted_unless (option_map (schema_refusal texts) (first_schema_refusal (trees_of texts))) (trees_of texts)
+  accepted_unless (option_map (refused_schema texts) (first_schema_refusal (trees_of texts))) (trees_of texts)
 
 abbrev pub accepted_modules : List Bytes → Result (List ModuleText) Refusal
 accepted_modules modules = do
   texts ← read_texts module_rule 0 modules
-  accepted_unless (option_map (module_refusal texts) (first_module_refusal (trees_of texts))) (trees_of texts)
+  accepted_unless (option_map (refused_module texts) (first_module_refusal (trees_of texts))) (trees_of texts)
 
 abbrev pub accepted_script : Elements → List ModuleText → Bytes → Result ScriptText Refusal
 accepted_script elements modules script = do
   text ← read_text script_rule 0 script
-  accepted_unless (option_map (script_refusal text) (first_script_refusal elements modules text.tree)) text.tree
+  accepted_unless (option_map (refused_script text) (first_script_refusal elements modules text.tree)) text.tree
 
 -- ---- all texts
 
 -- schema texts, module texts, and the greatest number of a row
-abbrev pub opened : List Bytes → List Bytes → ℕ → Result Program RunFault
-opened schemas modules row_numbers = do
+abbrev pub accepted_program : List Bytes → List Bytes → ℕ → Result Program RunFault
+accepted_program schemas modules row_numbers = do
   schema_trees ← refused_as SchemaRefused (accepted_schemas schemas)
   module_trees ← refused_as ModuleRefused (accepted_modules modules)
   Ok (program_of schema_trees module_trees row_numbers)
@@ -137,6 +137,6 @@ opened schemas modules row_numbers = do
 -- the same and a script
 abbrev pub answered : List Bytes → List Bytes → Bytes → ℕ → Result Task RunFault
 answered schemas modules script row_numbers = do
-  machine ← opened schemas modules row_numbers
+  machine ← accepted_program schemas modules row_numbers
   tree ← refused_as ScriptRefused (accepted_script machine.elements machine.modules script)
   Ok (asked_of machine tree)

@@ -13,7 +13,7 @@ use Rattle.sq_meaning.specs.Target.{Target}
 use Rattle.sq_meaning.specs.Cursor.{CursorState}
 use Rattle.sq_meaning.specs.Machine.{Call, Program, State, cursor_at, replied, stepped}
 use Rattle.sq_meaning.specs.Module.{cursor_named, module_named, procedure_named}
-use Rattle.sq_meaning.specs.Run.{Item}
+use Rattle.sq_meaning.specs.Run.{RunItem}
 use Rattle.sq_meaning.specs.Schema.{Elements}
 use Rattle.sq_meaning.specs.WellFormedStatement.{updatable_cursor}
 use Rattle.sq_run.specs.Confined.{LookAlike}
@@ -62,7 +62,7 @@ is_of_cursor _ = false
 -- afterwards, whatever items led to the one and to the other.
 unfoldable pub CursorsTellWhatMayBeRead : Program → Type 0
 CursorsTellWhatMayBeRead p =
-    (items others : List Item) (c : Call) (m : ModuleText) (q : Procedure)
+    (items others : List RunItem) (c : Call) (m : ModuleText) (q : Procedure)
     → module_named p.modules c.in_module ≡ Some m → procedure_named m c.procedure ≡ Some q
     → is_of_cursor q.statement ≡ true →
     let s : State = state_after p items in

@@ -18,7 +18,7 @@ use Rattle.sq_meaning.specs.Tables.{Declared}
 use Rattle.sq_meaning.specs.Machine.{Program, State, is_entry}
 use Rattle.sq_meaning.specs.Module.{cursors, declared_parameters, parameter_declarations}
 use Rattle.sq_meaning.specs.Parameter.{started}
-use Rattle.sq_meaning.specs.Run.{Item}
+use Rattle.sq_meaning.specs.Run.{RunItem}
 use Rattle.sq_meaning.specs.Schema.{base_place, column_definitions}
 use Rattle.sq_meaning.specs.Script.{fit, script_fault_of}
 use Rattle.sq_run.specs.ShownRows.{state_after}
@@ -49,6 +49,6 @@ pub record DefaultsAreNotReached (p : Program) : Type 0 where
       → ParametersHaveDomains q
   pub values : (q : Procedure) (values : List Value) → fit (declared_parameters q) values ≡ true
       → AreStarted (declared_parameters q) values
-  pub cursors : (items : List Item) → HasCursors p (state_after p items)
+  pub cursors : (items : List RunItem) → HasCursors p (state_after p items)
   pub shown : (user table : Name) → script_fault_of p.elements p.modules (script.Table user table) ≡ None
       → is_some (base_place p.elements (record { user = user; name = table })) ≡ true

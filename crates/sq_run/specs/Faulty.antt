@@ -5,7 +5,7 @@ use Rattle.sq_meaning.specs.declared.status.Status.TheVariants.{SyntaxErrorOrAcc
 use Rattle.sq_meaning.specs.Machine.{Call, Program, State, outcome, replied}
 use Rattle.sq_meaning.specs.Module.{module_named, procedure_named}
 use Rattle.sq_meaning.specs.Parameter.{replied_with}
-use Rattle.sq_meaning.specs.Run.{Item}
+use Rattle.sq_meaning.specs.Run.{RunItem}
 use Rattle.sq_meaning.specs.WellFormedStatement.{is_well_formed_procedure}
 use Rattle.sq_meaning.specs.Words.{is_some_and}
 use Rattle.sq_run.specs.Answer.{Task}
@@ -35,5 +35,5 @@ behind_first task count = state_after task.machine (take count task.items)
 -- Each call of a script answers 42000 exactly where its procedure has a fault.
 unfoldable pub FaultsAnswer42000 : Task → Type 0
 FaultsAnswer42000 task =
-    (count : ℕ) (c : Call) → slice_get task.items count ≡ Some (Item.call c)
+    (count : ℕ) (c : Call) → slice_get task.items count ≡ Some (RunItem.call c)
     → is_syntax_error (replied task.machine (behind_first task count) c).status ≡ is_faulty task.machine c

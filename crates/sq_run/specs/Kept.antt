@@ -3,13 +3,13 @@ use Rattle.std.specs.Prelude.{◌≡◌, List}
 use Rattle.sq_meaning.specs.declared.status.Status.TheVariants.{SuccessfulCompletion}
 use Rattle.sq_meaning.specs.Constraints.{ConstraintsHold}
 use Rattle.sq_meaning.specs.Machine.{Call, Program, State, replied, stepped}
-use Rattle.sq_meaning.specs.Run.{Item}
+use Rattle.sq_meaning.specs.Run.{RunItem}
 use Rattle.sq_run.specs.ShownRows.{state_after}
 
 -- After any items each declared constraint holds, of the tables as they are and as they were committed.
 unfoldable pub ConstraintsAreKept : Program → Type 0
 ConstraintsAreKept p =
-    (items : List Item) →
+    (items : List RunItem) →
     let s : State = state_after p items in
     ConstraintsHold p.elements s.tables × ConstraintsHold p.elements s.committed
 

@@ -37,7 +37,7 @@ use Rattle.sq_tree.specs.declared.query.QueryTerm.{QueryTerm}
 use Rattle.sq_tree.specs.declared.query.QueryTerm.TheVariants as query_term
 use Rattle.sq_tree.specs.declared.query.UnionTerm.{UnionTerm}
 use Rattle.sq_meaning.specs.Syntax.{Expr, literal, parameter, user, column, count_rows, set_function, signed, added, scaled, bracketed, SelectList, all_columns, expressions, Cond, Select, compare, compare_subquery, compare_quantified, between, in_subquery, in_list, like, is_null, exists, negated, conjunction, disjunction, select, conds, Query, specification, union}
-use Rattle.sq_meaning.specs.Spelled.{Named, number_of, is_distinct_word, reference_of, listed, listed_if_any, not_if, clause, expr_of, term_of, factor_of, primary_of, list_of, cond_of, conj_of, test_of, body_of, select_of, select_of_parts, query_of, query_term_of}
+use Rattle.sq_meaning.specs.Spelled.{Named, spelled_number, is_distinct_word, reference_of, listed, listed_if_any, not_if, clause, expr_of, term_of, factor_of, primary_of, list_of, cond_of, conj_of, test_of, body_of, select_of, select_of_parts, query_of, query_term_of}
 
 -- ---- what is read
 
@@ -92,7 +92,7 @@ pub record ReadsExpressions (r : Reading) : Type 0 where
   pub with_a_sign : (sign : Sign) (p : Primary)
       → r.factor (record { sign = Some sign; primary = p }) ≡ signed sign (r.primary p)
   -- literals (5.3), parameters, USER (6.2) and columns (6.4) mean themselves
-  pub numbers : (n : Number) → r.primary (primary.Number n) ≡ literal (value.Num (number_of n))
+  pub numbers : (n : Number) → r.primary (primary.Number n) ≡ literal (value.Num (spelled_number n))
   pub texts : (characters : List ℕ) → r.primary (primary.Text characters) ≡ literal (value.Chars characters)
   pub parameters : (p : Parameter) → r.primary (primary.Parameter p) ≡ parameter p
   pub users : r.primary primary.User ≡ user

@@ -38,7 +38,7 @@ impl<S: Store> Model for Processor<S> {
 }
 
 impl<S: Store> Processor<S> {
-    ghost use Rattle.sq_run.specs.Answer.{opened};
+    ghost use Rattle.sq_run.specs.Answer.{accepted_program};
     ghost use Rattle.sq_run.specs.Beside.{IsBeside};
     ghost use Rattle.sq_run.specs.Faulty.{is_syntax_error};
     ghost use Rattle.sq_run.specs.Lawful.{Lawful};
@@ -54,7 +54,7 @@ impl<S: Store> Processor<S> {
         limits: Limits,
     ) -> Result<Processor<S>, RunFault>
         requires numbers { limits.row_numbers ≤ MOST_ROW_NUMBERS }
-        ensures opened { Opens (opened (texts schemas.now) (texts modules.now) limits.row_numbers) result }
+        ensures opened { Opens (accepted_program (texts schemas.now) (texts modules.now) limits.row_numbers) result }
         ensures constraints { IfOk result AllHold }
         ensures laws { IfOk result (λ m. Lawful m.program) }
     {

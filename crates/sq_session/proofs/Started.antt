@@ -9,7 +9,7 @@ use Rattle.sq_bound.specs.WellFormed.{kinds_of_parameters}
 use Rattle.sq_session.specs.Parameter.{AreGiven, started_values}
 use Rattle.sq_value.specs.Domain.{start_value}
 use Rattle.sq_value.specs.Number.{Number}
-use Rattle.sq_value.specs.Storing.{IsStored, fitted, kept, stored}
+use Rattle.sq_value.specs.Storing.{IsStored, fitted, kept_text, stored}
 use Rattle.sq_value.specs.declared.domain.Kind.{Kind}
 use Rattle.sq_value.specs.declared.domain.Domain.{Domain}
 use Rattle.sq_value.specs.declared.domain.Domain.TheVariants.{Small, Int, Numeric, Char, VarChar}
@@ -86,7 +86,7 @@ text_not_null d None e = start_not_null d e
 started_not_null : (d : Domain) (v : Value) → ¬ (started d v ≡ Null)
 started_not_null d Null e = start_not_null d e
 started_not_null d (Num n) e = number_not_null d (fitted d n) e
-started_not_null d (Chars t) e = text_not_null d (kept d t) e
+started_not_null d (Chars t) e = text_not_null d (kept_text d t) e
 
 given_started : (ps : List ParameterDesc) (vs : List Value) → length ps ≡ length vs → AreGiven (kinds_of_parameters ps) (started_values ps vs)
 given_started [] vs even = tt

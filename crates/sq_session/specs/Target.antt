@@ -15,7 +15,7 @@ use Rattle.sq_meaning.specs.Status.{Outcome, and_then, not_well_formed, or_statu
 use Rattle.sq_meaning.specs.declared.status.Status.{Status}
 use Rattle.sq_meaning.specs.declared.status.Status.TheVariants as status
 use Rattle.sq_meaning.specs.WellFormed.{IsRowOf}
-use Rattle.sq_meaning.specs.Parameter.{length_before_cut, whole}
+use Rattle.sq_meaning.specs.Parameter.{length_before_cut, integer_value}
 use Rattle.sq_expression.specs.Fault.{status_of}
 use Rattle.sq_expression.specs.declared.fault.Fault.{Fault}
 use Rattle.sq_expression.specs.declared.fault.Fault.TheVariants as fault
@@ -32,7 +32,7 @@ use Rattle.sq_session.specs.declared.target.Assignments.{Assignments}
 -- What an indicator is set to, if there is one.
 abbrev pub indicated : Option ℕ → ℤ → List Assignment
 indicated None n = []
-indicated (Some indicator) n = record { parameter = indicator; value = whole n } ∷ []
+indicated (Some indicator) n = record { parameter = indicator; value = integer_value n } ∷ []
 
 abbrev pub with_indicator : Target → Value → ℤ → Bool → Assignments
 with_indicator t v n cut =

@@ -6,7 +6,7 @@ ghost use Rattle.sq_value.specs.Domain.{FitsKind};
 ghost use Rattle.sq_bound.specs.Fits.{are_parameters};
 ghost use Rattle.sq_meaning.specs.Status.{and_then};
 ghost use Rattle.sq_meaning.specs.Machine.{single_row};
-ghost use Rattle.sq_meaning.specs.Parameter.{whole};
+ghost use Rattle.sq_meaning.specs.Parameter.{integer_value};
 ghost use Rattle.sq_expression.specs.Fault.{Meets};
 ghost use Rattle.sq_session.specs.Retrieved.{values_of};
 ghost use Rattle.sq_session.specs.Step.{EndsRight, ending};
@@ -246,7 +246,7 @@ impl Assignments {
 /// The value of a whole number.
 fn whole(number: i64) -> Value
     requires { unsigned_abs number < 10 ^ 18 }
-    ensures { result ≡ whole number }
+    ensures { result ≡ integer_value number }
 {
     Value::Num(Decimal::new(number, 0))
 }

@@ -6,7 +6,7 @@ use Rattle.std.proofs.lemmas.Grind.{common_steps}
 use Rattle.std.proofs.Math.ListN.{set}
 use Rattle.std.specs.List.{list_any}
 use Rattle.sq_value.proofs.Truths.{or_false}
-use Rattle.sq_value.specs.Pattern.{can_be_cut, splits, fits}
+use Rattle.sq_value.specs.Pattern.{can_be_cut, splits, piece_fits}
 use Rattle.sq_value.specs.private.Pattern.{takes, AreCuts}
 use Rattle.sq_value.specs.declared.pattern.Item.{Item}
 use Rattle.sq_value.specs.declared.pattern.Item.TheVariants.{AnyRun, AnyOne, This}
@@ -33,7 +33,7 @@ run_ends : (items : List Item) → can_be_cut (AnyRun ∷ items) [] ≡ can_be_c
 run_ends items = or_false (can_be_cut items [])
 
 run_goes_on : (items : List Item) (c : ℕ) (cs : List ℕ) → can_be_cut (AnyRun ∷ items) (c ∷ cs) ≡ (can_be_cut items (c ∷ cs) || can_be_cut (AnyRun ∷ items) cs)
-run_goes_on items c cs = ap (λ b. can_be_cut items (c ∷ cs) || b) (any_map (λ cut. fits AnyRun (cut.0) && can_be_cut items (cut.1)) (λ cut. (c ∷ cut.0, cut.1)) (splits cs))
+run_goes_on items c cs = ap (λ b. can_be_cut items (c ∷ cs) || b) (any_map (λ cut. piece_fits AnyRun (cut.0) && can_be_cut items (cut.1)) (λ cut. (c ∷ cut.0, cut.1)) (splits cs))
 
 -- ---- one code
 
@@ -46,7 +46,7 @@ IsOneCode AnyRun = ⊥
 IsOneCode AnyOne = Unit {0}
 IsOneCode (This c) = Unit {0}
 
-fits_one : (i : Item) → IsOneCode i → (c : ℕ) (cs : List ℕ) → fits i (c ∷ cs) ≡ (takes i c && is_nil cs)
+fits_one : (i : Item) → IsOneCode i → (c : ℕ) (cs : List ℕ) → piece_fits i (c ∷ cs) ≡ (takes i c && is_nil cs)
 fits_one AnyRun one c cs = absurd one
 fits_one AnyOne one c [] = refl
 fits_one AnyOne one c (d ∷ ds) = refl
@@ -63,10 +63,10 @@ any_taken : (b : Bool) (P : List ℕ → Bool) (cs : List ℕ) → list_any (λ 
 any_taken true P cs = any_rest P cs
 any_taken false P cs = any_none (splits cs)
 
-rest_taken : (i : Item) → IsOneCode i → (items : List Item) (c : ℕ) (cs : List ℕ) → list_any (λ (cut : List ℕ × List ℕ). fits i (cut.0) && can_be_cut items (cut.1)) (map (λ (cut : List ℕ × List ℕ). (c ∷ cut.0, cut.1)) (splits cs)) ≡ (takes i c && can_be_cut items cs)
+rest_taken : (i : Item) → IsOneCode i → (items : List Item) (c : ℕ) (cs : List ℕ) → list_any (λ (cut : List ℕ × List ℕ). piece_fits i (cut.0) && can_be_cut items (cut.1)) (map (λ (cut : List ℕ × List ℕ). (c ∷ cut.0, cut.1)) (splits cs)) ≡ (takes i c && can_be_cut items cs)
 rest_taken i one items c cs =
-    any_map (λ (cut : List ℕ × List ℕ). fits i (cut.0) && can_be_cut items (cut.1)) (λ (cut : List ℕ × List ℕ). (c ∷ cut.0, cut.1)) (splits cs)
-    ∙ any_same (λ (cut : List ℕ × List ℕ). fits i (c ∷ cut.0) && can_be_cut items (cut.1)) (λ (cut : List ℕ × List ℕ). (takes i c && is_nil (cut.0)) && can_be_cut items (cut.1)) (λ cut. ap (λ b. b && can_be_cut items (cut.1)) (fits_one i one c (cut.0))) (splits cs)
+    any_map (λ (cut : List ℕ × List ℕ). piece_fits i (cut.0) && can_be_cut items (cut.1)) (λ (cut : List ℕ × List ℕ). (c ∷ cut.0, cut.1)) (splits cs)
+    ∙ any_same (λ (cut : List ℕ × List ℕ). piece_fits i (c ∷ cut.0) && can_be_cut items (cut.1)) (λ (cut : List ℕ × List ℕ). (takes i c && is_nil (cut.0)) && can_be_cut items (cut.1)) (λ cut. ap (λ b. b && can_be_cut items (cut.1)) (fits_one i one c (cut.0))) (splits cs)
     ∙ any_taken (takes i c) (can_be_cut items) cs
 
 one_ends : (i : Item) → IsOneCode i → (items : List Item) → can_be_cut (i ∷ items) [] ≡ false

@@ -2,7 +2,7 @@
 use Rattle.std.proofs.Common.{◌≡◌, ℕ, ◌&&◌, ◌||◌, Bool, true, false, List, [], ◌∷◌, ◌++◌, map, refl, sym, ap, ◌∙◌, ◌↔◌, IsTrue}
 use Rattle.std.proofs.lemmas.Bool.{and_parts, or_right}
 use Rattle.std.specs.List.{list_any}
-use Rattle.sq_value.specs.Pattern.{can_be_cut, splits, fits, joined, AllFit, CanBeCut}
+use Rattle.sq_value.specs.Pattern.{can_be_cut, splits, piece_fits, joined, AllFit, CanBeCut}
 use Rattle.sq_value.specs.declared.pattern.Item.{Item}
 use Rattle.sq_value.proofs.Cutting.{any_map}
 
@@ -37,8 +37,8 @@ pieces_from : (items : List Item) (text : List ℕ) → can_be_cut items text �
 pieces_from [] [] h = ([], refl, tt)
 pieces_from [] (c ∷ cs) h = cc
 pieces_from (i ∷ items) text h =
-    let cut = cut_from_any (λ cut. fits i (cut.0) && can_be_cut items (cut.1)) text h in
-    let both = and_parts (fits i (cut.0)) (can_be_cut items (cut.1)) (cut.3) in
+    let cut = cut_from_any (λ cut. piece_fits i (cut.0) && can_be_cut items (cut.1)) text h in
+    let both = and_parts (piece_fits i (cut.0)) (can_be_cut items (cut.1)) (cut.3) in
     let later = pieces_from items (cut.1) (both.1) in
     (cut.0 ∷ later.0, ap (λ t. cut.0 ++ t) (later.1) ∙ cut.2, (both.0, later.2))
 
@@ -47,7 +47,7 @@ cut_when_joined [] [] fit = refl
 cut_when_joined [] (p ∷ ps) fit = absurd fit
 cut_when_joined (i ∷ items) [] fit = absurd fit
 cut_when_joined (i ∷ items) (p ∷ ps) fit =
-    any_from_cut (λ cut. fits i (cut.0) && can_be_cut items (cut.1)) p (joined ps) (λ k. fit.0 k && cut_when_joined items ps (fit.1) k)
+    any_from_cut (λ cut. piece_fits i (cut.0) && can_be_cut items (cut.1)) p (joined ps) (λ k. fit.0 k && cut_when_joined items ps (fit.1) k)
 
 pub cuts_are_pieces : (items : List Item) (text : List ℕ) → IsTrue (can_be_cut items text) ↔ CanBeCut items text
 cuts_are_pieces items text = (pieces_from items text, λ pieces. ap (can_be_cut items) (sym (pieces.1)) ∙ cut_when_joined items (pieces.0) (pieces.2))

@@ -42,5 +42,5 @@ abbrev pub negated : Number → Number
 negated n = record { unscaled = neg_ℤ n.unscaled; scale = n.scale }
 
 -- numbers compare by their values (8.2): m / 10 ^ s and n / 10 ^ t as m * 10 ^ t and n * 10 ^ s
-abbrev pub compared : Number → Number → Ordering
-compared a b = int_cmp (a.unscaled *ℤ pos (10 ^ b.scale)) (b.unscaled *ℤ pos (10 ^ a.scale))
+abbrev pub numbers_compared : Number → Number → Ordering
+numbers_compared a b = int_cmp (a.unscaled *ℤ pos (10 ^ b.scale)) (b.unscaled *ℤ pos (10 ^ a.scale))

@@ -1,14 +1,6 @@
 -- Characters with a meaning of their own (ISO/IEC 9075:1992, 5.1).
 use Rattle.std.specs.Prelude.{ℕ}
-
-abbrev pub blank : ℕ
-blank = 32
+pub use Rattle.sq_items.specs.Characters.{blank, point, underscore}
 
 abbrev pub percent : ℕ
 percent = 37
-
-abbrev pub point : ℕ
-point = 46
-
-abbrev pub underscore : ℕ
-underscore = 95

@@ -4,7 +4,7 @@ use Rattle.std.specs.declared.cmp.Ordering.{Ordering}
 use Rattle.std.specs.declared.cmp.Ordering.TheVariants.{Less, Equal, Greater}
 use Rattle.std.specs.Ordering.{nat_cmp, is_eq}
 use Rattle.std.specs.Cmp.Lexicographic.{slice_cmp}
-use Rattle.sq_value.specs.Arithmetic.{compared}
+use Rattle.sq_value.specs.Arithmetic.{numbers_compared}
 use Rattle.sq_value.specs.Characters.{blank}
 use Rattle.sq_value.specs.declared.value.Value.{Value}
 use Rattle.sq_value.specs.declared.value.Value.TheVariants.{Null, Num, Chars}
@@ -20,7 +20,7 @@ texts_compared s t = let n = max (length s) (length t) in slice_cmp nat_cmp (pad
 -- none where one is null: the comparison is unknown. A number is never compared with a text
 abbrev pub values_compared : Value → Value → Option Ordering
 values_compared Null w = None
-values_compared (Num a) (Num b) = Some (compared a b)
+values_compared (Num a) (Num b) = Some (numbers_compared a b)
 values_compared (Chars s) (Chars t) = Some (texts_compared s t)
 values_compared (Num a) Null = None
 values_compared (Num a) (Chars t) = None
@@ -30,7 +30,7 @@ values_compared (Chars s) (Num b) = None
 -- not distinct (3.1): both null, or they compare equal
 abbrev pub is_same : Value → Value → Bool
 is_same Null Null = true
-is_same (Num a) (Num b) = is_eq (compared a b)
+is_same (Num a) (Num b) = is_eq (numbers_compared a b)
 is_same (Chars s) (Chars t) = is_eq (texts_compared s t)
 is_same v w = false
 
@@ -41,7 +41,7 @@ ordered Null Null = Equal
 ordered Null (Num b) = Less
 ordered Null (Chars t) = Less
 ordered (Num a) Null = Greater
-ordered (Num a) (Num b) = compared a b
+ordered (Num a) (Num b) = numbers_compared a b
 ordered (Num a) (Chars t) = Less
 ordered (Chars s) Null = Greater
 ordered (Chars s) (Num b) = Greater

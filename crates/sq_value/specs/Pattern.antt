@@ -42,14 +42,14 @@ pattern_items e (c ∷ d ∷ cs) =
 -- ---- cutting a text
 
 -- a piece of a text fits an item
-abbrev pub fits : Item → List ℕ → Bool
-fits AnyRun piece = true
-fits AnyOne [] = false
-fits AnyOne (d ∷ []) = true
-fits AnyOne (d ∷ e ∷ ds) = false
-fits (This c) [] = false
-fits (This c) (d ∷ []) = d == c
-fits (This c) (d ∷ e ∷ ds) = false
+abbrev pub piece_fits : Item → List ℕ → Bool
+piece_fits AnyRun piece = true
+piece_fits AnyOne [] = false
+piece_fits AnyOne (d ∷ []) = true
+piece_fits AnyOne (d ∷ e ∷ ds) = false
+piece_fits (This c) [] = false
+piece_fits (This c) (d ∷ []) = d == c
+piece_fits (This c) (d ∷ e ∷ ds) = false
 
 -- every way to cut a text in two
 abbrev pub splits : List ℕ → List (List ℕ × List ℕ)
@@ -61,7 +61,7 @@ splits (c ∷ cs) = ([], c ∷ cs) ∷ map (λ cut. (c ∷ cut.0, cut.1)) (split
 abbrev pub can_be_cut : List Item → List ℕ → Bool
 can_be_cut [] [] = true
 can_be_cut [] (c ∷ cs) = false
-can_be_cut (i ∷ items) text = list_any (λ cut. fits i (cut.0) && can_be_cut items (cut.1)) (splits text)
+can_be_cut (i ∷ items) text = list_any (λ cut. piece_fits i (cut.0) && can_be_cut items (cut.1)) (splits text)
 
 -- pieces put together, and pieces that fit their items: a text can be cut exactly where there are such pieces whose joining it is
 abbrev pub joined : List (List ℕ) → List ℕ
@@ -72,7 +72,7 @@ abbrev pub AllFit : List Item → List (List ℕ) → Type 0
 AllFit [] [] = ⊤
 AllFit [] (piece ∷ pieces) = ⊥
 AllFit (i ∷ items) [] = ⊥
-AllFit (i ∷ items) (piece ∷ pieces) = IsTrue (fits i piece) × AllFit items pieces
+AllFit (i ∷ items) (piece ∷ pieces) = IsTrue (piece_fits i piece) × AllFit items pieces
 
 abbrev pub CanBeCut : List Item → List ℕ → Type 0
 CanBeCut items text = (pieces : List (List ℕ)) × (joined pieces ≡ text) × AllFit items pieces

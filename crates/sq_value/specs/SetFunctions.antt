@@ -36,20 +36,20 @@ number_or_fault (Ok n) = Ok (Num n)
 number_or_fault (Err fault) = Err fault
 
 -- the sum has the scale of its operands, and is null on nothing
-abbrev pub sum_of : List Number → Result Value ArithmeticFault
-sum_of [] = Ok Null
-sum_of (n ∷ ns) = number_or_fault (in_range n.scale (total (n ∷ ns)))
+abbrev pub sum_of_numbers : List Number → Result Value ArithmeticFault
+sum_of_numbers [] = Ok Null
+sum_of_numbers (n ∷ ns) = number_or_fault (in_range n.scale (total (n ∷ ns)))
 
 -- the mean has it too, and is truncated toward zero (own rule)
-abbrev pub mean_of : List Number → Result Value ArithmeticFault
-mean_of [] = Ok Null
-mean_of (n ∷ ns) = number_or_fault (in_range n.scale (int_div (total (n ∷ ns)) (pos (length (n ∷ ns)))))
+abbrev pub mean_of_numbers : List Number → Result Value ArithmeticFault
+mean_of_numbers [] = Ok Null
+mean_of_numbers (n ∷ ns) = number_or_fault (in_range n.scale (int_div (total (n ∷ ns)) (pos (length (n ∷ ns)))))
 
 abbrev pub summed : List Value → Result Value ArithmeticFault
-summed vs = sum_of (numbers vs)
+summed vs = sum_of_numbers (numbers vs)
 
 abbrev pub averaged : List Value → Result Value ArithmeticFault
-averaged vs = mean_of (numbers vs)
+averaged vs = mean_of_numbers (numbers vs)
 
 -- ---- extremes
 

@@ -26,12 +26,12 @@ fitted (Char _) n = None
 fitted (VarChar _) n = None
 
 -- the text as a domain of texts holds it, or none where codes other than blanks would be lost
-abbrev pub kept : Domain → List ℕ → Option (List ℕ)
-kept Small t = None
-kept Int t = None
-kept (Numeric _ _) t = None
-kept (Char n) t = if only_blanks_past n t then Some (of_length n t) else None
-kept (VarChar n) t = if only_blanks_past n t then Some (take n t) else None
+abbrev pub kept_text : Domain → List ℕ → Option (List ℕ)
+kept_text Small t = None
+kept_text Int t = None
+kept_text (Numeric _ _) t = None
+kept_text (Char n) t = if only_blanks_past n t then Some (of_length n t) else None
+kept_text (VarChar n) t = if only_blanks_past n t then Some (take n t) else None
 
 abbrev pub number_or_range : Option Number → Result Value StoreFault
 number_or_range None = Err Range
@@ -45,7 +45,7 @@ text_or_too_long (Some t) = Ok (Chars t)
 abbrev pub stored : Domain → Value → Result Value StoreFault
 stored d Null = Ok Null
 stored d (Num n) = number_or_range (fitted d n)
-stored d (Chars t) = text_or_too_long (kept d t)
+stored d (Chars t) = text_or_too_long (kept_text d t)
 
 -- what `store` answers: this, unless memory was refused
 abbrev pub IsStored : Result Value StoreFault → Result Value StoreFault → Type 0

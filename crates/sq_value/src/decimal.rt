@@ -1,7 +1,7 @@
 //! Exact numbers.
 
 ghost use Rattle.std.specs.Prelude.{◌≡◌, ◌≤◌, ◌<◌, ◌^◌, ◌+◌, ◌-◌, max, unsigned_abs};
-ghost use Rattle.sq_value.specs.Arithmetic.{added, subtracted, multiplied, divided, negated, compared, at_scale, truncated};
+ghost use Rattle.sq_value.specs.Arithmetic.{added, subtracted, multiplied, divided, negated, numbers_compared, at_scale, truncated};
 
 use crate::fault::ArithmeticFault;
 use crate::wide::{in_digits, power_of_ten, quotient, raised};
@@ -113,7 +113,7 @@ impl Decimal {
     /// The order by value, whatever the scales. At the same scale it is that of the unscaled values.
     #[tactic(auto, using(crate::specs::laws::NumberOrder::compared_alike))]
     pub fn cmp(self, other: Decimal) -> Ordering
-        ensures { result ≡ compared self other }
+        ensures { result ≡ numbers_compared self other }
     {
         if self.scale == other.scale {
             return self.unscaled.cmp(&other.unscaled);

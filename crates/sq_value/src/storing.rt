@@ -4,7 +4,7 @@ ghost use Rattle.std.specs.Prelude.{◌≡◌, ◌≤◌, ◌≤ℤ◌, ◌<◌,
 ghost use Rattle.sq_value.specs.Domain.{IsDomain, FitsKind, IsInDomain, start_value};
 ghost use Rattle.sq_value.specs.Memory.{takes_memory};
 ghost use Rattle.sq_value.specs.Arithmetic.{truncated};
-ghost use Rattle.sq_value.specs.Storing.{stored, fitted, kept, if_between, if_of_digits, IsStored};
+ghost use Rattle.sq_value.specs.Storing.{stored, fitted, kept_text, if_between, if_of_digits, IsStored};
 
 use crate::decimal::Decimal;
 use crate::domain::Domain;
@@ -98,7 +98,7 @@ fn if_of_digits(number: Decimal, precision: u8, scale: u8) -> Option<Decimal>
 /// The text as a domain of texts holds it, if only blanks are lost.
 fn kept(alloc: Global, text: &Text, domain: Domain) -> Result<Option<Text>, AllocError>
     requires { IsDomain domain }
-    ensures { IfOk result (λ t. t ≡ kept domain text.now) }
+    ensures { IfOk result (λ t. t ≡ kept_text domain text.now) }
 {
     match domain {
         Domain::Char(length) if text.has_only_blanks_past(length) => {

@@ -15,7 +15,7 @@ use Rattle.sq_meaning.specs.declared.status.Status.TheVariants.{IntegrityConstra
 use Rattle.sq_meaning.proofs.OutcomeLaws.{then_then}
 use Rattle.sq_meaning.specs.Schema.{BaseTable}
 use Rattle.sq_meaning.specs.Change as by_name
-use Rattle.sq_meaning.specs.Change.{completed_with, outer_env, reading}
+use Rattle.sq_meaning.specs.Change.{completed_with, outer_env, reading_in}
 use Rattle.sq_meaning.specs.Constraints.{all_satisfied, demanded}
 use Rattle.sq_bound.specs.Condition.{cond_of}
 use Rattle.sq_bound.specs.Known.{KnownTables}
@@ -67,7 +67,7 @@ module _ (m : by_name.Setting) (queries : List BoundSpecification) (known : Know
   IsWide = HasLength (width_at bases t.target.place)
 
   pub row_check_same : (row : Row) → IsWide row
-      → meets_check_option (reading m) (outer_env m) t.target row ≡ check_option_met shown (seen_in m queries) leaf row
+      → meets_check_option (reading_in m) (outer_env m) t.target row ≡ check_option_met shown (seen_in m queries) leaf row
   row_check_same row w =
       check_option_same (read_in m known shown []) (outer_env m)
       (outer_places m) IsWide t.target t.under.clauses t.under.levels leaf.demanded t.under.demanded row w
@@ -81,7 +81,7 @@ module _ (m : by_name.Setting) (queries : List BoundSpecification) (known : Know
   pub rows_check_same : (rows : List Row) → AllByRecursion IsWide rows
       → by_name.check_options_met m t.target rows ≡ all_satisfied (check_option_met shown (seen_in m queries) leaf) rows
   rows_check_same rows w =
-      all_alike IsWide (meets_check_option (reading m) (outer_env m) t.target)
+      all_alike IsWide (meets_check_option (reading_in m) (outer_env m) t.target)
       (check_option_met shown (seen_in m queries) leaf) row_check_same rows w
 
   -- a searched statement demands no condition of its own
@@ -89,9 +89,9 @@ module _ (m : by_name.Setting) (queries : List BoundSpecification) (known : Know
       → by_name.check_options_met m (searched m known shown bases name leaf t clause) rows
       ≡ by_name.check_options_met m t.target rows
   searched_check_same clause rows =
-      all_alike (λ row. ⊤) (meets_check_option (reading m) (outer_env m) (searched m known shown bases name leaf t clause))
-      (meets_check_option (reading m) (outer_env m) t.target)
-      (λ row any. ap (meets_levels (reading m) (outer_env m) row) (take-append-le t.target.demanded t.target.levels (own ∷ []) t.under.few)) rows
+      all_alike (λ row. ⊤) (meets_check_option (reading_in m) (outer_env m) (searched m known shown bases name leaf t clause))
+      (meets_check_option (reading_in m) (outer_env m) t.target)
+      (λ row any. ap (meets_levels (reading_in m) (outer_env m) row) (take-append-le t.target.demanded t.target.levels (own ∷ []) t.under.few)) rows
       (all_any rows)
     where
       own : Level

@@ -21,7 +21,7 @@ use Rattle.sq_meaning.specs.declared.status.Status.TheVariants.{NoRowNumberLeft}
 use Rattle.sq_meaning.proofs.OutcomeLaws.{each_map, then_then}
 use Rattle.sq_meaning.specs.Schema.{BaseTable}
 use Rattle.sq_meaning.specs.Change as by_name
-use Rattle.sq_meaning.specs.Change.{base_at, domain_at, given_rows, has_numbers, if_some, insert_places, new_row, outer_env, reading, stored_row, stored_value, tables_in, with_rows}
+use Rattle.sq_meaning.specs.Change.{base_at, domain_at, given_rows, has_numbers, if_some, insert_places, new_row, outer_env, reading_in, stored_row, stored_value, tables_in, with_rows}
 use Rattle.sq_meaning.specs.Constraints.{demanded}
 use Rattle.sq_bound.specs.Condition as bound
 use Rattle.sq_bound.specs.Expression.{expr_of}
@@ -145,7 +145,7 @@ module _ (m : by_name.Setting) (queries : List BoundSpecification) (known : Know
       (pairs_same (λ n. stored_value m (outer_env m) (domain_at t n.0) n.1) (value_given shown (seen_in m queries)) IsBoundTo (IsColumnOf b) value_same columns (listed values) es are_columns (both_of (listed values) es right each_is))
       ∙ one_row (values_given shown (seen_in m queries) columns es)
   given_same fit (source.Query q) (inserted.Query x) right is =
-      sym (then_then (rows (reading m) (select_of m.user q) (outer_env m)) if_some (each (stored_row t (positions columns))))
+      sym (then_then (rows (reading_in m) (select_of m.user q) (outer_env m)) if_some (each (stored_row t (positions columns))))
       ∙ ap (λ (o : Outcome (List Row)). and_then (and_then o if_some) (each (stored_row t (positions columns))))
       (bound_rows (read_in m known shown parameters) fit [] (select_of m.user q) right x is (outer_env m) (outer_places m) (call_seen m parameters names))
       ∙ some_rows (and_then (rows (by_place shown) (bound.select_of x) (outer_places m)) if_some)

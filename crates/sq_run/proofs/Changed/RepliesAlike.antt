@@ -63,7 +63,7 @@ module _ (ps : List ParameterDesc) (qs : Parameters) (are : AreParameters ps qs)
   indicated_same None None h z = tt
   indicated_same None (Some n) h z = absurd h
   indicated_same (Some i) None h z = absurd h
-  indicated_same (Some i) (Some n) h z = (placed_same i.name n h (machine.whole z), tt)
+  indicated_same (Some i) (Some n) h z = (placed_same i.name n h (machine.integer_value z), tt)
 
   null_alike : (o : Target) (t : Parameter) → IsTargetAt ps o t → Alike SameSet (session.null_set o) (machine.null_retrieved t)
   null_alike o t h = by_indicator o.indicator t.indicator h.indicator

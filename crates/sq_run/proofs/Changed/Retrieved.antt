@@ -15,7 +15,7 @@ use Rattle.sq_meaning.specs.Tables.{kinds_by_name}
 use Rattle.sq_meaning.specs.Target.{Target, chosen_numbers, cursor_target, seen_through, target_of, updatable_source}
 use Rattle.sq_meaning.specs.WellFormedStatement.{cursor_query, select_of_statement}
 use Rattle.sq_meaning.specs.Change as by_name
-use Rattle.sq_meaning.specs.Change.{outer_env, reading, rows_at, tables_in}
+use Rattle.sq_meaning.specs.Change.{outer_env, reading_in, rows_at, tables_in}
 use Rattle.sq_meaning.specs.Machine.{Running, cursor_rows, selected_row, setting, single_row, sort_order, surroundings}
 use Rattle.sq_bound.specs.Condition.{select_of}
 use Rattle.sq_bound.specs.Known.{KnownTables, Under, under_of}
@@ -62,10 +62,10 @@ module _ (m : by_name.Setting) (known : KnownTables) (kinds : TableKinds) (queri
       (text : IsUpdatableOf known parameters q over)
       → SelectStars q
       → (target : Target) → cursor_target (tables_in m) q
-      ≡ Ok target → IsTargetAs (reading m) shown bases m.content (outer_env m) (outer_places m) over.columns
+      ≡ Ok target → IsTargetAs (reading_in m) shown bases m.content (outer_env m) (outer_places m) over.columns
       (under_query over) target
   cursor_target_same q over text stars target e =
-      subst (IsTargetAs (reading m) shown bases m.content (outer_env m) (outer_places m) over.columns (under_query over)) made.target_is
+      subst (IsTargetAs (reading_in m) shown bases m.content (outer_env m) (outer_places m) over.columns (under_query over)) made.target_is
       (query_as (tables_in m) m.content m.user known shown bases parameters (database_fits (tables_in m) m.content m.user known kinds queries shown database parameters)
       (outer_env m) (outer_places m)
       (call_seen m parameters names) text.reference made.descriptor text.table made.under text.list text.filter over made.columns
@@ -88,7 +88,7 @@ module _ (m : by_name.Setting) (known : KnownTables) (kinds : TableKinds) (queri
   pub cursor_numbers_same : (q : Select Named) (over : UpdatableQuery)
       → IsUpdatableOf known parameters q over → SelectStars q
       → (target : Target) → cursor_target (tables_in m) q ≡ Ok target
-      → chosen_numbers (reading m) (outer_env m) target (rows_at m target.place)
+      → chosen_numbers (reading_in m) (outer_env m) target (rows_at m target.place)
       ≡ and_then (stored_numbered m.content over.target.base)
       (numbers_chosen (is_true_of shown (values_in m) m.user) (conditions_of over.target))
   cursor_numbers_same q over text stars target e =
@@ -122,7 +122,7 @@ module _ (r : Running) (known : KnownTables) (kinds : TableKinds) (queries : Lis
       (query_rows (by_place shown) (kinds_at_places (read_in (setting r) known shown parameters) kinds) (query_of b) (outer_places (setting r)))
       (λ found. Ok (sorted (by_columns (map sort_seen sorts)) found))
   opened_rows_same declared c stars b sorts is order =
-      ap (λ ps. and_then (sort_order r c) (λ keys. ordered_rows (reading (setting r)) (kinds_by_name (tables_in (setting r)) ps) (cursor_query (surroundings r) c) keys (outer_env (setting r)))) declared
+      ap (λ ps. and_then (sort_order r c) (λ keys. ordered_rows (reading_in (setting r)) (kinds_by_name (tables_in (setting r)) ps) (cursor_query (surroundings r) c) keys (outer_env (setting r)))) declared
       ∙ cursor_rows_same (read_in (setting r) known shown parameters) kinds
       (database_fits (tables_in (setting r)) r.state.tables r.in_module.authorization known kinds queries shown database parameters)
       (database_typed (tables_in (setting r)) r.state.tables r.in_module.authorization known kinds queries shown database parameters)

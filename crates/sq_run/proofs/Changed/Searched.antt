@@ -13,7 +13,7 @@ use Rattle.sq_meaning.specs.Syntax.{Clause}
 use Rattle.sq_meaning.specs.Tables.{TableDescriptor, column_names}
 use Rattle.sq_meaning.specs.Target.{Level, Target, chosen, chosen_numbers, places_of, searched_target, seen_through, target_of}
 use Rattle.sq_meaning.specs.Change as by_name
-use Rattle.sq_meaning.specs.Change.{if_some, outer_env, reading, rows_at, tables_in}
+use Rattle.sq_meaning.specs.Change.{if_some, outer_env, reading_in, rows_at, tables_in}
 use Rattle.sq_bound.specs.Condition.{PlacedClause, clause_of}
 use Rattle.sq_bound.specs.Known.{KnownTables, Under}
 use Rattle.sq_bound.specs.declared.condition.BoundSpecification.{BoundSpecification}
@@ -106,8 +106,8 @@ stored_rows m place there =
 -- The numbers of the rows that a target means are the same, or the status is.
 pub target_numbers_same : (m : by_name.Setting) (known : KnownTables) (shown : Shown) (bases : List BoundTable) (columns : List ℕ)
     (u : Under) (target : Target)
-    → IsTargetAs (reading m) shown bases m.content (outer_env m) (outer_places m) columns u target
-    → chosen_numbers (reading m) (outer_env m) target (rows_at m target.place)
+    → IsTargetAs (reading_in m) shown bases m.content (outer_env m) (outer_places m) columns u target
+    → chosen_numbers (reading_in m) (outer_env m) target (rows_at m target.place)
     ≡ and_then (stored_numbered m.content u.base) (numbers_chosen (is_true_of shown (values_in m) m.user) u.conditions)
 target_numbers_same m known shown bases columns u target w =
     numbers_same (read_in m known shown []) (outer_env m) (values_in m) m.user
@@ -143,7 +143,7 @@ module _ (m : by_name.Setting) (queries : List BoundSpecification) (known : Know
       (width_at bases h.table.target.place) h.table.table.columns h.table.target.columns h.table.under.columns_are h.table.under.within
 
   abbrev IsLevel : Level → PlacedClause → Type 0
-  IsLevel = IsLevelAs (reading m) shown (outer_env m) (outer_places m) (width_at bases h.table.target.place)
+  IsLevel = IsLevelAs (reading_in m) shown (outer_env m) (outer_places m) (width_at bases h.table.target.place)
 
   own_same : IsLevel own_level (clause_of [] x.condition)
   own_same = λ row l.
@@ -159,7 +159,7 @@ module _ (m : by_name.Setting) (queries : List BoundSpecification) (known : Know
   abbrev under_search : Under
   under_search = record { base = x.base; conditions = conditions_of x; demanded = x.leaf.demanded }
 
-  pub searched_as : IsTargetAs (reading m) shown bases m.content (outer_env m) (outer_places m)
+  pub searched_as : IsTargetAs (reading_in m) shown bases m.content (outer_env m) (outer_places m)
       (leaf_positions h.table.table.columns) under_search target
   searched_as =
       let w = h.table.under in
@@ -181,20 +181,20 @@ module _ (m : by_name.Setting) (queries : List BoundSpecification) (known : Know
       }
 
   -- The numbers of the rows that it keeps are the same, or the status is.
-  pub numbers_found_same : and_then (chosen_numbers (reading m) (outer_env m) target (rows_at m target.place)) if_some
+  pub numbers_found_same : and_then (chosen_numbers (reading_in m) (outer_env m) target (rows_at m target.place)) if_some
       ≡ numbers_found shown (seen_in m queries) x
   numbers_found_same =
       ap (λ (o : Outcome (List ℕ)). and_then o if_some)
       (target_numbers_same m known shown bases (leaf_positions h.table.table.columns) under_search target searched_as)
 
   -- The numbers chosen are numbers of rows of the table.
-  pub numbers_within : IfOk (and_then (chosen_numbers (reading m) (outer_env m) target (rows_at m target.place)) if_some)
+  pub numbers_within : IfOk (and_then (chosen_numbers (reading_in m) (outer_env m) target (rows_at m target.place)) if_some)
       (AreNumbersIn (rows_at m target.place))
   numbers_within =
-      if_then (chosen_numbers (reading m) (outer_env m) target (rows_at m target.place)) if_some
+      if_then (chosen_numbers (reading_in m) (outer_env m) target (rows_at m target.place)) if_some
       (AreNumbersIn (rows_at m target.place)) (AreNumbersIn (rows_at m target.place))
-      (if_one (chosen (reading m) (outer_env m) target.levels (rows_at m target.place)) (λ found. numbers_of found) (λ found. IsWithin found (rows_at m target.place)) (AreNumbersIn (rows_at m target.place))
-      (chosen_within (reading m) (outer_env m) target.levels (rows_at m target.place)) (λ found w. (found, refl, w)))
+      (if_one (chosen (reading_in m) (outer_env m) target.levels (rows_at m target.place)) (λ found. numbers_of found) (λ found. IsWithin found (rows_at m target.place)) (AreNumbersIn (rows_at m target.place))
+      (chosen_within (reading_in m) (outer_env m) target.levels (rows_at m target.place)) (λ found w. (found, refl, w)))
       some_of
     where
       some_of : (numbers : List ℕ) → AreNumbersIn (rows_at m target.place) numbers

@@ -12,7 +12,7 @@ use Rattle.sq_meaning.specs.Target.{Target, target_of}
 use Rattle.sq_meaning.specs.Catalog.{column_domain}
 use Rattle.sq_meaning.specs.Schema.{BaseTable, column_definitions}
 use Rattle.sq_meaning.specs.Change as by_name
-use Rattle.sq_meaning.specs.Change.{base_at, default_value, outer_env, reading, tables_in}
+use Rattle.sq_meaning.specs.Change.{base_at, value_of_default, outer_env, reading_in, tables_in}
 use Rattle.sq_bound.specs.Known.{KnownTable, KnownTables, under_of}
 use Rattle.sq_bound.specs.declared.condition.BoundSpecification.{BoundSpecification}
 use Rattle.sq_bound.specs.declared.names.BaseColumn.{BaseColumn}
@@ -55,7 +55,7 @@ call_seen m parameters names = outside_seen parameters m.inputs (values_in m) m.
 -- a column of a base table stores values of the domain that is written for it, and has the default that is written
 pub record IsColumnAs (w : ColumnDefinition) (c : BaseColumn) : Type 0 where
   pub domain : column_domain w ≡ c.domain
-  pub default : (user : Name) → assigned (column_domain w) (default_value user w.default) ≡ default_stored user c.domain c.default
+  pub default : (user : Name) → assigned (column_domain w) (value_of_default user w.default) ≡ default_stored user c.domain c.default
 
 -- Each written column of a table is the bound column at its place.
 abbrev pub IsTableAs : BaseTable → BoundTable → Type 0
@@ -74,7 +74,7 @@ pub record IsTableIn (m : by_name.Setting) (known : KnownTables) (shown : Shown)
   pub table : KnownTable
   pub is_known : meant_by known name ≡ Some table
   pub names : column_names descriptor ≡ names_of_columns table.columns
-  pub under : IsTargetAs (reading m) shown bases m.content (outer_env m) (outer_places m) (leaf_positions table.columns)
+  pub under : IsTargetAs (reading_in m) shown bases m.content (outer_env m) (outer_places m) (leaf_positions table.columns)
       (under_of leaf) target
   pub base_is : IsTableAs base leaf.table
   pub stands : slice_get bases leaf.table.place ≡ Some leaf.table

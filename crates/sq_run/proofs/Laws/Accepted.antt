@@ -14,7 +14,7 @@ use Rattle.sq_tree.specs.declared.schema.TableDefinition.{TableDefinition}
 use Rattle.sq_tree.specs.declared.schema.ViewDefinition.{ViewDefinition}
 use Rattle.sq_meaning.specs.Spelled.{table_of}
 use Rattle.sq_meaning.specs.Schema.{Elements, checks, constraints, has_name_twice, primary_keys, table_columns, table_references}
-use Rattle.sq_meaning.specs.SchemaRefusal.{Part, elements_of, elements_with, first_schema_refusal, has_bad_names, is_bad_check, is_bad_key, is_good_reference, is_made, is_made_again, names_repeat, part_fault, refusal_at, refused_for, same_user, schema_faults, schema_parts, schema_refusal, users_with, view_has_fault, with_element}
+use Rattle.sq_meaning.specs.SchemaRefusal.{Part, elements_of, elements_with, first_schema_refusal, has_bad_names, is_bad_check, is_bad_key, is_good_reference, is_made, is_made_again, names_repeat, part_fault, part_refusal, refused_for, same_user, schema_faults, schema_parts, schema_refusal, users_with, view_has_fault, with_element}
 
 -- nothing refuses an element
 abbrev pub IsAccepted : Elements → Name → SchemaElement → Type 0
@@ -49,7 +49,7 @@ accepted_parts : (users : List Name) (before : Elements) (parts : List Part) →
     → AreAccepted (fold (λ b p. elements_with b p.user p.element) before parts)
 accepted_parts users before [] all e = all
 accepted_parts users before (p ∷ ps) all e =
-    let parts = none_of_both (part_fault users before p.user p.element) (refusal_at p) (schema_refusal (users_with users p.user p.element) (elements_with before p.user p.element) ps) e in
+    let parts = none_of_both (part_fault users before p.user p.element) (part_refusal p) (schema_refusal (users_with users p.user p.element) (elements_with before p.user p.element) ps) e in
     accepted_parts (users_with users p.user p.element) (elements_with before p.user p.element) ps
     (accepted_with users before p.user p.element all parts.0) parts.1
 

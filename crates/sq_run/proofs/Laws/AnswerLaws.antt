@@ -23,7 +23,7 @@ use Rattle.sq_meaning.proofs.AnswerLaws.{then_answers, weaker}
 use Rattle.sq_meaning.proofs.QueryKinds.{Ends, rows_of_kinds}
 use Rattle.sq_meaning.proofs.ReadingKinds.{cursor_of_kinds, database_agrees, env_by_name}
 use Rattle.sq_meaning.specs.Catalog.{tables_of}
-use Rattle.sq_meaning.specs.Change.{outer_env, reading}
+use Rattle.sq_meaning.specs.Change.{outer_env, reading_in}
 use Rattle.sq_meaning.specs.Machine.{Running, cursor_rows, select_into, select_reply, selected_row, setting, single_row, sort_order, sorted_query, surroundings}
 use Rattle.sq_meaning.specs.Parameter.{Parameters, Retrieval, domain_of_parameter, indicated, inputs_of, is_cut, reply_of, row_retrieved, target_set, value_retrieved}
 use Rattle.sq_meaning.specs.WellFormedStatement.{cursor_query, select_of_statement}
@@ -85,14 +85,14 @@ pub record IsDeclaredState (r : Running) : Type 0 where
   pub inputs : AreInputsAs (surroundings r).parameters (inputs_of r.parameters)
 
 pub select_into_answers : (r : Running) (s : SelectStatement) → IsDeclaredState r
-    → WellFormedSelect (reading (setting r)) (kinds_by_name (tables_of r.program.elements) (surroundings r).parameters) (IsDeclaredIn (surroundings r).parameters) [] (select_of_statement r.in_module.authorization s)
+    → WellFormedSelect (reading_in (setting r)) (kinds_by_name (tables_of r.program.elements) (surroundings r).parameters) (IsDeclaredIn (surroundings r).parameters) [] (select_of_statement r.in_module.authorization s)
     → IsNoSyntaxError ((select_into r s).1).status
 select_into_answers r s d w =
     select_reply_ends r s (selected_row r s)
-    (ends_then (rows (reading (setting r)) (select_of_statement r.in_module.authorization s) (outer_env (setting r))) single_row
+    (ends_then (rows (reading_in (setting r)) (select_of_statement r.in_module.authorization s) (outer_env (setting r))) single_row
     (weaker (λ found. Has (λ kinds. AreRowsOf kinds found) (select_kinds (kinds_by_name (tables_of r.program.elements) (surroundings r).parameters) [] (select_of_statement r.in_module.authorization s))) (λ found. ⊤)
-    (rows (reading (setting r)) (select_of_statement r.in_module.authorization s) (outer_env (setting r))) (λ found p. tt)
-    (rows_of_kinds (reading (setting r)) (kinds_by_name (tables_of r.program.elements) (surroundings r).parameters) (IsDeclaredIn (surroundings r).parameters)
+    (rows (reading_in (setting r)) (select_of_statement r.in_module.authorization s) (outer_env (setting r))) (λ found p. tt)
+    (rows_of_kinds (reading_in (setting r)) (kinds_by_name (tables_of r.program.elements) (surroundings r).parameters) (IsDeclaredIn (surroundings r).parameters)
     (database_agrees (tables_of r.program.elements) r.state.tables r.in_module.authorization (surroundings r).parameters d.tables) (select_of_statement r.in_module.authorization s) [] (outer_env (setting r)) w
     (env_by_name (tables_of r.program.elements) r.state.tables r.in_module.authorization (surroundings r).parameters (inputs_of r.parameters) r.in_module.authorization d.inputs)))
     single_ends)
@@ -100,7 +100,7 @@ select_into_answers r s d w =
 -- ---- the query of a cursor (13.2), whose sort keys mean columns
 
 pub cursor_rows_answer : (r : Running) (c : Cursor) → IsDeclaredState r → HasValue (sort_order r c)
-    → WellFormedQuery (reading (setting r)) (kinds_by_name (tables_of r.program.elements) (surroundings r).parameters) (IsDeclaredIn (surroundings r).parameters) (cursor_query (surroundings r) c)
+    → WellFormedQuery (reading_in (setting r)) (kinds_by_name (tables_of r.program.elements) (surroundings r).parameters) (IsDeclaredIn (surroundings r).parameters) (cursor_query (surroundings r) c)
     → Ends (cursor_rows r c)
 cursor_rows_answer r c d sorts w =
     ends_then (sort_order r c) (sorted_query r c) (has_ends (sort_order r c) sorts)

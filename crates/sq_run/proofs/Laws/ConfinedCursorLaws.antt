@@ -24,13 +24,13 @@ use Rattle.sq_meaning.specs.Target.{Source, Target, cursor_target, seen_through,
 use Rattle.sq_meaning.specs.declared.status.Status.TheVariants as status
 use Rattle.sq_meaning.proofs.Bind.{bind_ok}
 use Rattle.sq_meaning.specs.Catalog.{tables_of}
-use Rattle.sq_meaning.specs.Change.{outer_env, reading}
+use Rattle.sq_meaning.specs.Change.{outer_env, reading_in}
 use Rattle.sq_meaning.specs.Cursor.{CursorState, Fetched, Move, before_rows, fetched, is_open}
 use Rattle.sq_meaning.specs.Machine.{is_entry, CursorEntry, Outcomes, Program, Running, State, close_cursor, cursor_now, cursor_rows, ends_with, fetch_cursor, fetch_reply, fetch_to, move_of, moved, numbers_or_rows, open_by, open_cursor, opened, performed, performed_if, replied, running, set_cursor, setting, shown_now, sort_order, stepped, surroundings, with_cursor}
 use Rattle.sq_meaning.specs.Module.{cursor_named}
 use Rattle.sq_meaning.specs.Parameter.{inputs_of, replied_with}
 use Rattle.sq_meaning.specs.Privileges.{holds}
-use Rattle.sq_meaning.specs.Run.{Item, program_of}
+use Rattle.sq_meaning.specs.Run.{RunItem, program_of}
 use Rattle.sq_meaning.specs.SchemaRefusal.{first_schema_refusal}
 use Rattle.sq_meaning.specs.Site.{Known, Site, outside, query_sites, select_sites}
 use Rattle.sq_meaning.specs.WellFormedStatement.{Surroundings, cursor_query, cursor_names, cursor_sites, is_plain, is_sound, is_well_formed_procedure, judged_by, known_in, known_in_query, only_specification, opener_surroundings, orientation_of, sort_sites, statement_sites, updatable_cursor}
@@ -135,7 +135,7 @@ module _ (p : Program) (m : ModuleText) (s t : State) (same : EntriesAlike p m s
         (none_missing (judged_by around known) (cursor_sites around c) sound)).0
 
     query_same : (kinds : Kinds Named) (env : Env FromItem)
-        → query_rows (reading (setting before)) kinds (cursor_query around c) env ≡ query_rows (reading (setting beside)) kinds (cursor_query around c) env
+        → query_rows (reading_in (setting before)) kinds (cursor_query around c) env ≡ query_rows (reading_in (setting beside)) kinds (cursor_query around c) env
     query_same kinds env =
         query_alike (tables_of p.elements) (table_rows (tables_of p.elements) s.tables m.authorization) (table_rows (tables_of p.elements) t.tables m.authorization)
         (holds p.elements m.authorization) same.tables known kinds (cursor_query around c) env query_may
@@ -262,14 +262,14 @@ module _ (schemas : List SchemaText) (modules : List ModuleText) (row_numbers : 
   p = program_of schemas modules row_numbers
 
   -- what a target shows is what is read under its name
-  is_read : (items : List Item) (user : Name) (name : TableName) (target : Target) (inputs : List Input) → target_of (tables_of p.elements) name ≡ Ok target
+  is_read : (items : List RunItem) (user : Name) (name : TableName) (target : Target) (inputs : List Input) → target_of (tables_of p.elements) name ≡ Ok target
       → table_rows (tables_of p.elements) (state_after p items).tables user name ≡ shown_rows p.elements user inputs target (state_after p items).tables
   is_read items user name target inputs means =
       are_read (state_after p items).tables user (tables_of p.elements) (table_rows (tables_of p.elements) (state_after p items).tables user) inputs p.elements
       (names_fit schemas accepted)
       (all_sound schemas accepted (state_after p items).tables (constraints_hold_in_runs schemas modules row_numbers items accepted).0 user) name target means
 
-  both_read : (items others : List Item) (m : ModuleText) → LookAlike p.elements m.authorization (state_after p items).tables (state_after p others).tables
+  both_read : (items others : List RunItem) (m : ModuleText) → LookAlike p.elements m.authorization (state_after p items).tables (state_after p others).tables
       → AreRead p m.authorization (state_after p items).tables (state_after p others).tables
   both_read items others m alike = record {
     wide = are_as_wide p.elements (names_fit schemas accepted);
@@ -280,7 +280,7 @@ module _ (schemas : List SchemaText) (modules : List ModuleText) (row_numbers : 
   }
 
   -- the same cursors are there in both
-  entries : (items others : List Item) (m : ModuleText) → AlikeTo p m (state_after p items) (state_after p others) → EntriesAlike p m (state_after p items) (state_after p others)
+  entries : (items others : List RunItem) (m : ModuleText) → AlikeTo p m (state_after p items) (state_after p others) → EntriesAlike p m (state_after p items) (state_after p others)
   entries items others m same = record {
     tables = same.tables;
     cursors = λ name.

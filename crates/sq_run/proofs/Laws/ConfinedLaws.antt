@@ -33,7 +33,7 @@ use Rattle.sq_meaning.specs.Change.{outer_env}
 use Rattle.sq_meaning.specs.Machine.{Outcomes, Program, Running, State, performed, performed_if, running, select_reply, selected_row, setting, single_row, surroundings}
 use Rattle.sq_meaning.specs.Privilege.{Privilege}
 use Rattle.sq_meaning.specs.Privileges.{holds}
-use Rattle.sq_meaning.specs.Site.{Around, Known, Site, alike_pairs, beside_subquery, clause_sites, cond_sites, conds_sites, inside, kinds_here, list_count, list_sites, outside, plain_query, query_kinds_of, query_sites, select_count, select_sites, shown_query}
+use Rattle.sq_meaning.specs.Site.{Around, Known, Site, alike_pairs, beside_subquery, clause_sites, cond_sites, conds_sites, inside_query, kinds_here, list_count, list_sites, outside, plain_query, query_kinds_of, query_sites, select_count, select_sites, shown_query}
 use Rattle.sq_meaning.specs.WellFormedStatement.{into_sites, is_well_formed_procedure, known_in, select_of_statement}
 use Rattle.sq_run.specs.Confined.{LookAlike, SelectTellsWhatMayBeRead}
 use Rattle.sq_run.proofs.Laws.CalledAs.{called_as}
@@ -115,7 +115,7 @@ module _ (tables : Tables) (one other : TableName → Outcome (List Row)) (may :
   -- what the sites of a query specification are made of
   abbrev listed_sites : Known → Around → SelectList Named → List TableReference → List ColumnReference → Clause Named → List Site
   listed_sites k a list from by having =
-      Site.from_whole from ∷ Site.column_count (list_count k.tables from list) ∷ list_sites k (inside a (shown_query from list by having) true) list (is_grouped list by having)
+      Site.from_whole from ∷ Site.column_count (list_count k.tables from list) ∷ list_sites k (inside_query a (shown_query from list by having) true) list (is_grouped list by having)
 
   abbrev before_where : Known → Around → SelectList Named → List TableReference → List ColumnReference → Clause Named → List Site
   before_where k a list from by having = map Site.table_read from ++ listed_sites k a list from by having
@@ -157,15 +157,15 @@ module _ (tables : Tables) (one other : TableName → Outcome (List Row)) (may :
 
     rows_alike : (k : Known) (a : Around) (q : Select Named) (env : Env Item) → AllMay (select_sites k a q) → rows m q env ≡ rows n q env
     rows_alike k a (select distinct list from filter by having) env h =
-        let last = all_parts MayBeRead (before_where k a list from by having ++ clause_sites k (inside a (plain_query from) false) filter ++ map (Site.column_read (inside a (plain_query from) false)) by)
-        (clause_sites k (inside a (shown_query from list by having) true) having) h in
-        let third = all_parts MayBeRead (before_where k a list from by having ++ clause_sites k (inside a (plain_query from) false) filter) (map (Site.column_read (inside a (plain_query from) false)) by) last.0 in
-        let second = all_parts MayBeRead (before_where k a list from by having) (clause_sites k (inside a (plain_query from) false) filter) third.0 in
+        let last = all_parts MayBeRead (before_where k a list from by having ++ clause_sites k (inside_query a (plain_query from) false) filter ++ map (Site.column_read (inside_query a (plain_query from) false)) by)
+        (clause_sites k (inside_query a (shown_query from list by having) true) having) h in
+        let third = all_parts MayBeRead (before_where k a list from by having ++ clause_sites k (inside_query a (plain_query from) false) filter) (map (Site.column_read (inside_query a (plain_query from) false)) by) last.0 in
+        let second = all_parts MayBeRead (before_where k a list from by having) (clause_sites k (inside_query a (plain_query from) false) filter) third.0 in
         let first = all_parts MayBeRead (map Site.table_read from) (listed_sites k a list from by having) second.0 in
         (λ i. and_then (each m.item from) (λ heads. and_then (tables_alike from first.0 i) (λ ts. and_then
-        (kept (λ line. is_true (clause_alike k (inside a (plain_query from) false) filter (within (alone heads line) env) second.1 i)) (product ts)) (λ lines. and_then
+        (kept (λ line. is_true (clause_alike k (inside_query a (plain_query from) false) filter (within (alone heads line) env) second.1 i)) (product ts)) (λ lines. and_then
         (scopes_alike list by having heads lines env i) (λ scopes. and_then
-        (kept (λ scope. is_true (clause_alike k (inside a (shown_query from list by having) true) having (within scope env) last.1 i)) scopes) (λ left. and_then
+        (kept (λ scope. is_true (clause_alike k (inside_query a (shown_query from list by having) true) having (within scope env) last.1 i)) scopes) (λ left. and_then
         (each (λ scope. listed_alike list (within scope env) i) left) (λ shown. Ok (if distinct then firsts same_row shown else shown))))))))
 
   -- ---- query expressions

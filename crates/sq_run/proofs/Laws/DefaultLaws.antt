@@ -32,7 +32,7 @@ use Rattle.sq_meaning.specs.Machine.{Call, Outcomes, Program, State, entries_of,
 use Rattle.sq_meaning.specs.Module.{cursors, declared_parameters, module_named, parameter_declarations, procedure_named}
 use Rattle.sq_meaning.specs.ModuleRefusal.{first_module_refusal, is_bad_type}
 use Rattle.sq_meaning.specs.Parameter.{started}
-use Rattle.sq_meaning.specs.Run.{Item, after, after_item, program_of}
+use Rattle.sq_meaning.specs.Run.{RunItem, after, after_item, program_of}
 use Rattle.sq_meaning.specs.Schema.{Elements, base_place, column_definitions, has_name_twice}
 use Rattle.sq_meaning.specs.SchemaRefusal.{elements_of, first_schema_refusal}
 use Rattle.sq_meaning.specs.Script.{fit, fits_in}
@@ -146,41 +146,41 @@ module _ (p : Program) where
   same_cursors : (s t : State) → t.cursors ≡ s.cursors → HasCursors p s → HasCursors p t
   same_cursors s t e h = λ m c among own. ap (list_any (is_entry m.name c.name)) e ∙ h m c among own
 
-  call_keeps : (s : State) (c : Call) → HasCursors p s → HasCursors p (after_item p s (Item.call c))
+  call_keeps : (s : State) (c : Call) → HasCursors p s → HasCursors p (after_item p s (RunItem.call c))
   call_keeps s c h = by_module (module_named p.modules c.in_module) refl
     where
-      by_turn : (m : ModuleText) (q : Procedure) → (o : Outcomes) → after_item p s (Item.call c) ≡ o.0 → Turn (running p s c.values m q) q.statement o
-          → HasCursors p (after_item p s (Item.call c))
-      by_turn m q o e (Turn.stays t) = same_cursors s (after_item p s (Item.call c)) (ap (λ (x : State). x.cursors) e ∙ t) h
+      by_turn : (m : ModuleText) (q : Procedure) → (o : Outcomes) → after_item p s (RunItem.call c) ≡ o.0 → Turn (running p s c.values m q) q.statement o
+          → HasCursors p (after_item p s (RunItem.call c))
+      by_turn m q o e (Turn.stays t) = same_cursors s (after_item p s (RunItem.call c)) (ap (λ (x : State). x.cursors) e ∙ t) h
       by_turn m q o e (Turn.all_close t) = λ k d among own.
           ap (list_any (is_entry k.name d.name)) (ap (λ (x : State). x.cursors) e ∙ t) ∙ closed_there k.name d.name s.cursors ∙ h k d among own
       by_turn m q o e (Turn.sets name x t set) = λ k d among own.
           ap (list_any (is_entry k.name d.name)) (ap (λ (y : State). y.cursors) e ∙ t) ∙ still_there m.name name k.name d.name x s.cursors ∙ h k d among own
 
       by_rules : (m : ModuleText) → module_named p.modules c.in_module ≡ Some m → (q : Procedure) → procedure_named m c.procedure ≡ Some q
-          → (b : Bool) → is_well_formed_procedure p.elements m q ≡ b → HasCursors p (after_item p s (Item.call c))
+          → (b : Bool) → is_well_formed_procedure p.elements m q ≡ b → HasCursors p (after_item p s (RunItem.call c))
       by_rules m is_m q is_q true e =
           by_turn m q (performed (running p s c.values m q) q.statement)
           (ap (λ (o : Outcomes). o.0) (called_as p s c m is_m q is_q ∙ ap (λ b. performed_if b (running p s c.values m q)) e))
           (turn (running p s c.values m q) q.statement)
       by_rules m is_m q is_q false e =
-          same_cursors s (after_item p s (Item.call c))
+          same_cursors s (after_item p s (RunItem.call c))
           (ap (λ (o : Outcomes). (o.0).cursors) (called_as p s c m is_m q is_q ∙ ap (λ b. performed_if b (running p s c.values m q)) e)) h
 
       by_procedure : (m : ModuleText) → module_named p.modules c.in_module ≡ Some m → (o : Option Procedure) → procedure_named m c.procedure ≡ o
-          → HasCursors p (after_item p s (Item.call c))
-      by_procedure m is_m None e = same_cursors s (after_item p s (Item.call c)) (ap (λ (o : Outcomes). (o.0).cursors) (no_procedure p s c m is_m e)) h
+          → HasCursors p (after_item p s (RunItem.call c))
+      by_procedure m is_m None e = same_cursors s (after_item p s (RunItem.call c)) (ap (λ (o : Outcomes). (o.0).cursors) (no_procedure p s c m is_m e)) h
       by_procedure m is_m (Some q) e = by_rules m is_m q e (is_well_formed_procedure p.elements m q) refl
 
-      by_module : (o : Option ModuleText) → module_named p.modules c.in_module ≡ o → HasCursors p (after_item p s (Item.call c))
-      by_module None e = same_cursors s (after_item p s (Item.call c)) (ap (λ (o : Outcomes). (o.0).cursors) (no_module p s c e)) h
+      by_module : (o : Option ModuleText) → module_named p.modules c.in_module ≡ o → HasCursors p (after_item p s (RunItem.call c))
+      by_module None e = same_cursors s (after_item p s (RunItem.call c)) (ap (λ (o : Outcomes). (o.0).cursors) (no_module p s c e)) h
       by_module (Some m) e = by_procedure m e (procedure_named m c.procedure) refl
 
-  item_keeps : (s : State) (i : Item) → HasCursors p s → HasCursors p (after_item p s i)
-  item_keeps s (Item.call c) h = call_keeps s c h
-  item_keeps s (Item.show name) h = h
+  item_keeps : (s : State) (i : RunItem) → HasCursors p s → HasCursors p (after_item p s i)
+  item_keeps s (RunItem.call c) h = call_keeps s c h
+  item_keeps s (RunItem.show name) h = h
 
-  all_keep : (items : List Item) (s : State) → HasCursors p s → HasCursors p (after p s items)
+  all_keep : (items : List RunItem) (s : State) → HasCursors p s → HasCursors p (after p s items)
   all_keep [] s h = h
   all_keep (i ∷ items) s h = all_keep items (after_item p s i) (item_keeps s i h)
 

@@ -23,9 +23,9 @@ use Rattle.sq_run.proofs.Laws.CallLaws.{NamesDiffer, StateHolds, constraints_hol
 use Rattle.sq_meaning.specs.Catalog.{base_count, column_domain, tables_of}
 use Rattle.sq_meaning.specs.Constraints.{AreInDomains, ChecksHold, ConstraintsHold, DomainsHold, all_satisfied, demanded, key_satisfied, keys_satisfied, reference_satisfied, row_satisfied, rows_of_base}
 use Rattle.sq_meaning.specs.Machine.{Call, Program, State, first_state, stepped}
-use Rattle.sq_meaning.specs.Run.{Item, after, program_of}
+use Rattle.sq_meaning.specs.Run.{RunItem, after, program_of}
 use Rattle.sq_meaning.specs.Schema.{BaseTable, Elements, base_place, base_table_of, base_tables, column_definitions, keys, table_references}
-use Rattle.sq_meaning.specs.SchemaRefusal.{Part, elements_of, elements_with, first_schema_refusal, is_made, is_made_again, name_twice, other_schema, part_fault, refusal_at, refused_for, same_user, schema_faults, schema_parts, schema_refusal, users_with}
+use Rattle.sq_meaning.specs.SchemaRefusal.{Part, elements_of, elements_with, first_schema_refusal, is_made, is_made_again, name_twice, other_schema, part_fault, part_refusal, refused_for, same_user, schema_faults, schema_parts, schema_refusal, users_with}
 use Rattle.sq_meaning.specs.Tables.{rows_in}
 use Rattle.sq_meaning.specs.declared.status.Status.{Status}
 use Rattle.sq_meaning.specs.declared.status.Status.TheVariants as status
@@ -108,7 +108,7 @@ new_names : (users : List Name) (before : Elements) (parts : List Part) → NewN
     → NewNames (fold (λ b p. elements_with b p.user p.element) before parts)
 new_names users before [] new e = new
 new_names users before (p ∷ ps) new e =
-    let parts = none_both (part_fault users before p.user p.element) (refusal_at p) (schema_refusal (users_with users p.user p.element) (elements_with before p.user p.element) ps) e in
+    let parts = none_both (part_fault users before p.user p.element) (part_refusal p) (schema_refusal (users_with users p.user p.element) (elements_with before p.user p.element) ps) e in
     new_names (users_with users p.user p.element) (elements_with before p.user p.element) ps (new_with users before p.user p.element new parts.0) parts.1
 
 -- ---- base tables, the last one behind the others
@@ -247,14 +247,14 @@ hold_at_first p = (holding, holding)
     holding : ConstraintsHold p.elements (no_rows (base_count p.elements))
     holding = (λ place t there. domains_of_none p.elements (base_count p.elements) t, λ place t there. checks_of_none p.elements (base_count p.elements) t)
 
-hold_along : (texts : List SchemaText) (modules : List ModuleText) (row_numbers : ℕ) → first_schema_refusal texts ≡ None → (items : List Item) (s : State)
+hold_along : (texts : List SchemaText) (modules : List ModuleText) (row_numbers : ℕ) → first_schema_refusal texts ≡ None → (items : List RunItem) (s : State)
     → StateHolds (elements_of texts) s → StateHolds (elements_of texts) (after (program_of texts modules row_numbers) s items)
 hold_along texts modules row_numbers e [] s hold = hold
-hold_along texts modules row_numbers e (Item.call c ∷ items) s hold =
+hold_along texts modules row_numbers e (RunItem.call c ∷ items) s hold =
     hold_along texts modules row_numbers e items (stepped (program_of texts modules row_numbers) s c) (accepted_hold_after texts modules row_numbers s c e hold)
-hold_along texts modules row_numbers e (Item.show name ∷ items) s hold = hold_along texts modules row_numbers e items s hold
+hold_along texts modules row_numbers e (RunItem.show name ∷ items) s hold = hold_along texts modules row_numbers e items s hold
 
 -- In a run of schemas that are not refused all constraints hold after every item, now and of what is committed.
-pub constraints_hold_in_runs : (texts : List SchemaText) (modules : List ModuleText) (row_numbers : ℕ) (items : List Item) → first_schema_refusal texts ≡ None
+pub constraints_hold_in_runs : (texts : List SchemaText) (modules : List ModuleText) (row_numbers : ℕ) (items : List RunItem) → first_schema_refusal texts ≡ None
     → StateHolds (elements_of texts) (after (program_of texts modules row_numbers) (first_state (program_of texts modules row_numbers)) items)
 constraints_hold_in_runs texts modules row_numbers items e = hold_along texts modules row_numbers e items (first_state (program_of texts modules row_numbers)) (hold_at_first (program_of texts modules row_numbers))

@@ -27,7 +27,7 @@ use Rattle.sq_meaning.specs.Machine.{Program, State}
 use Rattle.sq_meaning.specs.Privilege.{Privilege}
 use Rattle.sq_meaning.specs.Privileges.{holds}
 use Rattle.sq_meaning.specs.Schema.{Elements}
-use Rattle.sq_meaning.specs.Site.{Known, Site, clause_sites, inside, outside, plain_query, select_sites}
+use Rattle.sq_meaning.specs.Site.{Known, Site, clause_sites, inside_query, outside, plain_query, select_sites}
 use Rattle.sq_run.specs.Confined.{LookAlike}
 use Rattle.sq_run.specs.ConfinedCursors.{LooksAlike, shown_under}
 use Rattle.sq_run.proofs.Laws.ConfinedLaws.{clause_alike}
@@ -166,7 +166,7 @@ module _ (p : Program) (m : ModuleText) (s t : State) (same : AreRead p m.author
 
     -- ---- in both
 
-    parts : AllMay (map Site.table_read from) × AllMay (clause_sites k (inside outside (plain_query from) false) filter)
+    parts : AllMay (map Site.table_read from) × AllMay (clause_sites k (inside_query outside (plain_query from) false) filter)
     parts = read_parts MayBeRead k distinct list from filter by having may
 
     held : holds p.elements m.authorization over.reference.table Privilege.select ≡ true
@@ -177,7 +177,7 @@ module _ (p : Program) (m : ModuleText) (s t : State) (same : AreRead p m.author
     own_same : (x : Row) → own (by_name (tables_of p.elements) s.tables m.authorization) x ≡ own (by_name (tables_of p.elements) t.tables m.authorization) x
     own_same x =
         ap is_true (clause_alike (tables_of p.elements) (table_rows (tables_of p.elements) s.tables m.authorization) (table_rows (tables_of p.elements) t.tables m.authorization)
-        (holds p.elements m.authorization) same.tables k (inside outside (plain_query from) false) filter (within (alone (source.item ∷ []) (x ∷ [])) env) parts.1)
+        (holds p.elements m.authorization) same.tables k (inside_query outside (plain_query from) false) filter (within (alone (source.item ∷ []) (x ∷ [])) env) parts.1)
 
     abbrev numbers_in : Content → Outcome (List ℕ)
     numbers_in content = chosen_numbers (by_name (tables_of p.elements) content m.authorization) env target (table_at content target.place).rows

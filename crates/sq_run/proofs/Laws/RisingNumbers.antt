@@ -21,7 +21,7 @@ use Rattle.sq_meaning.specs.Status.{Outcome, kept}
 use Rattle.sq_meaning.specs.Target.{Level, Target, chosen, chosen_numbers, level_truth}
 use Rattle.sq_meaning.specs.declared.status.Status.TheVariants as status
 use Rattle.sq_meaning.proofs.Bind.{bind_ok}
-use Rattle.sq_meaning.specs.Change.{outer_env, reading, rows_at}
+use Rattle.sq_meaning.specs.Change.{outer_env, reading_in, rows_at}
 use Rattle.sq_meaning.specs.Cursor.{CursorState, Move, at_number, before_numbers, before_rows, fetched, is_open, number_on, off_row, to_next}
 use Rattle.sq_meaning.specs.Machine.{Call, Outcomes, Program, Running, State, cursor_at, cursor_now, cursor_rows, ends_with, fetch_cursor, fetch_to, first_state, move_of, numbers_or_rows, opened, performed, performed_if, running, set_cursor, setting, shown_now, stepped, surroundings}
 use Rattle.sq_meaning.specs.Module.{cursor_named, module_named, procedure_named}
@@ -125,11 +125,11 @@ opened_rises r d c tables e = by_target (updatable_cursor (surroundings r) d) e
         let same : before_rows rows.0 ≡ c = cc in
         subst Rises same tt
     by_target (Some target) e =
-        let numbers = bind_ok (chosen_numbers (reading (setting r)) (outer_env (setting r)) target (rows_at (setting r) target.place)) (λ ns. Ok (before_numbers ns)) c e in
-        let found = bind_ok (chosen (reading (setting r)) (outer_env (setting r)) target.levels (rows_at (setting r) target.place)) (λ xs. Ok (numbers_in xs)) numbers.0 numbers.1 in
+        let numbers = bind_ok (chosen_numbers (reading_in (setting r)) (outer_env (setting r)) target (rows_at (setting r) target.place)) (λ ns. Ok (before_numbers ns)) c e in
+        let found = bind_ok (chosen (reading_in (setting r)) (outer_env (setting r)) target.levels (rows_at (setting r) target.place)) (λ xs. Ok (numbers_in xs)) numbers.0 numbers.1 in
         let are : numbers_in found.0 ≡ numbers.0 = cc in
         let same : before_numbers numbers.0 ≡ c = cc in
-        let rise = chosen_rise (reading (setting r)) (outer_env (setting r)) 1 target.levels (rows_at (setting r) target.place) found.0
+        let rise = chosen_rise (reading_in (setting r)) (outer_env (setting r)) 1 target.levels (rows_at (setting r) target.place) found.0
         (rows_rise 1 (table_at r.state.tables target.place).next (rows_at (setting r) target.place) (tables target.place)) found.1 in
         let one : 1 ≡ unwrap_or None 0 + 1 = omega arith in
         subst Rises same (subst (λ low. Rise low numbers.0) one (subst (Rise 1) are rise))

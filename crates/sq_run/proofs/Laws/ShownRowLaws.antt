@@ -28,12 +28,12 @@ use Rattle.sq_meaning.specs.Target.{Level, Target, chosen, chosen_numbers, level
 use Rattle.sq_meaning.specs.declared.status.Status.TheVariants as status
 use Rattle.sq_meaning.proofs.AnswerLaws.{all_flat_mapped, all_mapped, all_true, all_weaker}
 use Rattle.sq_meaning.proofs.Bind.{bind_ok}
-use Rattle.sq_meaning.specs.Change.{insert_outcome, outer_env, reading, rows_at}
+use Rattle.sq_meaning.specs.Change.{insert_outcome, outer_env, reading_in, rows_at}
 use Rattle.sq_meaning.specs.Cursor.{CursorState, Fetched, Move, at_number, before_numbers, fetched, is_open, number_on, off_row, to_next}
 use Rattle.sq_meaning.specs.Machine.{Call, CursorEntry, Outcomes, Program, Running, State, all_closed, behind_delete, change_by, cursor_at, cursor_now, delete_rows, ends_with, entries_of, fetch_cursor, fetch_reply, fetch_to, first_state, is_entry, move_of, moved, numbered_row, numbers_or_rows, open_by, open_cursor, opened, outcome, performed, performed_if, replied, running, set_cursor, setting, shown_now, stepped, surroundings, update_rows}
 use Rattle.sq_meaning.specs.Module.{cursor_named, cursors, module_named, procedure_named}
 use Rattle.sq_meaning.specs.Parameter.{replied_row, replied_with}
-use Rattle.sq_meaning.specs.Run.{Item, after_item}
+use Rattle.sq_meaning.specs.Run.{RunItem, after_item}
 use Rattle.sq_meaning.specs.WellFormedStatement.{is_well_formed_procedure, orientation_of, updatable_cursor}
 use Rattle.sq_run.specs.ShownRows.{FetchReply, FetchShowsRowsNow, Fetches, IsMet, StaysOpen, WasMet, performing, state_after}
 use Rattle.sq_run.proofs.Laws.CalledAs.{called_as, no_module, no_procedure}
@@ -80,15 +80,15 @@ module _ (m : Reading Named) (env : Env FromItem) where
       (chosen_met Q levels some.0 found passed some.2)
 
 numbers_met : (r : Running) (target : Target) (numbers : List ℕ)
-    → chosen_numbers (reading (setting r)) (outer_env (setting r)) target (rows_at (setting r) target.place) ≡ Ok numbers
+    → chosen_numbers (reading_in (setting r)) (outer_env (setting r)) target (rows_at (setting r) target.place) ≡ Ok numbers
     → AllByRecursion (IsMet r target) numbers
 numbers_met r target numbers e =
     let rows : List Numbered = rows_at (setting r) target.place in
-    let found = bind_ok (chosen (reading (setting r)) (outer_env (setting r)) target.levels rows) (λ xs. Ok (map (λ x. x.number) xs)) numbers e in
+    let found = bind_ok (chosen (reading_in (setting r)) (outer_env (setting r)) target.levels rows) (λ xs. Ok (map (λ x. x.number) xs)) numbers e in
     let same : map (λ x. x.number) found.0 ≡ numbers = cc in
-    let met = chosen_met (reading (setting r)) (outer_env (setting r)) (IsAmong rows) target.levels rows found.0 (all_among rows) found.1 in
+    let met = chosen_met (reading_in (setting r)) (outer_env (setting r)) (IsAmong rows) target.levels rows found.0 (all_among rows) found.1 in
     subst (AllByRecursion (IsMet r target)) same
-    (all_mapped (λ x. IsAmong rows x × AllMet (reading (setting r)) (outer_env (setting r)) target.levels x.row) (IsMet r target) (λ x. x.number)
+    (all_mapped (λ x. IsAmong rows x × AllMet (reading_in (setting r)) (outer_env (setting r)) target.levels x.row) (IsMet r target) (λ x. x.number)
     (λ x h. record { row = x; is_there = h.0; numbered = refl; conditions = h.1 }) found.0 met)
 
 -- ---- what a statement makes of cursors
@@ -247,31 +247,31 @@ module _ (p : Program) where
   abbrev updatable : ModuleText → Cursor → Option Target
   updatable m d = updatable_cursor (record { elements = p.elements; in_module = m; parameters = [] }) d
 
-  abbrev now_at : List Item → ModuleText → Name → CursorState
+  abbrev now_at : List RunItem → ModuleText → Name → CursorState
   now_at items m name = cursor_at (state_after p items) m.name name
 
   -- where the cursor of this name is updatable, it is over numbers that met its conditions
-  abbrev IsKept : List Item → ModuleText → Name → CursorState → Type 0
+  abbrev IsKept : List RunItem → ModuleText → Name → CursorState → Type 0
   IsKept items m name c = (d : Cursor) (target : Target) → cursor_named m name ≡ Some d → updatable m d ≡ Some target
       → Over (WasMet p items m name target) c
 
-  abbrev AllKept : List Item → Type 0
+  abbrev AllKept : List RunItem → Type 0
   AllKept items = (m : ModuleText) (name : Name) → module_named p.modules m.name ≡ Some m → IsKept items m name (now_at items m name)
 
   -- ---- one item more
 
-  stays_open : (k name : Name) (s : State) (later : List Item) (i : Item) → StaysOpen p k name s later
+  stays_open : (k name : Name) (s : State) (later : List RunItem) (i : RunItem) → StaysOpen p k name s later
       → is_open (cursor_at (fold (after_item p) s (later ++ i ∷ [])) k name) ≡ true → StaysOpen p k name s (later ++ i ∷ [])
   stays_open k name s [] i h e = (h, e)
   stays_open k name s (j ∷ later) i h e = (h.0, stays_open k name (after_item p s j) later i h.1 e)
 
-  still_met : (items : List Item) (i : Item) (m : ModuleText) (name : Name) (target : Target) → is_open (now_at (items ++ i ∷ []) m name) ≡ true
+  still_met : (items : List RunItem) (i : RunItem) (m : ModuleText) (name : Name) (target : Target) → is_open (now_at (items ++ i ∷ []) m name) ≡ true
       → (n : ℕ) → WasMet p items m name target n → WasMet p (items ++ i ∷ []) m name target n
   still_met items i m name target open_now n w =
-      let are : items ++ i ∷ [] ≡ w.earlier ++ Item.call w.opening ∷ (w.later ++ i ∷ [])
-      = ap (λ xs. xs ++ i ∷ []) w.are ∙ append_assoc w.earlier (Item.call w.opening ∷ w.later) (i ∷ []) in
+      let are : items ++ i ∷ [] ≡ w.earlier ++ RunItem.call w.opening ∷ (w.later ++ i ∷ [])
+      = ap (λ xs. xs ++ i ∷ []) w.are ∙ append_assoc w.earlier (RunItem.call w.opening ∷ w.later) (i ∷ []) in
       let state : state_after p (items ++ i ∷ []) ≡ fold (after_item p) (stepped p (state_after p w.earlier) w.opening) (w.later ++ i ∷ [])
-      = ap (state_after p) are ∙ fold-append (after_item p) (first_state p) w.earlier (Item.call w.opening ∷ (w.later ++ i ∷ [])) in
+      = ap (state_after p) are ∙ fold-append (after_item p) (first_state p) w.earlier (RunItem.call w.opening ∷ (w.later ++ i ∷ [])) in
       record {
         earlier = w.earlier;
         opening = w.opening;
@@ -289,7 +289,7 @@ module _ (p : Program) where
       }
 
   -- a cursor that is now what one over numbers that met them makes of it
-  kept_as : (items : List Item) (i : Item) (m : ModuleText) (name : Name) (c : CursorState) → now_at (items ++ i ∷ []) m name ≡ c
+  kept_as : (items : List RunItem) (i : RunItem) (m : ModuleText) (name : Name) (c : CursorState) → now_at (items ++ i ∷ []) m name ≡ c
       → IsKept items m name c → IsKept (items ++ i ∷ []) m name (now_at (items ++ i ∷ []) m name)
   kept_as items i m name c e h = λ d target named is.
       subst (Over (WasMet p (items ++ i ∷ []) m name target)) (sym e)
@@ -297,16 +297,16 @@ module _ (p : Program) where
       (λ is_now. still_met items i m name target (ap is_open e ∙ is_now)) (h d target named is))
 
   -- a cursor that a call has just opened
-  module _ (items : List Item) (c : Call) (m : ModuleText) (is_m : module_named p.modules c.in_module ≡ Some m) (q : Procedure)
+  module _ (items : List RunItem) (c : Call) (m : ModuleText) (is_m : module_named p.modules c.in_module ≡ Some m) (q : Procedure)
       (is_q : procedure_named m c.procedure ≡ Some q) where
     abbrev run : Running
     run = running p (state_after p items) c.values m q
 
-    abbrev next : List Item
-    next = items ++ Item.call c ∷ []
+    abbrev next : List RunItem
+    next = items ++ RunItem.call c ∷ []
 
     next_state : state_after p next ≡ stepped p (state_after p items) c
-    next_state = fold-append (after_item p) (first_state p) items (Item.call c ∷ [])
+    next_state = fold-append (after_item p) (first_state p) items (RunItem.call c ∷ [])
 
     just_met : (name : Name) (target : Target) → q.statement ≡ statement.Open name
         → replied p (state_after p items) c ≡ replied_with status.SuccessfulCompletion → is_open (now_at next m name) ≡ true → (n : ℕ)
@@ -333,7 +333,7 @@ module _ (p : Program) where
         let same : d ≡ e = some_same d e (sym named ∙ also) in
         let has : numbers_or_rows run e (Some target) ≡ Ok x
         = ap (numbers_or_rows run e) (sym is) ∙ sym (ap (opened run) same) ∙ has_opened in
-        let numbers = bind_ok (chosen_numbers (reading (setting run)) (outer_env (setting run)) target (rows_at (setting run) target.place)) (λ ns. Ok (before_numbers ns)) x has in
+        let numbers = bind_ok (chosen_numbers (reading_in (setting run)) (outer_env (setting run)) target (rows_at (setting run) target.place)) (λ ns. Ok (before_numbers ns)) x has in
         let over : before_numbers numbers.0 ≡ x = cc in
         let open_now : is_open (now_at next m name) ≡ true = ap is_open (is_now ∙ sym over) in
         subst (Over (WasMet p next m name target)) over
@@ -342,24 +342,24 @@ module _ (p : Program) where
 
     set_kept : (o : Outcomes) → outcome p (state_after p items) c ≡ o → (name : Name) (x : CursorState) → now_at next m name ≡ x
         → IsKept items m name (now_at items m name) → Set run q.statement o name x → IsKept next m name (now_at next m name)
-    set_kept o out name x e h (Set.closes is) = kept_as items (Item.call c) m name CursorState.closed (e ∙ is) (λ d target named updates. tt)
+    set_kept o out name x e h (Set.closes is) = kept_as items (RunItem.call c) m name CursorState.closed (e ∙ is) (λ d target named updates. tt)
     set_kept o out name x e h (Set.opens is_open_of d named has_opened done) = λ f target also is.
         subst (Over (WasMet p next m name target)) (sym e)
         (just_opened name d f target x is_open_of (ap (λ (y : Outcomes). y.1) out ∙ done) e named has_opened also is)
     set_kept o out name x e h (Set.fetches was_open now move is) =
-        kept_as items (Item.call c) m name (fetched now move (now_at items m name)).cursor (e ∙ is)
+        kept_as items (RunItem.call c) m name (fetched now move (now_at items m name)).cursor (e ∙ is)
         (λ d target named updates. over_fetched (WasMet p items m name target) now move (now_at items m name) (h d target named updates))
     set_kept o out name x e h (Set.leaves is) =
-        kept_as items (Item.call c) m name (off_row (now_at items m name)) (e ∙ is)
+        kept_as items (RunItem.call c) m name (off_row (now_at items m name)) (e ∙ is)
         (λ d target named updates. over_off (WasMet p items m name target) (now_at items m name) (h d target named updates))
 
     -- every cursor, after the call
     turned : (o : Outcomes) → outcome p (state_after p items) c ≡ o → AllKept items → module_named p.modules m.name ≡ Some m → Turn run q.statement o → AllKept next
     turned o out all own (Turn.stays e) k name is_k =
-        kept_as items (Item.call c) k name (now_at items k name)
+        kept_as items (RunItem.call c) k name (now_at items k name)
         (ap (λ (s : State). cursor_at s k.name name) (next_state ∙ ap (λ (y : Outcomes). y.0) out) ∙ ap (λ es. state_at es k.name name) e) (all k name is_k)
     turned o out all own (Turn.all_close e) k name is_k =
-        kept_as items (Item.call c) k name CursorState.closed
+        kept_as items (RunItem.call c) k name CursorState.closed
         (ap (λ (s : State). cursor_at s k.name name) (next_state ∙ ap (λ (y : Outcomes). y.0) out) ∙ ap (λ es. state_at es k.name name) e
         ∙ closed_found k.name name (state_after p items).cursors) (λ d target named updates. tt)
     turned o out all own (Turn.sets other x e set) k name is_k = by_names (set_or_not m.name other k.name name x (state_after p items).cursors)
@@ -371,7 +371,7 @@ module _ (p : Program) where
         by_names : (state_at (map (set_cursor m.name other x) (state_after p items).cursors) k.name name ≡ state_at (state_after p items).cursors k.name name)
             ⊎ ((k.name ≡ m.name) × (name ≡ other) × (state_at (map (set_cursor m.name other x) (state_after p items).cursors) k.name name ≡ x))
             → IsKept next k name (now_at next k name)
-        by_names (inl h) = kept_as items (Item.call c) k name (now_at items k name) (is_next k.name name ∙ h) (all k name is_k)
+        by_names (inl h) = kept_as items (RunItem.call c) k name (now_at items k name) (is_next k.name name ∙ h) (all k name is_k)
         by_names (inr h) =
             let same : m ≡ k = some_same m k (sym own ∙ ap (module_named p.modules) (sym h.0) ∙ is_k) in
             let set_now : now_at next m other ≡ x = is_next m.name other ∙ sym (λ i. state_at (map (set_cursor m.name other x) (state_after p items).cursors) (h.0 i) (h.1 i)) ∙ h.2 in
@@ -398,52 +398,52 @@ module _ (p : Program) where
   first_kept : AllKept []
   first_kept = λ m name is_m d target named is. subst (Over (WasMet p [] m name target)) (sym (first_closed p m.name name)) tt
 
-  unchanged : (items : List Item) → AllKept items → (i : Item) → after_item p (state_after p items) i ≡ state_after p items → AllKept (items ++ i ∷ [])
+  unchanged : (items : List RunItem) → AllKept items → (i : RunItem) → after_item p (state_after p items) i ≡ state_after p items → AllKept (items ++ i ∷ [])
   unchanged items all i e = λ m name is_m.
       kept_as items i m name (now_at items m name)
       (ap (λ (s : State). cursor_at s m.name name) (fold-append (after_item p) (first_state p) items (i ∷ []) ∙ e)) (all m name is_m)
 
-  call_kept : (items : List Item) → AllKept items → (c : Call) → AllKept (items ++ Item.call c ∷ [])
+  call_kept : (items : List RunItem) → AllKept items → (c : Call) → AllKept (items ++ RunItem.call c ∷ [])
   call_kept items all c = by_module (module_named p.modules c.in_module) refl
     where
       s : State
       s = state_after p items
 
       by_rules : (m : ModuleText) → module_named p.modules c.in_module ≡ Some m → (q : Procedure) → procedure_named m c.procedure ≡ Some q
-          → (b : Bool) → is_well_formed_procedure p.elements m q ≡ b → AllKept (items ++ Item.call c ∷ [])
+          → (b : Bool) → is_well_formed_procedure p.elements m q ≡ b → AllKept (items ++ RunItem.call c ∷ [])
       by_rules m is_m q is_q true e =
           turned items c m is_m q is_q (performed (running p s c.values m q) q.statement)
           (called_as p s c m is_m q is_q ∙ ap (λ b. performed_if b (running p s c.values m q)) e) all (own_name c.in_module m is_m)
           (turn (running p s c.values m q) q.statement)
       by_rules m is_m q is_q false e =
-          unchanged items all (Item.call c)
+          unchanged items all (RunItem.call c)
           (ap (λ (o : Outcomes). o.0) (called_as p s c m is_m q is_q ∙ ap (λ b. performed_if b (running p s c.values m q)) e))
 
       by_procedure : (m : ModuleText) → module_named p.modules c.in_module ≡ Some m → (o : Option Procedure) → procedure_named m c.procedure ≡ o
-          → AllKept (items ++ Item.call c ∷ [])
-      by_procedure m is_m None e = unchanged items all (Item.call c) (ap (λ (o : Outcomes). o.0) (no_procedure p s c m is_m e))
+          → AllKept (items ++ RunItem.call c ∷ [])
+      by_procedure m is_m None e = unchanged items all (RunItem.call c) (ap (λ (o : Outcomes). o.0) (no_procedure p s c m is_m e))
       by_procedure m is_m (Some q) e = by_rules m is_m q e (is_well_formed_procedure p.elements m q) refl
 
-      by_module : (o : Option ModuleText) → module_named p.modules c.in_module ≡ o → AllKept (items ++ Item.call c ∷ [])
-      by_module None e = unchanged items all (Item.call c) (ap (λ (o : Outcomes). o.0) (no_module p s c e))
+      by_module : (o : Option ModuleText) → module_named p.modules c.in_module ≡ o → AllKept (items ++ RunItem.call c ∷ [])
+      by_module None e = unchanged items all (RunItem.call c) (ap (λ (o : Outcomes). o.0) (no_module p s c e))
       by_module (Some m) e = by_procedure m e (procedure_named m c.procedure) refl
 
-  item_kept : (items : List Item) → AllKept items → (i : Item) → AllKept (items ++ i ∷ [])
-  item_kept items all (Item.call c) = call_kept items all c
-  item_kept items all (Item.show name) = unchanged items all (Item.show name) refl
+  item_kept : (items : List RunItem) → AllKept items → (i : RunItem) → AllKept (items ++ i ∷ [])
+  item_kept items all (RunItem.call c) = call_kept items all c
+  item_kept items all (RunItem.show name) = unchanged items all (RunItem.show name) refl
 
-  kept_along : (done todo : List Item) → AllKept done → AllKept (done ++ todo)
+  kept_along : (done todo : List RunItem) → AllKept done → AllKept (done ++ todo)
   kept_along done [] all = subst AllKept (sym (append-nil done)) all
   kept_along done (i ∷ todo) all =
       subst AllKept (append_assoc done (i ∷ []) todo) (kept_along (done ++ i ∷ []) todo (item_kept done all i))
 
   -- After any items each updatable cursor is closed, or over numbers that met its conditions when it was opened.
-  pub always_kept : (items : List Item) → AllKept items
+  pub always_kept : (items : List RunItem) → AllKept items
   always_kept items = kept_along [] items first_kept
 
   -- ---- FETCH
 
-  module _ (items : List Item) (c : Call) (is : Fetches p c) where
+  module _ (items : List RunItem) (c : Call) (is : Fetches p c) where
     abbrev s : State
     s = state_after p items
 

@@ -15,7 +15,7 @@ use Rattle.sq_tree.specs.declared.schema.SchemaElement.TheVariants as element
 use Rattle.sq_tree.specs.declared.schema.SchemaText.{SchemaText}
 use Rattle.sq_meaning.specs.Assignment.{assigned}
 use Rattle.sq_meaning.specs.Catalog.{column_domain}
-use Rattle.sq_meaning.specs.Change.{Setting, default_value, value_or_default}
+use Rattle.sq_meaning.specs.Change.{Setting, value_of_default, value_or_default}
 use Rattle.sq_meaning.specs.Expression.{user_value}
 use Rattle.sq_meaning.specs.Schema.{Elements, column_definitions}
 use Rattle.sq_meaning.specs.SchemaRefusal.{column_bad_default, elements_of, first_schema_refusal, is_bad_default}
@@ -50,10 +50,10 @@ user_stored (domain.VarChar n) user e = rw (user_fits n user e) refl
 -- ---- each default
 
 default_stored : (d : Domain) (written : Option DefaultValue) (user : Name) → is_some_and (is_bad_default d) written ≡ false
-    → is_ok (assigned d (default_value user written)) ≡ true
+    → is_ok (assigned d (value_of_default user written)) ≡ true
 default_stored d None user e = refl
-default_stored d (Some (default.Number n)) user e = no_status (assigned d (default_value user (Some (default.Number n)))) e
-default_stored d (Some (default.Text t)) user e = no_status (assigned d (default_value user (Some (default.Text t)))) e
+default_stored d (Some (default.Number n)) user e = no_status (assigned d (value_of_default user (Some (default.Number n)))) e
+default_stored d (Some (default.Text t)) user e = no_status (assigned d (value_of_default user (Some (default.Text t)))) e
 default_stored d (Some default.User) user e = user_stored d user e
 default_stored d (Some default.Null) user e = refl
 

@@ -10,7 +10,7 @@ use Rattle.sq_meaning.specs.Spelled.{Named}
 use Rattle.sq_meaning.specs.Status.{Outcome, and_then, kept}
 use Rattle.sq_meaning.specs.Syntax.{Clause, SelectList, select}
 use Rattle.sq_meaning.specs.Target.{Level, chosen, level_truth}
-use Rattle.sq_meaning.specs.Site.{Known, Site, clause_sites, inside, list_count, list_sites, outside, plain_query, select_sites, shown_query}
+use Rattle.sq_meaning.specs.Site.{Known, Site, clause_sites, inside_query, list_count, list_sites, outside, plain_query, select_sites, shown_query}
 use Rattle.sq_run.proofs.Places.Outcomes.{if_then, kept_of}
 use Rattle.sq_run.proofs.Sites.SiteLaws.{all_parts}
 
@@ -38,13 +38,13 @@ chosen_of P m env (level ∷ levels) rows h =
 -- what a query specification names in FROM, and what its WHERE clause asks
 pub read_parts : (P : Site → Type 0) (k : Known) (distinct : Bool) (list : SelectList Named) (from : List TableReference) (filter : Clause Named) (by : List ColumnReference) (having : Clause Named)
     → AllByRecursion P (select_sites k outside (select distinct list from filter by having))
-    → AllByRecursion P (map Site.table_read from) × AllByRecursion P (clause_sites k (inside outside (plain_query from) false) filter)
+    → AllByRecursion P (map Site.table_read from) × AllByRecursion P (clause_sites k (inside_query outside (plain_query from) false) filter)
 read_parts P k distinct list from filter by having h =
-    let listed_sites : List Site = Site.from_whole from ∷ Site.column_count (list_count k.tables from list) ∷ list_sites k (inside outside (shown_query from list by having) true) list (is_grouped list by having) in
+    let listed_sites : List Site = Site.from_whole from ∷ Site.column_count (list_count k.tables from list) ∷ list_sites k (inside_query outside (shown_query from list by having) true) list (is_grouped list by having) in
     let before : List Site = map Site.table_read from ++ listed_sites in
-    let filter_sites : List Site = clause_sites k (inside outside (plain_query from) false) filter in
-    let by_sites : List Site = map (Site.column_read (inside outside (plain_query from) false)) by in
-    let last = all_parts P (before ++ filter_sites ++ by_sites) (clause_sites k (inside outside (shown_query from list by having) true) having) h in
+    let filter_sites : List Site = clause_sites k (inside_query outside (plain_query from) false) filter in
+    let by_sites : List Site = map (Site.column_read (inside_query outside (plain_query from) false)) by in
+    let last = all_parts P (before ++ filter_sites ++ by_sites) (clause_sites k (inside_query outside (shown_query from list by having) true) having) h in
     let third = all_parts P (before ++ filter_sites) by_sites last.0 in
     let second = all_parts P before filter_sites third.0 in
     ((all_parts P (map Site.table_read from) listed_sites second.0).0, second.1)

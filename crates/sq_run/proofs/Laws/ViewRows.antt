@@ -34,7 +34,7 @@ use Rattle.sq_meaning.specs.Binding.{unknown_parameter}
 use Rattle.sq_meaning.specs.Catalog.{base_count, column_descriptor, table_descriptor, tables_of, view_descriptor, with_made}
 use Rattle.sq_meaning.specs.Schema.{Elements, column_definitions}
 use Rattle.sq_meaning.specs.SchemaRefusal.{view_has_fault, view_judged, view_sites}
-use Rattle.sq_meaning.specs.Site.{Site, inside, known_tables, outside, plain_query, select_sites}
+use Rattle.sq_meaning.specs.Site.{Site, inside_query, known_tables, outside, plain_query, select_sites}
 use Rattle.sq_run.proofs.Laws.PlainConditions.{clause_plain}
 use Rattle.sq_run.proofs.Laws.TargetColumns.{AllNamesFit, AreAsWide, IsOver, all_below, are_as_wide, column_below, expressions_shown, is_over, meant, place_found, taken_in_turn}
 use Rattle.sq_run.proofs.Laws.TargetRows.{chosen_last, read_parts}
@@ -182,7 +182,7 @@ module _ (earlier : Tables) (content : Content) (caller : Name) (tables : Tables
 
     test_is : (r : Numbered) → test (as_line r) ≡ own r
     test_is r =
-        ap is_true (clause_plain earlier earlier tables (table_rows earlier content caller) rows_of [] inputs caller (inside outside (plain_query from) false) filter plain
+        ap is_true (clause_plain earlier earlier tables (table_rows earlier content caller) rows_of [] inputs caller (inside_query outside (plain_query from) false) filter plain
         (read_parts (λ x. unknown_parameter (known_tables earlier) x ≡ false) (known_tables earlier) false list from filter [] absent free).1 (alone (item ∷ []) (as_line r) ∷ []))
 
     abbrev in_target : Numbered → Row

@@ -16,10 +16,10 @@ use Rattle.sq_value.specs.declared.domain.Kind.{Kind}
 use Rattle.sq_value.specs.declared.value.Value.{Value}
 use Rattle.sq_value.specs.declared.value.Value.TheVariants.{Num, Chars}
 use Rattle.sq_meaning.specs.Assignment.{IsStoreOutcome, assigned}
-use Rattle.sq_meaning.specs.Spelled.{domain_of, signed_number}
+use Rattle.sq_meaning.specs.Spelled.{domain_of, number_with_sign}
 use Rattle.sq_meaning.proofs.AssignmentLaws.{store_statuses}
 use Rattle.sq_meaning.specs.Catalog.{column_descriptor, column_domain}
-use Rattle.sq_meaning.specs.Change.{default_value}
+use Rattle.sq_meaning.specs.Change.{value_of_default}
 use Rattle.sq_bound.specs.WellFormed.{kinds_of_columns}
 use Rattle.sq_bound.specs.declared.names.BaseColumn.{BaseColumn}
 use Rattle.sq_bound.specs.declared.names.Column.{Column}
@@ -91,11 +91,11 @@ assigned_stored : (d : Domain) (v s : Value) → stored d v ≡ Ok s → assigne
 assigned_stored d v s e = subst (λ o. IsStoreOutcome o (assigned d v)) e (store_statuses d v)
 
 default_is : (d : Domain) (o : Option DefaultValue) (c : ColumnDefault) → IsDefaultOf d o c → (user : Name)
-    → assigned d (default_value user o) ≡ default_stored user d c
+    → assigned d (value_of_default user o) ≡ default_stored user d c
 default_is d None c h user = ap (λ (x : ColumnDefault). default_stored user d x) (sym h)
 default_is d (Some written.Null) c h user = ap (λ (x : ColumnDefault). default_stored user d x) (sym h)
 default_is d (Some written.User) c h user = ap (λ (x : ColumnDefault). default_stored user d x) (sym h.0)
-default_is d (Some (written.Number n)) (default.Value s) h user = assigned_stored d (Num (signed_number n)) s h
+default_is d (Some (written.Number n)) (default.Value s) h user = assigned_stored d (Num (number_with_sign n)) s h
 default_is d (Some (written.Number n)) default.User h user = absurd h
 default_is d (Some (written.Text t)) (default.Value s) h user = assigned_stored d (Chars t) s h
 default_is d (Some (written.Text t)) default.User h user = absurd h
@@ -105,7 +105,7 @@ default_is d (Some (written.Text t)) default.User h user = absurd h
 column_as : (w : ColumnDefinition) (c : BaseColumn) → IsBaseColumnOf w c → IsColumnAs w c
 column_as w c h = record {
   domain = domain_is w c h;
-  default = λ user. ap (λ d. assigned d (default_value user w.default)) (domain_is w c h) ∙ default_is c.domain w.default c.default h.default user;
+  default = λ user. ap (λ d. assigned d (value_of_default user w.default)) (domain_is w c h) ∙ default_is c.domain w.default c.default h.default user;
 }
 
 pub columns_as : (ws : List ColumnDefinition) (cs : List BaseColumn) → AreBaseColumnsOf ws cs → AllZip IsColumnAs ws cs

@@ -32,7 +32,7 @@ use Rattle.sq_run.proofs.Sites.SiteLaws.{AreSound, IsSound, all_parts, sound_sit
 use Rattle.sq_run.proofs.Sites.SortSites.{sort_order_there}
 use Rattle.sq_meaning.specs.Binding.{has_syntax_fault, is_well_formed, lacks_privilege}
 use Rattle.sq_meaning.specs.Catalog.{tables_of}
-use Rattle.sq_meaning.specs.Change.{reading}
+use Rattle.sq_meaning.specs.Change.{reading_in}
 use Rattle.sq_meaning.specs.Machine.{Program, Running, State, call_of, cursor_rows, performed, performed_if, running, select_into, setting, surroundings}
 use Rattle.sq_meaning.specs.Module.{declared_parameters, opener_count, opens, procedure_named}
 use Rattle.sq_meaning.specs.Site.{Site, cond_sites, outside, query_sites, select_sites}
@@ -83,7 +83,7 @@ sound_cursor_answers r c d same e =
     (sort_sites (cursor_names (surroundings r) c) (listed_if_any c.order_by)) (sound_sites (judged_by (surroundings r) (known_in_query (opener_surroundings (surroundings r) c))) (cursor_sites (surroundings r) c) fault) in
     cursor_rows_answer r c d (sort_order_there (known_in_query (opener_surroundings (surroundings r) c)) (cursor_names (surroundings r) c) (listed_if_any c.order_by)
     (query_names_there (known_in_query (opener_surroundings (surroundings r) c)) (cursor_query (surroundings r) c) parts.0) parts.1)
-    (subst (λ (parameters : List Declared). WellFormedQuery (reading (setting r)) (kinds_by_name (tables_of r.program.elements) parameters) (IsDeclaredIn parameters) (cursor_query (surroundings r) c)) same
+    (subst (λ (parameters : List Declared). WellFormedQuery (reading_in (setting r)) (kinds_by_name (tables_of r.program.elements) parameters) (IsDeclaredIn parameters) (cursor_query (surroundings r) c)) same
     (query_well_formed (known_in_query (opener_surroundings (surroundings r) c)) (table_rows (tables_of r.program.elements) r.state.tables r.in_module.authorization) (cursor_query (surroundings r) c) (query_spells r.in_module.authorization c.query) parts.0))
 
 -- The rows of a cursor are not answered with 42000 where exactly one procedure opens it, and this one does.
@@ -101,10 +101,10 @@ table_there (Err s) e = cc
 -- none for another cause than 42000
 pub sound_condition_answers : (r : Running) (name : TableName) (c : SpelledCond) → IsDeclaredState r → IsSound (known_in (surroundings r)) (Site.table_changed name)
     → AreSound (known_in (surroundings r)) (cond_sites (known_in (surroundings r)) (beside_table name) (cond_of r.in_module.authorization c)) → (env : Env Item)
-    → IsEnvOf (reading (setting r)) (kinds_by_name (tables_of r.program.elements) (surroundings r).parameters) (IsDeclaredIn (surroundings r).parameters) (lines_of (beside_table name).queries) env
-    → Ends (truth (reading (setting r)) (cond_of r.in_module.authorization c) env)
+    → IsEnvOf (reading_in (setting r)) (kinds_by_name (tables_of r.program.elements) (surroundings r).parameters) (IsDeclaredIn (surroundings r).parameters) (lines_of (beside_table name).queries) env
+    → Ends (truth (reading_in (setting r)) (cond_of r.in_module.authorization c) env)
 sound_condition_answers r name c d there s env is_env =
-    truth_of_kinds (reading (setting r)) (kinds_by_name (tables_of r.program.elements) (surroundings r).parameters) (IsDeclaredIn (surroundings r).parameters)
+    truth_of_kinds (reading_in (setting r)) (kinds_by_name (tables_of r.program.elements) (surroundings r).parameters) (IsDeclaredIn (surroundings r).parameters)
     (database_agrees (tables_of r.program.elements) r.state.tables r.in_module.authorization (surroundings r).parameters d.tables) (cond_of r.in_module.authorization c) (lines_of (beside_table name).queries) env
     (cond_well_formed (known_in (surroundings r)) (table_rows (tables_of r.program.elements) r.state.tables r.in_module.authorization) (cond_of r.in_module.authorization c) (beside_table name).queries false
     ((table_there (descriptor_of (tables_of r.program.elements) name) there.tables, tt), tt) tt (cond_spells r.in_module.authorization c) s)

@@ -34,11 +34,11 @@ use Rattle.sq_meaning.specs.declared.status.Status.TheVariants as status
 use Rattle.sq_meaning.specs.Cursor.{CursorState, Move, before_rows, fetched}
 use Rattle.sq_meaning.specs.Machine.{Program, first_state}
 use Rattle.sq_meaning.specs.ModuleRefusal.{first_module_refusal}
-use Rattle.sq_meaning.specs.Parameter.{Assignment, ParameterValue, Parameters, replied_row, replied_with, whole}
+use Rattle.sq_meaning.specs.Parameter.{Assignment, ParameterValue, Parameters, replied_row, replied_with, integer_value}
 use Rattle.sq_meaning.specs.Privilege.{Privilege}
 use Rattle.sq_meaning.specs.Privileges.{holds, may_grant_on}
 use Rattle.sq_meaning.specs.Report.{report}
-use Rattle.sq_meaning.specs.Run.{Item, program_of}
+use Rattle.sq_meaning.specs.Run.{RunItem, program_of}
 use Rattle.sq_meaning.specs.SchemaRefusal.{elements_of, first_schema_refusal}
 use Rattle.sq_meaning.specs.declared.refusal.ModuleFault.TheVariants as module_fault
 use Rattle.sq_meaning.specs.declared.refusal.SchemaFault.TheVariants as schema_fault
@@ -48,7 +48,7 @@ use Rattle.sq_meaning.specs.declared.refusal.SchemaFault.TheVariants as schema_f
 -- LAST, PRIOR, PRIOR, PRIOR, RELATIVE 2, RELATIVE 0, ABSOLUTE -1, ABSOLUTE 9, PRIOR, ABSOLUTE 0
 
 abbrev row_of : ℤ → List Value
-row_of n = whole n ∷ []
+row_of n = integer_value n ∷ []
 
 abbrev three_rows : List (List Value)
 three_rows = row_of (pos 1) ∷ row_of (pos 2) ∷ row_of (pos 3) ∷ []
@@ -85,9 +85,9 @@ into =
 abbrev output : List ℕ → Value → Assignment
 output name v = record { name = name; value = v }
 
-cut : replied_row parameters into (value.Chars (codes "HELLO") ∷ whole (pos 7) ∷ []) ≡ record {
+cut : replied_row parameters into (value.Chars (codes "HELLO") ∷ integer_value (pos 7) ∷ []) ≡ record {
   status = status.TextTruncated;
-  outputs = output (codes "C") (value.Chars (codes "HEL")) ∷ output (codes "IC") (whole (pos 5)) ∷ output (codes "A") (whole (pos 7)) ∷ [];
+  outputs = output (codes "C") (value.Chars (codes "HEL")) ∷ output (codes "IC") (integer_value (pos 5)) ∷ output (codes "A") (integer_value (pos 7)) ∷ [];
 }
 cut = refl
 
@@ -180,8 +180,8 @@ two_modules = refl
 abbrev program : Program
 program = program_of texts (module_text (commit (codes "P") declaration.Sqlcode ∷ []) ∷ []) 1000000
 
-abbrev items : List Item
-items = Item.call (record { in_module = codes "M"; procedure = codes "P"; values = [] }) ∷ Item.show d ∷ []
+abbrev items : List RunItem
+items = RunItem.call (record { in_module = codes "M"; procedure = codes "P"; values = [] }) ∷ RunItem.show d ∷ []
 
 the_report : report program (first_state program) items ≡ codes "M.P 00000 0\nTABLE U.D 0\n"
 unfolding digits
@@ -213,13 +213,13 @@ nullable_table = one_table (codes "D") (integer_column (codes "A") [])
 abbrev small : SchemaElement → Program
 small t = program_of (schema_text (codes "U") (t ∷ []) ∷ []) (module_text changes ∷ []) 2
 
-abbrev calls : List (List ℕ) → List Item
-calls names = map (λ n. Item.call (record { in_module = codes "M"; procedure = n; values = [] })) names
+abbrev calls : List (List ℕ) → List RunItem
+calls names = map (λ n. RunItem.call (record { in_module = codes "M"; procedure = n; values = [] })) names
 
 -- a deleted number is not used again, but after a ROLLBACK
 changes_report :
     report (small nullable_table) (first_state (small nullable_table))
-    (calls (codes "DEL" ∷ codes "INS" ∷ codes "CMT" ∷ codes "INS" ∷ codes "DEL" ∷ codes "INS" ∷ codes "RBK" ∷ codes "INS" ∷ []) ++ Item.show d ∷ [])
+    (calls (codes "DEL" ∷ codes "INS" ∷ codes "CMT" ∷ codes "INS" ∷ codes "DEL" ∷ codes "INS" ∷ codes "RBK" ∷ codes "INS" ∷ []) ++ RunItem.show d ∷ [])
     ≡ codes "M.DEL 02000 100\nM.INS 00000 0\nM.CMT 00000 0\nM.INS 00000 0\nM.DEL 00000 0\nM.INS S1L00 -9001\n"
     ++ codes "M.RBK 00000 0\nM.INS 00000 0\nTABLE U.D 2\n  NULL\n  NULL\n"
 unfolding digits
@@ -227,7 +227,7 @@ changes_report = refl
 
 -- NOT NULL
 refused_null :
-    report (small keyed_table) (first_state (small keyed_table)) (calls (codes "INS" ∷ []) ++ Item.show d ∷ []) ≡
+    report (small keyed_table) (first_state (small keyed_table)) (calls (codes "INS" ∷ []) ++ RunItem.show d ∷ []) ≡
     codes "M.INS 23000 -2300\nTABLE U.D 0\n"
 unfolding digits
 refused_null = refl

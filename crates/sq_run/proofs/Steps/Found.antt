@@ -19,7 +19,7 @@ use Rattle.sq_meaning.specs.ModuleRefusal.{ModuleRefusal, at_item, cursor_name, 
 use Rattle.sq_meaning.specs.declared.refusal.ModuleFault.{ModuleFault}
 use Rattle.sq_meaning.specs.declared.refusal.ModuleFault.TheVariants as module_fault
 use Rattle.sq_meaning.specs.Schema.{is_among}
-use Rattle.sq_meaning.specs.Words.{first_of, is_some_and}
+use Rattle.sq_meaning.specs.Words.{first_some, is_some_and}
 use Rattle.sq_change.proofs.RowsChanged.{all_unmapped}
 
 -- ---- lists
@@ -33,9 +33,9 @@ among_at {A} xs x h = (h.0, at xs h.0 h.1.0 ∙ ap Some (sym h.1.1))
     at (y ∷ ys) zero lt = refl
     at (y ∷ ys) (suc i) lt = at ys i (omega (arith, lt))
 
-none_of_first : {A : Type 0} (os : List (Option A)) → first_of os ≡ None → AllByRecursion (λ o. o ≡ None) os
+none_of_first : {A : Type 0} (os : List (Option A)) → first_some os ≡ None → AllByRecursion (λ o. o ≡ None) os
 none_of_first [] e = tt
-none_of_first {A} (o ∷ os) e = let parts = split o (first_of os) e in (parts.0, none_of_first os parts.1)
+none_of_first {A} (o ∷ os) e = let parts = split o (first_some os) e in (parts.0, none_of_first os parts.1)
   where
     split : (a b : Option A) → option_or a b ≡ None → (a ≡ None) × (b ≡ None)
     split None b e = (refl, e)

@@ -14,7 +14,7 @@ use Rattle.sq_tree.specs.declared.statement.Where.TheVariants as rows_where
 use Rattle.sq_meaning.specs.Catalog.{base_count}
 use Rattle.sq_meaning.specs.Machine.{Call, Outcomes, Program, Running, State, first_state, is_entry, performed, performed_if, running, stepped}
 use Rattle.sq_meaning.specs.Module.{module_named, procedure_named}
-use Rattle.sq_meaning.specs.Run.{Item, after_item}
+use Rattle.sq_meaning.specs.Run.{RunItem, after_item}
 use Rattle.sq_meaning.specs.WellFormedStatement.{is_well_formed_procedure}
 use Rattle.sq_run.specs.ShownRows.{state_after}
 use Rattle.sq_run.proofs.Laws.CalledAs.{called_as, no_module, no_procedure}
@@ -62,15 +62,15 @@ module _ (P : State → Type 0) (p : Program)
     by_module None e = subst (λ (x : Outcomes). P x.0) (sym (no_module p s c e)) h
     by_module (Some m) e = by_procedure m e (procedure_named m c.procedure) refl
 
-  one_item : (s : State) (i : Item) → P s → P (after_item p s i)
-  one_item s (Item.call c) h = by_module s c h (module_named p.modules c.in_module) refl
-  one_item s (Item.show name) h = h
+  one_item : (s : State) (i : RunItem) → P s → P (after_item p s i)
+  one_item s (RunItem.call c) h = by_module s c h (module_named p.modules c.in_module) refl
+  one_item s (RunItem.show name) h = h
 
-  after_items : (s : State) (items : List Item) → P s → P (fold (after_item p) s items)
+  after_items : (s : State) (items : List RunItem) → P s → P (fold (after_item p) s items)
   after_items s [] h = h
   after_items s (i ∷ items) h = after_items (after_item p s i) items (one_item s i h)
 
-pub states_rise : (p : Program) (items : List Item) → AllRise (state_after p items).tables × AllRise (state_after p items).committed
+pub states_rise : (p : Program) (items : List RunItem) → AllRise (state_after p items).tables × AllRise (state_after p items).committed
 states_rise p items =
     after_items BothRise p
     (λ s values m q h. kept_of_both AllRise rise_kept s (performed (running p s values m q) q.statement).0
@@ -86,7 +86,7 @@ entry_turned k name r x o (Turn.all_close e) = ap (list_any (is_entry k name)) e
 entry_turned k name r x o (Turn.sets other c e set) = ap (list_any (is_entry k name)) e ∙ still_there r.in_module.name other k name c r.state.cursors
 
 -- Calls add no cursor, and take none away.
-pub entries_stay : (p : Program) (items : List Item) (k name : Name)
+pub entries_stay : (p : Program) (items : List RunItem) (k name : Name)
     → list_any (is_entry k name) (state_after p items).cursors ≡ list_any (is_entry k name) (first_state p).cursors
 entries_stay p items k name =
     after_items (λ s. list_any (is_entry k name) s.cursors ≡ list_any (is_entry k name) (first_state p).cursors) p

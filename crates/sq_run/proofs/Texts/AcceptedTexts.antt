@@ -24,7 +24,7 @@ use Rattle.sq_meaning.specs.Script.{first_script_refusal}
 use Rattle.sq_meaning.specs.Report.{Bytes}
 use Rattle.sq_meaning.specs.Run.{program_of}
 use Rattle.sq_meaning.specs.Machine.{Program}
-use Rattle.sq_run.specs.Answer.{Task, accepted_modules, accepted_schemas, accepted_script, accepted_unless, and_then, answered, asked_of, module_refusal, opened, read_texts, refused_as, schema_refusal, script_refusal, task_of, trees_of}
+use Rattle.sq_run.specs.Answer.{Task, accepted_modules, accepted_schemas, accepted_script, accepted_unless, and_then, answered, asked_of, refused_module, accepted_program, read_texts, refused_as, refused_schema, refused_script, task_of, trees_of}
 use Rattle.sq_perform.specs.Read.{ReadText, module_rule, of_outcome, of_tokens, read_text, schema_rule, script_rule}
 use Rattle.sq_perform.specs.Texts.{AllSpell, Spells, SpellsTree}
 use Rattle.sq_perform.specs.declared.refusal.Refusal.{Refusal}
@@ -88,16 +88,16 @@ module _ {T : Type 0} (rule : Parser T) (tokens_of : T → List Lexeme) (depth_o
 
 schemas_are : (schemas : List Bytes) (trees : List SchemaText) → accepted_schemas schemas ≡ Ok trees → AllSpell schema_tokens schema_depth schemas trees × (first_schema_refusal trees ≡ None)
 schemas_are schemas trees e =
-    let read = steps (read_texts schema_rule 0 schemas) (λ texts. accepted_unless (option_map (schema_refusal texts) (first_schema_refusal (trees_of texts))) (trees_of texts)) trees e in
-    let none = taken (schema_refusal read.0) (first_schema_refusal (trees_of read.0)) (trees_of read.0) trees read.2 in (
+    let read = steps (read_texts schema_rule 0 schemas) (λ texts. accepted_unless (option_map (refused_schema texts) (first_schema_refusal (trees_of texts))) (trees_of texts)) trees e in
+    let none = taken (refused_schema read.0) (first_schema_refusal (trees_of read.0)) (trees_of read.0) trees read.2 in (
       subst (AllSpell schema_tokens schema_depth schemas) none.1 (texts_spell schema_rule schema_tokens schema_depth schemas_exact 0 schemas read.0 read.1),
       ap first_schema_refusal (sym none.1) ∙ none.0,
     )
 
 modules_are : (modules : List Bytes) (trees : List ModuleText) → accepted_modules modules ≡ Ok trees → AllSpell module_tokens module_depth modules trees × (first_module_refusal trees ≡ None)
 modules_are modules trees e =
-    let read = steps (read_texts module_rule 0 modules) (λ texts. accepted_unless (option_map (module_refusal texts) (first_module_refusal (trees_of texts))) (trees_of texts)) trees e in
-    let none = taken (module_refusal read.0) (first_module_refusal (trees_of read.0)) (trees_of read.0) trees read.2 in (
+    let read = steps (read_texts module_rule 0 modules) (λ texts. accepted_unless (option_map (refused_module texts) (first_module_refusal (trees_of texts))) (trees_of texts)) trees e in
+    let none = taken (refused_module read.0) (first_module_refusal (trees_of read.0)) (trees_of read.0) trees read.2 in (
       subst (AllSpell module_tokens module_depth modules) none.1 (texts_spell module_rule module_tokens module_depth modules_exact 0 modules read.0 read.1),
       ap first_module_refusal (sym none.1) ∙ none.0,
     )
@@ -105,8 +105,8 @@ modules_are modules trees e =
 script_is : (elements : Elements) (modules : List ModuleText) (script : Bytes) (tree : ScriptText) → accepted_script elements modules script ≡ Ok tree
     → SpellsTree script_tokens script_depth script tree × (first_script_refusal elements modules tree ≡ None)
 script_is elements modules script tree e =
-    let read = steps (read_text script_rule 0 script) (λ t. accepted_unless (option_map (script_refusal t) (first_script_refusal elements modules t.tree)) t.tree) tree e in
-    let none = taken (script_refusal read.0) (first_script_refusal elements modules read.0.tree) read.0.tree tree read.2 in (
+    let read = steps (read_text script_rule 0 script) (λ t. accepted_unless (option_map (refused_script t) (first_script_refusal elements modules t.tree)) t.tree) tree e in
+    let none = taken (refused_script read.0) (first_script_refusal elements modules read.0.tree) read.0.tree tree read.2 in (
       subst (SpellsTree script_tokens script_depth script) none.1 (text_spells script_rule script_tokens script_depth scripts_exact 0 script read.0 read.1),
       ap (first_script_refusal elements modules) (sym none.1) ∙ none.0,
     )
@@ -126,7 +126,7 @@ module _ (row_numbers : ℕ) (schemas modules : List Bytes) (script : Bytes) whe
 
   pub accepted_are : (task : Task) → answered schemas modules script row_numbers ≡ Ok task → Accepted row_numbers schemas modules script task
   accepted_are task e =
-      let o = steps (opened schemas modules row_numbers) opened_step task e in
+      let o = steps (accepted_program schemas modules row_numbers) opened_step task e in
       let first = steps (refused_as SchemaRefused (accepted_schemas schemas)) schemas_step o.0 o.1 in
       let second = steps (refused_as ModuleRefused (accepted_modules modules)) (modules_step first.0) o.0 first.2 in
       let machine : program_of first.0 second.0 row_numbers ≡ o.0 = same_ok (program_of first.0 second.0 row_numbers) o.0 second.2 in

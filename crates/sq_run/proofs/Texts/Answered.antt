@@ -23,7 +23,7 @@ use Rattle.sq_meaning.specs.declared.refusal.ScriptFault.TheVariants as fault
 use Rattle.sq_binding.specs.Catalog.{Catalog}
 use Rattle.sq_binding.specs.Declaring.{catalog_of}
 use Rattle.sq_binding.proofs.Refused.{refusal_in}
-use Rattle.sq_run.specs.Answer.{Task, accepted_modules, accepted_schemas, accepted_script, accepted_unless, and_then, answered, asked_of, module_refusal, opened, refused_as, refused_text, schema_refusal, script_fault_name, script_refusal, task_of, trees_of}
+use Rattle.sq_run.specs.Answer.{Task, accepted_modules, accepted_schemas, accepted_script, accepted_unless, and_then, answered, asked_of, refused_module, accepted_program, refused_as, refused_text, refused_schema, script_fault_name, refused_script, task_of, trees_of}
 use Rattle.sq_perform.specs.Read.{ReadText, module_rule, read_text, schema_rule, script_rule}
 use Rattle.sq_perform.specs.Refusal.{IsOfModules, IsOfSchema, IsFirstModule, IsTokenOf, Matter, Tokens, Grammar, Depth, Meaning, OneRefused, StandsAt, matter, module_fault, refused_part, refused_start, schema_fault, script_fault}
 use Rattle.sq_perform.specs.Refused as session
@@ -99,23 +99,23 @@ not_declared : (trees : List SchemaText) (r : SchemaRefusal) → catalog_of tree
 not_declared trees r is = sym (schemas_refused trees) ∙ ap refusal_in is
 
 abbrev judged_schemas : List (ReadText SchemaText) → Result (List SchemaText) Refusal
-judged_schemas texts = accepted_unless (option_map (schema_refusal texts) (first_schema_refusal (trees_of texts))) (trees_of texts)
+judged_schemas texts = accepted_unless (option_map (refused_schema texts) (first_schema_refusal (trees_of texts))) (trees_of texts)
 
 schemas_judged : (schemas : List Bytes) (trees : List SchemaText) (spelled : AllSpell schema_tokens schema_depth schemas trees) (found : Option SchemaRefusal) → first_schema_refusal trees ≡ found
-    → accepted_schemas schemas ≡ accepted_unless (option_map (schema_refusal (reads schema_rule schema_tokens schema_depth schemas_exact schemas trees spelled)) found) trees
+    → accepted_schemas schemas ≡ accepted_unless (option_map (refused_schema (reads schema_rule schema_tokens schema_depth schemas_exact schemas trees spelled)) found) trees
 schemas_judged schemas trees spelled found is =
     let same = trees_read schema_rule schema_tokens schema_depth schemas_exact schemas trees spelled in
     let texts = reads schema_rule schema_tokens schema_depth schemas_exact schemas trees spelled in
     ap (λ r. and_then r judged_schemas) (all_read schema_rule schema_tokens schema_depth schemas_exact 0 schemas trees spelled)
-    ∙ ap (λ ts. accepted_unless (option_map (schema_refusal texts) (first_schema_refusal ts)) ts) same
-    ∙ ap (λ o. accepted_unless (option_map (schema_refusal texts) o) trees) is
+    ∙ ap (λ ts. accepted_unless (option_map (refused_schema texts) (first_schema_refusal ts)) ts) same
+    ∙ ap (λ o. accepted_unless (option_map (refused_schema texts) o) trees) is
 
 schemas_taken : (schemas : List Bytes) (trees : List SchemaText) → AllSpell schema_tokens schema_depth schemas trees → first_schema_refusal trees ≡ None
     → accepted_schemas schemas ≡ Ok trees
 schemas_taken schemas trees spelled none = schemas_judged schemas trees spelled None none
 
 schema_found : (schemas : List Bytes) (trees : List SchemaText) (spelled : AllSpell schema_tokens schema_depth schemas trees) (found : SchemaRefusal) (refusal : Refusal)
-    → IsOfSchema schemas trees found refusal → schema_refusal (reads schema_rule schema_tokens schema_depth schemas_exact schemas trees spelled) found ≡ refusal
+    → IsOfSchema schemas trees found refusal → refused_schema (reads schema_rule schema_tokens schema_depth schemas_exact schemas trees spelled) found ≡ refusal
 schema_found schemas trees spelled found refusal is =
     let at = is.stands in
     refused_there (reads schema_rule schema_tokens schema_depth schemas_exact schemas trees spelled) found.text at.text at.tree (λ tree. refused_part tree found.schema found.element)
@@ -138,23 +138,23 @@ schemas_refused_by schemas refusal Depth e one is =
 -- ---- modules
 
 abbrev judged_modules : List (ReadText ModuleText) → Result (List ModuleText) Refusal
-judged_modules texts = accepted_unless (option_map (module_refusal texts) (first_module_refusal (trees_of texts))) (trees_of texts)
+judged_modules texts = accepted_unless (option_map (refused_module texts) (first_module_refusal (trees_of texts))) (trees_of texts)
 
 modules_judged : (modules : List Bytes) (trees : List ModuleText) (spelled : AllSpell module_tokens module_depth modules trees) (found : Option ModuleRefusal) → first_module_refusal trees ≡ found
-    → accepted_modules modules ≡ accepted_unless (option_map (module_refusal (reads module_rule module_tokens module_depth modules_exact modules trees spelled)) found) trees
+    → accepted_modules modules ≡ accepted_unless (option_map (refused_module (reads module_rule module_tokens module_depth modules_exact modules trees spelled)) found) trees
 modules_judged modules trees spelled found is =
     let same = trees_read module_rule module_tokens module_depth modules_exact modules trees spelled in
     let texts = reads module_rule module_tokens module_depth modules_exact modules trees spelled in
     ap (λ r. and_then r judged_modules) (all_read module_rule module_tokens module_depth modules_exact 0 modules trees spelled)
-    ∙ ap (λ ts. accepted_unless (option_map (module_refusal texts) (first_module_refusal ts)) ts) same
-    ∙ ap (λ o. accepted_unless (option_map (module_refusal texts) o) trees) is
+    ∙ ap (λ ts. accepted_unless (option_map (refused_module texts) (first_module_refusal ts)) ts) same
+    ∙ ap (λ o. accepted_unless (option_map (refused_module texts) o) trees) is
 
 modules_taken : (modules : List Bytes) (trees : List ModuleText) → AllSpell module_tokens module_depth modules trees → first_module_refusal trees ≡ None
     → accepted_modules modules ≡ Ok trees
 modules_taken modules trees spelled none = modules_judged modules trees spelled None none
 
 module_found : (modules : List Bytes) (refusal : Refusal) (is : IsFirstModule modules refusal)
-    → module_refusal (reads module_rule module_tokens module_depth modules_exact modules is.trees is.spelled) is.found ≡ refusal
+    → refused_module (reads module_rule module_tokens module_depth modules_exact modules is.trees is.spelled) is.found ≡ refusal
 module_found modules refusal is =
     let at = is.stands in
     refused_there (reads module_rule module_tokens module_depth modules_exact modules is.trees is.spelled) is.found.text at.text at.tree (λ tree. refused_start tree is.found.item)
@@ -177,22 +177,22 @@ modules_refused_by modules refusal Depth e one is =
 
 module _ (elements : Elements) (modules : List ModuleText) (script : Bytes) where
   abbrev judged_script : ReadText ScriptText → Result ScriptText Refusal
-  judged_script t = accepted_unless (option_map (script_refusal t) (first_script_refusal elements modules t.tree)) t.tree
+  judged_script t = accepted_unless (option_map (refused_script t) (first_script_refusal elements modules t.tree)) t.tree
 
   script_judged : (tree : ScriptText) (spells : SpellsTree script_tokens script_depth script tree) (found : Option ScriptRefusal) → first_script_refusal elements modules tree ≡ found
       → accepted_script elements modules script
-      ≡ accepted_unless (option_map (script_refusal (read_as script_rule script_tokens script_depth scripts_exact script tree spells)) found) tree
+      ≡ accepted_unless (option_map (refused_script (read_as script_rule script_tokens script_depth scripts_exact script tree spells)) found) tree
   script_judged tree spells found is =
       let t = read_as script_rule script_tokens script_depth scripts_exact script tree spells in
       ap (λ r. and_then r judged_script) (tree_read script_rule script_tokens script_depth scripts_exact 0 script tree spells)
-      ∙ ap (λ o. accepted_unless (option_map (script_refusal t) o) tree) is
+      ∙ ap (λ o. accepted_unless (option_map (refused_script t) o) tree) is
 
   script_misread : (refusal : Refusal) → refusal.text ≡ 0 → read_text script_rule refusal.text script ≡ Err refusal → accepted_script elements modules script ≡ Err refusal
   script_misread refusal number is = ap (λ r. and_then r judged_script) (ap (λ n. read_text script_rule n script) (sym number) ∙ is)
 
   item_found : (tree : ScriptText) (spells : SpellsTree script_tokens script_depth script tree) (found : ScriptRefusal) (token : Token) (refusal : Refusal)
       → refusal.text ≡ 0 → script_fault refusal.what ≡ Some found.fault → IsTokenOf script (script_item_start tree found.item) token → StandsAt script token refusal
-      → script_refusal (read_as script_rule script_tokens script_depth scripts_exact script tree spells) found ≡ refusal
+      → refused_script (read_as script_rule script_tokens script_depth scripts_exact script tree spells) found ≡ refusal
   item_found tree spells found token refusal number is first stands =
       let tokens : first.tokens ≡ spells.spelled.tokens = cc (first.read, spells.spelled.read) in
       placed 0 script spells.spelled.tokens (script_item_start tree found.item) token (script_fault_name found.fault) refusal number
@@ -208,22 +208,22 @@ module _ (row_numbers : ℕ) (schemas modules : List Bytes) where
   schemas_step r = and_then r (λ schema_trees. modules_step schema_trees (refused_as ModuleRefused (accepted_modules modules)))
 
   behind_schemas : (trees : List SchemaText) → AllSpell schema_tokens schema_depth schemas trees → first_schema_refusal trees ≡ None
-      → opened schemas modules row_numbers ≡ modules_step trees (refused_as ModuleRefused (accepted_modules modules))
+      → accepted_program schemas modules row_numbers ≡ modules_step trees (refused_as ModuleRefused (accepted_modules modules))
   behind_schemas trees spelled none = ap (λ r. schemas_step (refused_as SchemaRefused r)) (schemas_taken schemas trees spelled none)
 
   pub texts_opened : (trees : List SchemaText) (module_trees : List ModuleText) → AllSpell schema_tokens schema_depth schemas trees → first_schema_refusal trees ≡ None
       → AllSpell module_tokens module_depth modules module_trees → first_module_refusal module_trees ≡ None
-      → opened schemas modules row_numbers ≡ Ok (program_of trees module_trees row_numbers)
+      → accepted_program schemas modules row_numbers ≡ Ok (program_of trees module_trees row_numbers)
   texts_opened trees module_trees spelled none modules_spelled modules_none =
       behind_schemas trees spelled none ∙ ap (λ r. modules_step trees (refused_as ModuleRefused r)) (modules_taken modules module_trees modules_spelled modules_none)
 
   pub schemas_not_opened : (refusal : Refusal) → OneRefused schema_rule schema_tokens schema_depth schemas refusal → session.IsOfSchemas schemas refusal (matter refusal.what)
-      → opened schemas modules row_numbers ≡ Err (SchemaRefused refusal)
+      → accepted_program schemas modules row_numbers ≡ Err (SchemaRefused refusal)
   schemas_not_opened refusal one is =
       ap (λ r. schemas_step (refused_as SchemaRefused r)) (schemas_refused_by schemas refusal (matter refusal.what) refl one is)
 
   pub modules_not_opened : (refusal : Refusal) → session.AreDeclared schemas → OneRefused module_rule module_tokens module_depth modules refusal
-      → IsOfModules modules refusal (matter refusal.what) → opened schemas modules row_numbers ≡ Err (ModuleRefused refusal)
+      → IsOfModules modules refusal (matter refusal.what) → accepted_program schemas modules row_numbers ≡ Err (ModuleRefused refusal)
   modules_not_opened refusal declared one is =
       behind_schemas declared.trees declared.spelled (declared_accepted declared.trees declared.catalog declared.declared)
       ∙ ap (λ r. modules_step declared.trees (refused_as ModuleRefused r)) (modules_refused_by modules refusal (matter refusal.what) refl one is)

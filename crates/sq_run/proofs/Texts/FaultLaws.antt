@@ -7,7 +7,7 @@ use Rattle.sq_tree.specs.declared.schema.SchemaText.{SchemaText}
 use Rattle.sq_meaning.specs.Machine as by_name
 use Rattle.sq_meaning.specs.Machine.{Call, first_state, replied}
 use Rattle.sq_meaning.specs.Report.{Bytes}
-use Rattle.sq_meaning.specs.Run.{Item, after, after_item, program_of}
+use Rattle.sq_meaning.specs.Run.{RunItem, after, after_item, program_of}
 use Rattle.sq_bound.specs.Known.{KnownTables}
 use Rattle.sq_binding.proofs.Names.{position_at}
 use Rattle.sq_module.specs.declared.program.Program.{Program}
@@ -29,7 +29,7 @@ use Rattle.sq_run.proofs.Steps.Exact.{IsBoundExactly, IsOpenedFrom}
 use Rattle.sq_run.proofs.Texts.Headline as headline
 use Rattle.sq_run.proofs.Texts.Reports.{Action, IsSession, step_is}
 
-call_same : (a b : Call) → Item.call a ≡ Item.call b → a ≡ b
+call_same : (a b : Call) → RunItem.call a ≡ RunItem.call b → a ≡ b
 call_same a b e = cc
 
 module _ (texts : List SchemaText) (modules : List ModuleText) (row_numbers : ℕ) (known : KnownTables) (schemas : Schemas) (program : Program)
@@ -45,7 +45,7 @@ module _ (texts : List SchemaText) (modules : List ModuleText) (row_numbers : �
 
   -- the first item, if it is a call
   abbrev First : Action → Type 0
-  First a = (s : Session) (x : by_name.State) → Is s x → (lines : Bytes) (t : Session) → Step a s lines t → (c : Call) → item_of a ≡ Item.call c
+  First a = (s : Session) (x : by_name.State) → Is s x → (lines : Bytes) (t : Session) → Step a s lines t → (c : Call) → item_of a ≡ RunItem.call c
       → Answers x c
 
   first : (a : Action) → First a
@@ -63,11 +63,11 @@ module _ (texts : List SchemaText) (modules : List ModuleText) (row_numbers : �
       (λ v s x is lines t h c e. cc)
 
   all_answer : (actions : List Action) (s : Session) (x : by_name.State) → Is s x → (bytes : Bytes) (t : Session) → Steps actions s bytes t → (count : ℕ)
-      (c : Call) → slice_get (map item_of actions) count ≡ Some (Item.call c) → Answers (after p x (take count (map item_of actions))) c
+      (c : Call) → slice_get (map item_of actions) count ≡ Some (RunItem.call c) → Answers (after p x (take count (map item_of actions))) c
   all_answer [] s x is bytes t h count c at = cc
-  all_answer (a ∷ rest) s x is bytes t h zero c at = first a s x is h.0 h.2 h.3 c (some_same (item_of a) (Item.call c) at)
+  all_answer (a ∷ rest) s x is bytes t h zero c at = first a s x is h.0 h.2 h.3 c (some_same (item_of a) (RunItem.call c) at)
     where
-      some_same : (i j : Item) → Some i ≡ Some j → i ≡ j
+      some_same : (i j : RunItem) → Some i ≡ Some j → i ≡ j
       some_same i j e = cc
   all_answer (a ∷ rest) s x is bytes t h (suc count) c at =
       all_answer rest h.2 (after_item p x (item_of a))

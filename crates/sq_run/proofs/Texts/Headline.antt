@@ -9,7 +9,7 @@ use Rattle.sq_store.specs.Content.{no_rows}
 use Rattle.sq_meaning.specs.Machine as by_name
 use Rattle.sq_meaning.specs.Machine.{first_state}
 use Rattle.sq_meaning.specs.Report.{Bytes, item_lines, report}
-use Rattle.sq_meaning.specs.Run.{Item, after_item, item_of_script, program_of}
+use Rattle.sq_meaning.specs.Run.{RunItem, after_item, item_of_script, program_of}
 use Rattle.sq_module.specs.declared.program.Program.{Program}
 use Rattle.sq_session.specs.Session.{Session}
 use Rattle.sq_perform.specs.Run.{IsOpened, Run}
@@ -54,7 +54,7 @@ module _ (row_numbers : ℕ) (texts : List SchemaText) (modules : List ModuleTex
 -- ---- what is written
 
 -- the report of all items begins with that of the first
-begins : (p : by_name.Program) (x : by_name.State) (k : ℕ) (items : List Item) → (more : Bytes) × (report p x items ≡ report p x (take k items) ++ more)
+begins : (p : by_name.Program) (x : by_name.State) (k : ℕ) (items : List RunItem) → (more : Bytes) × (report p x items ≡ report p x (take k items) ++ more)
 begins p x zero items = (report p x items, refl)
 begins p x (suc k) [] = ([], refl)
 begins p x (suc k) (i ∷ items) =
@@ -66,13 +66,13 @@ module _ (row_numbers : ℕ) (schemas modules : List Bytes) (script : Bytes) (r 
   abbrev pub machine : by_name.Program
   machine = program_of r.schema_trees r.module_trees row_numbers
 
-  abbrev pub items : List Item
+  abbrev pub items : List RunItem
   items = map item_of_script r.script_tree.items
 
-  abbrev pub lines : List Item → Bytes
+  abbrev pub lines : List RunItem → Bytes
   lines some = report machine (first_state machine) some
 
-  report_is : (actions : List Action) (some : List Item) → map item_of actions ≡ some → (bytes : Bytes) (last : Session)
+  report_is : (actions : List Action) (some : List RunItem) → map item_of actions ≡ some → (bytes : Bytes) (last : Session)
       → Steps actions r.start bytes last → bytes ≡ lines some
   report_is actions some are bytes last h =
       steps_are r.schema_trees r.module_trees row_numbers r.is_opened.known r.start.schemas (program row_numbers r.schema_trees r.module_trees r.start r.is_opened)
@@ -94,7 +94,7 @@ module _ (row_numbers : ℕ) (schemas modules : List Bytes) (script : Bytes) (r 
   -- Where the output fails, the first bytes of the report were written, which has more.
   pub run_stops_inside : (n : ℕ) → StoppedInside n r.actions r.start old new → (n < length (lines items)) × Appends old new (take n (lines items))
   run_stops_inside n h =
-      let some : List Item = take (h.items + 1) items in
+      let some : List RunItem = take (h.items + 1) items in
       let is : h.reported.report ≡ lines some = report_is (take (h.items + 1) r.actions) some (first_items (h.items + 1)) h.reported.report h.reported.last h.reported.steps in
       let more = begins machine (first_state machine) (h.items + 1) items in
       let within : n < length (lines some) = subst (λ l. n < length l) is h.reported.fewer in

@@ -24,12 +24,12 @@ use Rattle.sq_grammar.specs.Reading.{Outcome, Parser, whole}
 use Rattle.sq_meaning.proofs.AnswerLaws.{all_flat_mapped, all_mapped}
 use Rattle.sq_meaning.specs.ModuleRefusal.{ModuleRefusal, at_item, cursor_name, first_module_refusal, first_repeated, has_bad_parameter, has_open_count, has_status_fault, module_refusal as refusal_in, modules_before, name_refusal, procedure_name}
 use Rattle.sq_meaning.specs.Schema.{Elements, is_among}
-use Rattle.sq_meaning.specs.SchemaRefusal.{Part, SchemaRefusal, elements_with, first_schema_refusal, part_fault, parts_of_schema, parts_of_text, refusal_at as part_refusal, schema_parts, schema_refusal as first_refusal, users_with}
+use Rattle.sq_meaning.specs.SchemaRefusal.{Part, SchemaRefusal, elements_with, first_schema_refusal, part_fault, parts_of_schema, parts_of_text, part_refusal, schema_parts, schema_refusal as first_refusal, users_with}
 use Rattle.sq_meaning.specs.Script.{first_script_refusal}
 use Rattle.sq_meaning.specs.Machine.{Program}
 use Rattle.sq_meaning.specs.Report.{Bytes}
 use Rattle.sq_meaning.specs.Run.{program_of}
-use Rattle.sq_meaning.specs.Words.{first_of}
+use Rattle.sq_meaning.specs.Words.{first_some}
 use Rattle.sq_meaning.specs.declared.refusal.ModuleFault.{ModuleFault}
 use Rattle.sq_meaning.specs.declared.refusal.ModuleFault.TheVariants as module_fault
 use Rattle.sq_meaning.specs.declared.refusal.SchemaFault.{SchemaFault}
@@ -43,7 +43,7 @@ use Rattle.sq_perform.specs.declared.refusal.RefusalName.{RefusalName}
 use Rattle.sq_perform.specs.declared.refusal.RefusalName.TheVariants.{EndOfText, Lexical, Module, Schema, TooDeep, Unexpected}
 use Rattle.sq_perform.specs.declared.refusal.RunFault.{RunFault}
 use Rattle.sq_perform.specs.declared.refusal.RunFault.TheVariants.{SchemaRefused, ModuleRefused, ScriptRefused}
-use Rattle.sq_run.specs.Answer.{Task, accepted_modules, accepted_schemas, accepted_script, accepted_unless, and_then, asked_of, module_refusal, opened, read_texts, refused_as, refused_text, schema_refusal, script_fault_name, script_refusal, trees_of}
+use Rattle.sq_run.specs.Answer.{Task, accepted_modules, accepted_schemas, accepted_script, accepted_unless, and_then, asked_of, refused_module, accepted_program, read_texts, refused_as, refused_text, refused_schema, script_fault_name, refused_script, trees_of}
 use Rattle.sq_run.specs.Refused.{RefusalsTell, RefusedText}
 use Rattle.sq_run.proofs.Texts.AcceptedTexts.{text_spells, texts_spell}
 use Rattle.sq_run.proofs.Texts.ReadTexts.{IsExact, modules_exact, schemas_exact, scripts_exact}
@@ -291,7 +291,7 @@ module _ (count : ℕ) where
       by_name true = h
       by_name false = tt
 
-  first_has : (os : List (Option ModuleRefusal)) → AllByRecursion (λ o. IfSome o (λ r. r.text < count)) os → IfSome (first_of os) (λ r. r.text < count)
+  first_has : (os : List (Option ModuleRefusal)) → AllByRecursion (λ o. IfSome o (λ r. r.text < count)) os → IfSome (first_some os) (λ r. r.text < count)
   first_has [] all = tt
   first_has (None ∷ os) all = first_has os all.1
   first_has (Some x ∷ os) all = all.0
@@ -356,10 +356,10 @@ name_told number token_in what (Some t) = refl
 schemas_refused : (schemas : List Bytes) (refusal : Refusal) → accepted_schemas schemas ≡ Err refusal
     → OneRefused schema_rule schema_tokens schema_depth schemas refusal
 schemas_refused schemas refusal e =
-    by_step (stop (read_texts schema_rule 0 schemas) (λ texts. accepted_unless (option_map (schema_refusal texts) (first_schema_refusal (trees_of texts))) (trees_of texts)) refusal e)
+    by_step (stop (read_texts schema_rule 0 schemas) (λ texts. accepted_unless (option_map (refused_schema texts) (first_schema_refusal (trees_of texts))) (trees_of texts)) refusal e)
   where
     meant : (texts : List (ReadText SchemaText)) → read_texts schema_rule 0 schemas ≡ Ok texts → (f : SchemaRefusal)
-        → first_schema_refusal (trees_of texts) ≡ Some f → schema_refusal texts f ≡ refusal → OneRefused schema_rule schema_tokens schema_depth schemas refusal
+        → first_schema_refusal (trees_of texts) ≡ Some f → refused_schema texts f ≡ refusal → OneRefused schema_rule schema_tokens schema_depth schemas refusal
     meant texts read f first is =
         let token_in : SchemaText → ℕ = λ tree. refused_part tree f.schema f.element in
         let name : RefusalName = Schema (record { fault = f.fault }) in
@@ -369,20 +369,20 @@ schemas_refused schemas refusal e =
         (sym (ap (λ r. matter r.what) is) ∙ ap matter (name_told f.text token_in name there))
         (subst (λ n. n < length (trees_of texts)) (sym (number_told f.text token_in name there) ∙ ap (λ r. r.text) is) (schema_within (trees_of texts) f first))
 
-    by_step : Stop (read_texts schema_rule 0 schemas) (λ texts. accepted_unless (option_map (schema_refusal texts) (first_schema_refusal (trees_of texts))) (trees_of texts)) refusal
+    by_step : Stop (read_texts schema_rule 0 schemas) (λ texts. accepted_unless (option_map (refused_schema texts) (first_schema_refusal (trees_of texts))) (trees_of texts)) refusal
         → OneRefused schema_rule schema_tokens schema_depth schemas refusal
     by_step (inl h) = one_stuck schema_rule schema_tokens schema_depth schemas_exact schemas refusal h
     by_step (inr h) =
-        let found = judged (schema_refusal h.0) (first_schema_refusal (trees_of h.0)) (trees_of h.0) refusal h.2 in
+        let found = judged (refused_schema h.0) (first_schema_refusal (trees_of h.0)) (trees_of h.0) refusal h.2 in
         meant h.0 h.1 found.0 found.1 found.2
 
 modules_refused : (modules : List Bytes) (refusal : Refusal) → accepted_modules modules ≡ Err refusal
     → OneRefused module_rule module_tokens module_depth modules refusal
 modules_refused modules refusal e =
-    by_step (stop (read_texts module_rule 0 modules) (λ texts. accepted_unless (option_map (module_refusal texts) (first_module_refusal (trees_of texts))) (trees_of texts)) refusal e)
+    by_step (stop (read_texts module_rule 0 modules) (λ texts. accepted_unless (option_map (refused_module texts) (first_module_refusal (trees_of texts))) (trees_of texts)) refusal e)
   where
     meant : (texts : List (ReadText ModuleText)) → read_texts module_rule 0 modules ≡ Ok texts → (f : ModuleRefusal)
-        → first_module_refusal (trees_of texts) ≡ Some f → module_refusal texts f ≡ refusal → OneRefused module_rule module_tokens module_depth modules refusal
+        → first_module_refusal (trees_of texts) ≡ Some f → refused_module texts f ≡ refusal → OneRefused module_rule module_tokens module_depth modules refusal
     meant texts read f first is =
         let token_in : ModuleText → ℕ = λ tree. refused_start tree f.item in
         let there = slice_get texts f.text in
@@ -391,11 +391,11 @@ modules_refused modules refusal e =
         (sym (ap (λ r. matter r.what) is) ∙ ap matter (name_told f.text token_in (Module f.fault) there))
         (subst (λ n. n < length (trees_of texts)) (sym (number_told f.text token_in (Module f.fault) there) ∙ ap (λ r. r.text) is) (module_within (trees_of texts) f first))
 
-    by_step : Stop (read_texts module_rule 0 modules) (λ texts. accepted_unless (option_map (module_refusal texts) (first_module_refusal (trees_of texts))) (trees_of texts)) refusal
+    by_step : Stop (read_texts module_rule 0 modules) (λ texts. accepted_unless (option_map (refused_module texts) (first_module_refusal (trees_of texts))) (trees_of texts)) refusal
         → OneRefused module_rule module_tokens module_depth modules refusal
     by_step (inl h) = one_stuck module_rule module_tokens module_depth modules_exact modules refusal h
     by_step (inr h) =
-        let found = judged (module_refusal h.0) (first_module_refusal (trees_of h.0)) (trees_of h.0) refusal h.2 in
+        let found = judged (refused_module h.0) (first_module_refusal (trees_of h.0)) (trees_of h.0) refusal h.2 in
         meant h.0 h.1 found.0 found.1 found.2
 
 item_means : (f : ScriptFault) → matter (script_fault_name f) ≡ Meaning
@@ -406,15 +406,15 @@ item_means script_fault.BadArguments = refl
 script_refused : (elements : Elements) (modules : List ModuleText) (script : Bytes) (refusal : Refusal) → accepted_script elements modules script ≡ Err refusal
     → OneRefused script_rule script_tokens script_depth (script ∷ []) refusal
 script_refused elements modules script refusal e =
-    by_step (stop (read_text script_rule 0 script) (λ t. accepted_unless (option_map (script_refusal t) (first_script_refusal elements modules t.tree)) t.tree) refusal e)
+    by_step (stop (read_text script_rule 0 script) (λ t. accepted_unless (option_map (refused_script t) (first_script_refusal elements modules t.tree)) t.tree) refusal e)
   where
-    by_step : Stop (read_text script_rule 0 script) (λ t. accepted_unless (option_map (script_refusal t) (first_script_refusal elements modules t.tree)) t.tree) refusal
+    by_step : Stop (read_text script_rule 0 script) (λ t. accepted_unless (option_map (refused_script t) (first_script_refusal elements modules t.tree)) t.tree) refusal
         → OneRefused script_rule script_tokens script_depth (script ∷ []) refusal
     by_step (inl h) =
         one_stuck script_rule script_tokens script_depth scripts_exact (script ∷ []) refusal
         (ap (λ r. and_then r (λ first. Ok (first ∷ []))) h)
     by_step (inr h) =
-        let found = judged (script_refusal h.0) (first_script_refusal elements modules (h.0).tree) (h.0).tree refusal h.2 in
+        let found = judged (refused_script h.0) (first_script_refusal elements modules (h.0).tree) (h.0).tree refusal h.2 in
         one_meant script_rule script_tokens script_depth scripts_exact (script ∷ []) refusal ((h.0).tree ∷ [])
         (text_spells script_rule script_tokens script_depth scripts_exact 0 script h.0 h.1, tt)
         (sym (ap (λ r. matter r.what) found.2) ∙ item_means (found.0).fault)
@@ -472,11 +472,11 @@ module _ (row_numbers : ℕ) (schemas modules : List Bytes) (script : Bytes) whe
   behind_modules fault machine (inl h) = of_script machine fault h
   behind_modules fault machine (inr h) = let none = h.2 in cc
 
-  by_opened : (fault : RunFault) → Stop (opened schemas modules row_numbers) opened_step fault → Told fault
+  by_opened : (fault : RunFault) → Stop (accepted_program schemas modules row_numbers) opened_step fault → Told fault
   by_opened fault (inl h) = not_opened fault (stop (refused_as SchemaRefused (accepted_schemas schemas)) schemas_step fault h)
   by_opened fault (inr h) =
       behind_modules fault h.0 (stop (refused_as ScriptRefused (accepted_script (h.0).elements (h.0).modules script)) (script_step h.0) fault h.2)
 
   pub refusals_tell : RefusalsTell row_numbers schemas modules script
   unfolding RefusalsTell
-  refusals_tell fault e = by_opened fault (stop (opened schemas modules row_numbers) opened_step fault e)
+  refusals_tell fault e = by_opened fault (stop (accepted_program schemas modules row_numbers) opened_step fault e)

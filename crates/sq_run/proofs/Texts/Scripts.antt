@@ -25,7 +25,7 @@ use Rattle.sq_meaning.specs.Schema.{BaseTable, Elements, base_place, base_tables
 use Rattle.sq_meaning.specs.SchemaRefusal.{elements_of}
 use Rattle.sq_meaning.specs.Script.{argument_values, arguments_fault, first_script_refusal, fit, item_refusal, procedure_called, script_fault_of}
 use Rattle.sq_meaning.specs.Script as rules
-use Rattle.sq_meaning.specs.Words.{first_of}
+use Rattle.sq_meaning.specs.Words.{first_some}
 use Rattle.sq_meaning.specs.declared.refusal.ScriptFault.{ScriptFault}
 use Rattle.sq_meaning.specs.declared.refusal.ScriptFault.TheVariants as fault
 use Rattle.sq_binding.proofs.Names.{position_at}
@@ -187,10 +187,10 @@ module _ (row_numbers : ℕ) (texts : List SchemaText) (modules : List ModuleTex
   no_fault : (x : ScriptItem) → IsTaken s x → script_fault_of elements modules x ≡ None
   no_fault x taken = subst (λ o. AreAlike o (script_fault_of elements modules x)) taken (item_alike x)
 
-  no_refusal : (n : ℕ) (xs : List ScriptItem) → AllByRecursion (IsTaken s) xs → first_of (map (item_refusal elements modules) (enumerate_from n xs)) ≡ None
+  no_refusal : (n : ℕ) (xs : List ScriptItem) → AllByRecursion (IsTaken s) xs → first_some (map (item_refusal elements modules) (enumerate_from n xs)) ≡ None
   no_refusal n [] h = refl
   no_refusal n (x ∷ xs) h =
-      ap (λ o. option_or (option_map (λ f. record { item = n; fault = f }) o) (first_of (map (item_refusal elements modules) (enumerate_from (n + 1) xs)))) (no_fault x h.0)
+      ap (λ o. option_or (option_map (λ f. record { item = n; fault = f }) o) (first_some (map (item_refusal elements modules) (enumerate_from (n + 1) xs)))) (no_fault x h.0)
       ∙ no_refusal (n + 1) xs h.1
 
   -- No item of a script that is taken has a fault.
@@ -198,16 +198,16 @@ module _ (row_numbers : ℕ) (texts : List SchemaText) (modules : List ModuleTex
   script_accepted text taken = no_refusal 0 text.items (recursion_from_All (IsTaken s) text.items taken)
 
   first_refusal : (n k : ℕ) (xs : List ScriptItem) (x : ScriptItem) (f : ScriptFault) → slice_get xs k ≡ Some x → script_fault_of elements modules x ≡ Some f
-      → AllByRecursion (IsTaken s) (take k xs) → first_of (map (item_refusal elements modules) (enumerate_from n xs)) ≡ Some (record { item = n + k; fault = f })
+      → AllByRecursion (IsTaken s) (take k xs) → first_some (map (item_refusal elements modules) (enumerate_from n xs)) ≡ Some (record { item = n + k; fault = f })
   first_refusal n k [] x f at is before = cc
   first_refusal n zero (y ∷ xs) x f at is before =
       let same : y ≡ x = cc in
       let here : n ≡ n + 0 = omega arith in
-      ap (λ o. option_or (option_map (λ g. record { item = n; fault = g }) o) (first_of (map (item_refusal elements modules) (enumerate_from (n + 1) xs)))) (ap (script_fault_of elements modules) same ∙ is)
+      ap (λ o. option_or (option_map (λ g. record { item = n; fault = g }) o) (first_some (map (item_refusal elements modules) (enumerate_from (n + 1) xs)))) (ap (script_fault_of elements modules) same ∙ is)
       ∙ ap (λ i. Some (record { item = i; fault = f })) here
   first_refusal n (suc k) (y ∷ xs) x f at is before =
       let there : n + 1 + k ≡ n + suc k = omega arith in
-      ap (λ o. option_or (option_map (λ g. record { item = n; fault = g }) o) (first_of (map (item_refusal elements modules) (enumerate_from (n + 1) xs)))) (no_fault y before.0)
+      ap (λ o. option_or (option_map (λ g. record { item = n; fault = g }) o) (first_some (map (item_refusal elements modules) (enumerate_from (n + 1) xs)))) (no_fault y before.0)
       ∙ first_refusal (n + 1) k xs x f at is before.1 ∙ ap (λ i. Some (record { item = i; fault = f })) there
 
   -- Where an item is not taken, and all before it are, its fault is the first refusal.

@@ -17,7 +17,7 @@ use Rattle.sq_tree.specs.declared.cond.Tail.TheVariants as tails
 use Rattle.sq_tree.specs.declared.cond.Cond.{Cond}
 use Rattle.sq_grammar.specs.declared.cond_or_expr.CondOrExpr.{CondOrExpr}
 use Rattle.sq_grammar.specs.declared.cond_or_expr.CondOrExpr.TheVariants as came
-use Rattle.sq_grammar.specs.Reading.{Tokens, Parser, ◌>>=◌, ◌>>◌, and_then, pure, stuck, eat, opened, expect, sees, is_token, one_if_any, all}
+use Rattle.sq_grammar.specs.Reading.{Tokens, Parser, ◌>>=◌, ◌>>◌, and_then, pure, stuck, eat, opening_bracket, expect, sees, is_token, one_if_any, all}
 use Rattle.sq_grammar.specs.Expr as expressions
 use Rattle.sq_grammar.specs.Expr.{expr, close}
 use Rattle.sq_grammar.specs.Cond.{comparison_of, compared_if_any, sees_query, only_cond, must_be_cond, null_tail, inner_query, subquery, compared_expr, compared_query, by_compared, comparison_tail, between_tail, in_tail, like_tail, no_tail, by_like, by_in, by_between, negatable_tail, by_is, by_comparison, tail, tailed, predicate_from, by_inner, bracket, by_exists, body, tested, test_at, must_be_test, conjoined, conj, must_be_conj, disjoined, level, inside, cond as condition, query_specification}
@@ -42,8 +42,8 @@ null_tails = bind (eaten _) (λ n. must _ done)
 
 -- ---- an expression that begins with a bracket
 
-opens : (left : ℕ) (ts : Tokens) → opened (suc left) (lexeme.Symbol symbol.Open ∷ ts) ≡ Ok (tt, ts)
-unfolding opened expect
+opens : (left : ℕ) (ts : Tokens) → opening_bracket (suc left) (lexeme.Symbol symbol.Open ∷ ts) ≡ Ok (tt, ts)
+unfolding opening_bracket expect
 opens left ts = ap (λ c. cond c stuck (expect (lexeme.Symbol symbol.Open)) (lexeme.Symbol symbol.Open ∷ ts)) (eqb-suc-zero left)
 
 module _ (left : ℕ) where
@@ -55,10 +55,10 @@ module _ (left : ℕ) where
   first_factor p = pure (record { sign = None; primary = p })
 
   unfoldable pub first_term : Factor → Parser Term
-  first_term f = all (expressions.scaled left (expressions.inside left)) >>= λ others. pure (roll-Term (record { first = f; rest = others }))
+  first_term f = all (expressions.scaled_factor left (expressions.inside left)) >>= λ others. pure (roll-Term (record { first = f; rest = others }))
 
   unfoldable pub first_sum : Term → Parser Expr
-  first_sum t = all (expressions.added left (expressions.inside left)) >>= λ others. pure (roll-Expr (record { first = t; rest = others }))
+  first_sum t = all (expressions.added_term left (expressions.inside left)) >>= λ others. pure (roll-Expr (record { first = t; rest = others }))
 
   unfoldable pub behind_bracket : Parser Expr
   behind_bracket = ((first_primary >>= first_factor) >>= first_term) >>= first_sum
@@ -74,7 +74,7 @@ unfolding expressions.level expressions.term expressions.factor expressions.prim
 bracket_first left ts = ap (λ r. and_then (and_then (and_then (and_then r (λ u. first_primary (suc left))) (first_factor (suc left))) (first_term (suc left))) (first_sum (suc left))) (opens left ts)
 
 pub no_bracket : (ts : Tokens) → expr 0 (lexeme.Symbol symbol.Open ∷ ts) ≡ Err (length (lexeme.Symbol symbol.Open ∷ ts))
-unfolding expressions.level expressions.term expressions.factor expressions.primary_at expressions.bracketed eat one_if_any opened
+unfolding expressions.level expressions.term expressions.factor expressions.primary_at expressions.bracketed eat one_if_any opening_bracket
 no_bracket ts = refl
 
 -- ---- what follows a comparison
@@ -116,7 +116,7 @@ module _ (op : Comparison) {inner : Parser (CondOrExpr Cond)} (h : Final inner) 
   opens_query left ts = ap (λ r. and_then (and_then r (λ u. inner_query (suc left) inner >>= λ q. close >> pure q)) (λ q. pure (tails.CompareQuery op None q))) (opens left ts)
 
   at_bracket : (left : ℕ) (ts : Tokens) → query_or_expr left (lexeme.Symbol symbol.Open ∷ ts) ≡ by_bracket left (lexeme.Symbol symbol.Open ∷ ts)
-  unfolding query_or_expr by_bracket bracket_opens expect subquery opened
+  unfolding query_or_expr by_bracket bracket_opens expect subquery opening_bracket
   at_bracket zero ts =
       no_choice (sees (lexeme.Word word.Select) ts) (compared_query zero inner op None) (compared_expr zero inner op) (lexeme.Symbol symbol.Open ∷ ts)
       (sym (ap (λ r. and_then r (λ e. pure (tails.Compare op e))) (no_bracket ts)))

@@ -92,16 +92,16 @@ module _ (left : ℕ) {inner deeper : Parser (CondOrExpr Cond)} (fi : Final inne
   -- ---- what follows a comparison
 
   module _ {F : Tokens → Type 0} (after : AfterExpr F) where
-    scaled_rows : Viable (all (expressions.scaled left (expressions.inside left))) (all (expressions.scaled (suc left) (expressions.inside (suc left)))) F
+    scaled_rows : Viable (all (expressions.scaled_factor left (expressions.inside left))) (all (expressions.scaled_factor (suc left) (expressions.inside (suc left)))) F
     scaled_rows = rows (scales left (inner_exprs left close_after) (inner_begun left close_after) after) (no_scaled (suc left) (expressions.inside (suc left)) after)
 
-    added_rows : Viable (all (expressions.added left (expressions.inside left))) (all (expressions.added (suc left) (expressions.inside (suc left)))) F
+    added_rows : Viable (all (expressions.added_term left (expressions.inside left))) (all (expressions.added_term (suc left) (expressions.inside (suc left)))) F
     added_rows = rows (adds left (inner_exprs left close_after) (inner_begun left close_after) after) (no_added (suc left) (expressions.inside (suc left)) after)
 
-    abbrev scaled_start : Starts (all (expressions.scaled (suc left) (expressions.inside (suc left)))) F
+    abbrev scaled_start : Starts (all (expressions.scaled_factor (suc left) (expressions.inside (suc left)))) F
     scaled_start = rows_start (scales left (inner_exprs left close_after) (inner_begun left close_after) after) (no_scaled (suc left) (expressions.inside (suc left)) after)
 
-    abbrev added_start : Starts (all (expressions.added (suc left) (expressions.inside (suc left)))) F
+    abbrev added_start : Starts (all (expressions.added_term (suc left) (expressions.inside (suc left)))) F
     added_start = rows_start (adds left (inner_exprs left close_after) (inner_begun left close_after) after) (no_added (suc left) (expressions.inside (suc left)) after)
 
     rests : Viable (behind_bracket left) (behind_bracket (suc left)) F

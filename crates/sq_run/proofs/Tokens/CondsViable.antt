@@ -14,7 +14,7 @@ use Rattle.sq_tree.specs.declared.cond.Conj.{Conj}
 use Rattle.sq_tree.specs.declared.cond.Cond.{Cond}
 use Rattle.sq_grammar.specs.declared.cond_or_expr.CondOrExpr.{CondOrExpr}
 use Rattle.sq_grammar.specs.declared.cond_or_expr.CondOrExpr.TheVariants as came
-use Rattle.sq_grammar.specs.Reading.{Tokens, Outcome, Parser, ◌>>=◌, and_then, pure, eat, opened, expect, sees, one_if_any, all, behind}
+use Rattle.sq_grammar.specs.Reading.{Tokens, Outcome, Parser, ◌>>=◌, and_then, pure, eat, opening_bracket, expect, sees, one_if_any, all, behind}
 use Rattle.sq_grammar.specs.Expr.{expr, expr_from, close}
 use Rattle.sq_grammar.specs.Cond.{comparison_of, only_cond, must_be_cond, null_tail, subquery, by_like, by_in, by_between, negatable_tail, by_is, by_comparison, tail, tailed, predicate_from, by_inner, bracket, by_open, by_exists, body, tested, test_at, must_be_test, conjoined, conj, must_be_conj, disjoined, level, inside, cond as condition, query_specification}
 use Rattle.sq_grammar.proofs.Follows.{EndsExpr, ends_expr}
@@ -274,10 +274,10 @@ module _ (left : ℕ) {inner deeper : Parser (CondOrExpr Cond)} (fi : Final inne
         (λ u. then_some {G = Begins closing} _ _ h (λ m. must closing (λ ts. refl) (must_expr m) (must_expr_starts m)) (λ m. must_starts closing (λ ts. refl) (must_expr_starts m)) (λ m other i. (_, refl)) (λ m. eats_first _ _ {F = F} (eats_expect closing) (λ v. must_expr m)))
         (λ u. starts_with {G = Begins closing} _ (from k) (must_starts closing (λ ts. refl) (must_expr_starts k.value)) (λ other i. (_, refl))) (λ u other i. tt) (λ other i. tt))
       where
-        regrouped : (l : ℕ) (i : Parser (CondOrExpr Cond)) (ts : Tokens) → must_be_cond (bracket l i) ts ≡ (opened l >>= λ u. i >>= λ m. close >>= λ v. must_be_cond (by_inner l i m)) ts
+        regrouped : (l : ℕ) (i : Parser (CondOrExpr Cond)) (ts : Tokens) → must_be_cond (bracket l i) ts ≡ (opening_bracket l >>= λ u. i >>= λ m. close >>= λ v. must_be_cond (by_inner l i m)) ts
         regrouped l i ts =
-            and_then_twice (opened l ts) (λ u. i >>= λ m. close >>= λ v. by_inner l i m) only_cond
-            ∙ and_then_same (opened l ts) _ _ (λ u us. and_then_twice (i us) (λ m. close >>= λ v. by_inner l i m) only_cond ∙ and_then_same (i us) _ _ (λ m vs. and_then_twice (close vs) (λ v. by_inner l i m) only_cond))
+            and_then_twice (opening_bracket l ts) (λ u. i >>= λ m. close >>= λ v. by_inner l i m) only_cond
+            ∙ and_then_same (opening_bracket l ts) _ _ (λ u us. and_then_twice (i us) (λ m. close >>= λ v. by_inner l i m) only_cond ∙ and_then_same (i us) _ _ (λ m vs. and_then_twice (close vs) (λ v. by_inner l i m) only_cond))
 
     must_plain : Viable (must_be_cond (expr left >>= predicate_from left inner)) (must_be_cond (expr (suc left) >>= predicate_from (suc left) deeper)) F
     must_plain = alike (λ ts. and_then_twice (expr left ts) (predicate_from left inner) only_cond) (λ ts. and_then_twice (expr (suc left) ts) (predicate_from (suc left) deeper) only_cond)

@@ -6,7 +6,7 @@ use Rattle.sq_tree.specs.declared.expr.SetFunction.TheVariants as function
 use Rattle.sq_tree.specs.declared.expr.Primary.{Primary}
 use Rattle.sq_tree.specs.declared.expr.Expr.{Expr}
 use Rattle.sq_grammar.specs.Reading.{Parser, number_of, text_of, name_of}
-use Rattle.sq_grammar.specs.Expr.{quantifier_if_any, function_of, star_of, close, argument_of, set_function, bracketed, by_function, by_user, by_colon, by_name, by_text, by_number, primary_at, factor, scaled_by, scaled, term, added_by, added, level, level_from, inside, expr, expr_from}
+use Rattle.sq_grammar.specs.Expr.{quantifier_if_any, function_of, star_of, close, argument_of, set_function, bracketed, by_function, by_user, by_colon, by_name, by_text, by_number, primary_at, factor, scaled_by, scaled_factor, term, added_by, added_term, level, level_from, inside, expr, expr_from}
 use Rattle.sq_run.proofs.Tokens.NamesFinal.{column_tails, parameter_tails, signs}
 
 pub quantifiers : Final quantifier_if_any
@@ -49,16 +49,16 @@ module _ (left : ℕ) {inner : Parser Expr} (h : Final inner) where
   unfolding factor
   factors = bind signs (λ sign. bind primaries (λ p. done))
 
-  pub scales : Final (scaled left inner)
-  unfolding scaled
+  pub scales : Final (scaled_factor left inner)
+  unfolding scaled_factor
   scales = bind (or_token _ _ (or_token _ _ done)) (by_option (scaled_by left inner) done (λ sign. bind factors (λ f. done)))
 
   pub terms : Final (term left inner)
   unfolding term
   terms = bind factors (λ first. bind (rows _ scales) (λ others. done))
 
-  pub adds : Final (added left inner)
-  unfolding added
+  pub adds : Final (added_term left inner)
+  unfolding added_term
   adds = bind signs (by_option (added_by left inner) done (λ sign. bind terms (λ t. done)))
 
   pub levels : Final (level left inner)

@@ -14,7 +14,7 @@ use Rattle.sq_tree.specs.declared.expr.SetFunction.{SetFunction}
 use Rattle.sq_tree.specs.declared.expr.SetFunction.TheVariants as function
 use Rattle.sq_grammar.specs.Reading.{Tokens, Parser, ◌>>=◌, pure, eat, sees, one_if_any, name_of, number_of, text_of, all}
 use Rattle.sq_grammar.specs.Names.{sign_if_any}
-use Rattle.sq_grammar.specs.Expr.{times_if_any, quantifier_if_any, function_of, star_of, close, argument_of, set_function, bracketed, by_function, by_user, by_colon, by_name, by_text, by_number, primary_at, factor, scaled_by, scaled, term, added_by, added, level, level_from, inside, expr, expr_from}
+use Rattle.sq_grammar.specs.Expr.{times_if_any, quantifier_if_any, function_of, star_of, close, argument_of, set_function, bracketed, by_function, by_user, by_colon, by_name, by_text, by_number, primary_at, factor, scaled_by, scaled_factor, term, added_by, added_term, level, level_from, inside, expr, expr_from}
 use Rattle.sq_grammar.proofs.Many.{all-none}
 use Rattle.sq_grammar.proofs.Follows.{EndsExpr, ends_expr}
 use Rattle.sq_run.proofs.Tokens.Viable.{Any, Begins, Begun, Blank, Eats, Not, Starts, Viable, begun, blank, blanks, done, done_starts, eats_expect, eats_first, eats_if_comes, eats_if_one, eats_next, from, if_begun, if_comes, if_one, mapped, mapped_starts, must, must_starts, never, never_eats, not_begun, not_starts, one_starts, opening, opening_starts, rows, rows_start, starts_with, then_part, then_some}
@@ -59,8 +59,8 @@ module _ (left : ℕ) (inner : Parser Expr) {F : Tokens → Type 0} where
     plain_times : (other : Tokens) → F other → Neither (lexeme.Symbol symbol.Star) (lexeme.Symbol symbol.Slash) other
     plain_times other i = ((after other i).term.star, (after other i).term.slash)
 
-    pub no_scaled : (other : Tokens) → F other → scaled left inner other ≡ Ok (None, other)
-    unfolding scaled
+    pub no_scaled : (other : Tokens) → F other → scaled_factor left inner other ≡ Ok (None, other)
+    unfolding scaled_factor
     no_scaled other i =
         let k : Starts times_if_any (Neither (lexeme.Symbol symbol.Star) (lexeme.Symbol symbol.Slash)) =
         not_starts (lexeme.Symbol symbol.Star) _ (not_starts (lexeme.Symbol symbol.Slash) _ done_starts (λ ts n. n.1)) (λ ts n. n.0) in
@@ -69,18 +69,18 @@ module _ (left : ℕ) (inner : Parser Expr) {F : Tokens → Type 0} where
     plain_signs : (other : Tokens) → F other → Neither (lexeme.Symbol symbol.Plus) (lexeme.Symbol symbol.Minus) other
     plain_signs other i = ((after other i).plus, (after other i).minus)
 
-    pub no_added : (other : Tokens) → F other → added left inner other ≡ Ok (None, other)
-    unfolding added
+    pub no_added : (other : Tokens) → F other → added_term left inner other ≡ Ok (None, other)
+    unfolding added_term
     no_added other i =
         let k : Starts sign_if_any (Neither (lexeme.Symbol symbol.Plus) (lexeme.Symbol symbol.Minus)) =
         not_starts (lexeme.Symbol symbol.Plus) _ (not_starts (lexeme.Symbol symbol.Minus) _ done_starts (λ ts n. n.1)) (λ ts n. n.0) in
         (starts_with {F = F} {G = Neither (lexeme.Symbol symbol.Plus) (lexeme.Symbol symbol.Minus)} (added_by left inner) k done_starts plain_signs).reads other i
 
-    none_scaled : (other : Tokens) → F other → all (scaled left inner) other ≡ Ok ([], other)
-    none_scaled other i = all-none (scaled left inner) other other (no_scaled other i)
+    none_scaled : (other : Tokens) → F other → all (scaled_factor left inner) other ≡ Ok ([], other)
+    none_scaled other i = all-none (scaled_factor left inner) other other (no_scaled other i)
 
-    none_added : (other : Tokens) → F other → all (added left inner) other ≡ Ok ([], other)
-    none_added other i = all-none (added left inner) other other (no_added other i)
+    none_added : (other : Tokens) → F other → all (added_term left inner) other ≡ Ok ([], other)
+    none_added other i = all-none (added_term left inner) other other (no_added other i)
 
     term_begun : Begun (term left inner) F one_digit
     unfolding term
@@ -210,8 +210,8 @@ module _ (left : ℕ) {inner deeper : Parser Expr} (h : Viable inner deeper (Beg
     scaled_joins None other i = plain_times left inner after other i
     scaled_joins (Some t) other i = (refl, refl)
 
-    pub scales : Viable (scaled left inner) (scaled (suc left) deeper) F
-    unfolding scaled
+    pub scales : Viable (scaled_factor left inner) (scaled_factor (suc left) deeper) F
+    unfolding scaled_factor
     scales = then_part {G = Neither (lexeme.Symbol symbol.Star) (lexeme.Symbol symbol.Slash)} _ _
         (if_comes _ _ _ (inl (λ ts n. n.0)) done done_starts (if_comes _ _ _ (inl (λ ts n. n.1)) done done_starts done))
         by_scaled by_scaled_starts scaled_joins (plain_times left inner after)
@@ -237,8 +237,8 @@ module _ (left : ℕ) {inner deeper : Parser Expr} (h : Viable inner deeper (Beg
     added_joins None other i = plain_signs left inner after other i
     added_joins (Some t) other i = (refl, refl)
 
-    pub adds : Viable (added left inner) (added (suc left) deeper) F
-    unfolding added
+    pub adds : Viable (added_term left inner) (added_term (suc left) deeper) F
+    unfolding added_term
     adds = then_part {G = Neither (lexeme.Symbol symbol.Plus) (lexeme.Symbol symbol.Minus)} _ _ (signs (λ ts n. n.0) (λ ts n. n.1)) by_added by_added_starts added_joins (plain_signs left inner after)
 
     pub levels : Viable (level left inner) (level (suc left) deeper) F

@@ -3,7 +3,7 @@ use Rattle.std.proofs.Common.{◌≡◌, ℕ, ◌<◌, Bool, true, false, cond, 
 use Rattle.sq_lex.specs.declared.lexeme.Lexeme.{Lexeme}
 use Rattle.sq_lex.specs.declared.lexeme.Lexeme.TheVariants as lexeme
 use Rattle.sq_lex.specs.declared.symbol.Symbol.TheVariants as symbol
-use Rattle.sq_grammar.specs.Reading.{Tokens, Outcome, Parser, ◌>>=◌, pure, stuck, eat, expect, opened, is_token, token_if_any, one_of, one_if_any, taken, taken_if_any, name_of, number_of, name, number, behind, comma, listed, all, end_of}
+use Rattle.sq_grammar.specs.Reading.{Tokens, Outcome, Parser, ◌>>=◌, pure, stuck, eat, expect, opening_bracket, is_token, token_if_any, one_of, one_if_any, taken, taken_if_any, name_of, number_of, name, number, behind, comma, comma_separated, all, end_of}
 use Rattle.sq_grammar.proofs.Spells.{ok_pair}
 use Rattle.sq_run.proofs.Tokens.Ahead.{Ahead, Looks, Read, Stuck, again, bound, err_is}
 
@@ -138,8 +138,8 @@ expected token = one_token (expect token) (expect_step token) (λ t ts. by t ts 
     by t ts true = refl
     by t ts false = refl
 
-pub opening : (left : ℕ) → Final (opened left)
-unfolding opened
+pub opening : (left : ℕ) → Final (opening_bracket left)
+unfolding opening_bracket
 opening left = either (nat_eq left 0) never (expected (lexeme.Symbol symbol.Open))
 
 module _ {A : Type 0} where
@@ -248,5 +248,5 @@ alike {p = p} {q = q} same h = record {
 }
 
 -- one item or more, with commas between
-pub commas : {A : Type 0} {item : Parser A} → Final item → Final (listed item)
+pub commas : {A : Type 0} {item : Parser A} → Final item → Final (comma_separated item)
 commas {item = item} h = bind h (λ x. bind (rows (behind comma item) (then comma h)) (λ xs. done))

@@ -10,7 +10,7 @@ use Rattle.sq_tree.specs.declared.list.CommaList.{CommaList}
 use Rattle.sq_tree.specs.declared.schema.ViewDefinition.{ViewDefinition}
 use Rattle.sq_tree.specs.declared.schema.GrantStatement.{GrantStatement}
 use Rattle.sq_tree.specs.declared.schema.Privileges.{Privileges}
-use Rattle.sq_grammar.specs.Reading.{Tokens, Parser, ◌>>=◌, ◌>>◌, pure, eat, expect, sees, comma, listed}
+use Rattle.sq_grammar.specs.Reading.{Tokens, Parser, ◌>>=◌, ◌>>◌, pure, eat, expect, sees, comma, comma_separated}
 use Rattle.sq_grammar.specs.Names.{table_name, columns_if_any}
 use Rattle.sq_grammar.specs.Cond.{query_specification}
 use Rattle.sq_grammar.specs.Schema.{by_with_check, check_option, view_definition, action_update, action_delete, action_insert, action_select, action, by_all, privileges, by_public, grantee, by_with_grant, grant_option, grant}
@@ -129,7 +129,7 @@ module _ {F : Tokens → Type 0} where
 
 -- the parts of a grant behind TO, and behind ON
 abbrev to_grantees : Privileges → Bool → TableName → Parser GrantStatement
-to_grantees ps w t = listed grantee >>= λ gs. grant_option >>= λ o. pure (record { privileges = ps; table_word = w; table = t; grantees = gs; grant_option = o })
+to_grantees ps w t = comma_separated grantee >>= λ gs. grant_option >>= λ o. pure (record { privileges = ps; table_word = w; table = t; grantees = gs; grant_option = o })
 
 abbrev on_table : Privileges → Bool → Parser GrantStatement
 on_table ps w = table_name >>= λ t. expect (lexeme.Word word.To) >> to_grantees ps w t

@@ -5,7 +5,7 @@ use Rattle.sq_lex.specs.declared.lexeme.Lexeme.TheVariants as lexeme
 use Rattle.sq_lex.specs.declared.symbol.Symbol.TheVariants as symbol
 use Rattle.sq_lex.specs.declared.word.Word.TheVariants as word
 use Rattle.sq_tree.specs.declared.module.Declaration.{Declaration}
-use Rattle.sq_grammar.specs.Reading.{Tokens, ◌>>=◌, pure, eat, name, number_of, name_of, comma, listed, sees}
+use Rattle.sq_grammar.specs.Reading.{Tokens, ◌>>=◌, pure, eat, name, number_of, name_of, comma, comma_separated, sees}
 use Rattle.sq_tree.specs.declared.module.Declaration.TheVariants.{Parameter}
 use Rattle.sq_grammar.specs.DataType.{data_type}
 use Rattle.sq_grammar.specs.Module.{by_sqlstate, by_sqlcode, by_colon, declaration_if_any, declared, declaration, uncommaed, by_comma, bare_declaration, by_open, declarations, procedure, by_number, sort_key, direction_if_any, sort_specification, by_sorts, order_by, ordered_query, cursor, by_procedure, by_declare, item, module_text}
@@ -107,10 +107,10 @@ no_bare other i =
     (not_starts {F = Semi} comma by_comma
     (starts_with {G = Semi} uncommaed (not_starts (lexeme.Symbol symbol.Colon) by_colon (not_starts (lexeme.Word word.Sqlcode) by_sqlcode (not_starts (lexeme.Word word.Sqlstate) by_sqlstate done_starts semi_more.state) semi_more.code) semi_more.colon) done_starts (λ o j. j)) semi_no_comma).reads other i
 
-listed_declarations : Viable (listed declaration) (listed declaration) (Begins closing)
+listed_declarations : Viable (comma_separated declaration) (comma_separated declaration) (Begins closing)
 listed_declarations = commas (one_declaration close_more) (from (declaration_begun close_more)) (not_begun closing comma (λ ts. refl))
 
-listed_start : Starts (listed declaration) (Begins closing)
+listed_start : Starts (comma_separated declaration) (Begins closing)
 listed_start = commas_start (one_declaration close_more) (from (declaration_begun close_more)) (not_begun closing comma (λ ts. refl))
 
 all_declarations : Viable declarations declarations Semi

@@ -1,6 +1,6 @@
 -- Script texts: their readings are final.
 use Rattle.sq_grammar.specs.Reading.{text_of}
-use Rattle.sq_grammar.specs.Script.{by_text, by_star, argument, by_close, by_open, arguments, two_names, call_of, by_call, by_table, item, script_text}
+use Rattle.sq_grammar.specs.Script.{by_text, by_star, argument, by_close, by_open, arguments, two_names, call_word, by_call, by_table, item, script_text}
 use Rattle.sq_run.proofs.Tokens.Final.{Final, bind, done, a_name, if_comes, if_one, must, rows, commas}
 use Rattle.sq_run.proofs.Tokens.NamesFinal.{signed_numbers}
 
@@ -18,7 +18,7 @@ names = bind a_name (λ first. must _ (bind a_name (λ second. done)))
 
 items : Final item
 unfolding item
-items = if_comes _ by_table (bind names (λ ns. must _ done)) (if_one call_of by_call done (λ u. bind names (λ ns. bind all_arguments (λ xs. must _ done))))
+items = if_comes _ by_table (bind names (λ ns. must _ done)) (if_one call_word by_call done (λ u. bind names (λ ns. bind all_arguments (λ xs. must _ done))))
 
 pub scripts : Final script_text
 unfolding script_text

@@ -4,9 +4,9 @@ use Rattle.sq_lex.specs.declared.lexeme.Lexeme.{Lexeme}
 use Rattle.sq_lex.specs.declared.lexeme.Lexeme.TheVariants as lexeme
 use Rattle.sq_lex.specs.declared.symbol.Symbol.TheVariants as symbol
 use Rattle.sq_lex.specs.declared.word.Word.TheVariants as word
-use Rattle.sq_grammar.specs.Reading.{Tokens, first_of, text_of, name_of, number_of, name, comma, eat, one_if_any, listed}
+use Rattle.sq_grammar.specs.Reading.{Tokens, first_of, text_of, name_of, number_of, name, comma, eat, one_if_any, comma_separated}
 use Rattle.sq_grammar.specs.Names.{sign_if_any, signed_number}
-use Rattle.sq_grammar.specs.Script.{by_text, by_star, argument, by_close, by_open, arguments, two_names, call_of, by_call, by_table, item, script_text}
+use Rattle.sq_grammar.specs.Script.{by_text, by_star, argument, by_close, by_open, arguments, two_names, call_word, by_call, by_table, item, script_text}
 use Rattle.sq_run.proofs.Tokens.ModuleViable.{End, not_ended}
 use Rattle.sq_run.proofs.Tokens.Viable.{Any, Begins, Not, Starts, Viable, commas, comes_starts, done, done_starts, eats_expect, eats_first, eats_one, if_comes, if_one, mapped, mapped_starts, must, must_starts, not_begun, not_starts, one, one_of_starts, rows, rows_start, starts_with, then_part, then_some}
 
@@ -41,7 +41,7 @@ argument_starts : Starts argument (Begins (lexeme.Symbol symbol.Close))
 unfolding argument
 argument_starts = comes_starts (lexeme.Symbol symbol.Star) by_star refl done_starts
 
-listed_arguments : Viable (listed argument) (listed argument) (Begins (lexeme.Symbol symbol.Close))
+listed_arguments : Viable (comma_separated argument) (comma_separated argument) (Begins (lexeme.Symbol symbol.Close))
 listed_arguments = commas one_argument argument_starts (not_begun (lexeme.Symbol symbol.Close) comma (λ ts. refl))
 
 all_arguments : Viable arguments arguments (Begins (lexeme.Symbol symbol.Semicolon))
@@ -79,7 +79,7 @@ unfolding item
 items = if_comes (lexeme.Word word.Table) by_table by_table (inl (not_ended (lexeme.Word word.Table)))
     (then_part {G = Any} _ _ names (λ ns. must (lexeme.Symbol symbol.Semicolon) (λ ts. refl) done done_starts) (λ ns. must_starts (lexeme.Symbol symbol.Semicolon) (λ ts. refl) done_starts) (λ ns other i. tt) (λ other i. tt))
     (starts_with {G = Any} _ names_start (must_starts (lexeme.Symbol symbol.Semicolon) (λ ts. refl) done_starts) (λ other i. tt))
-    (if_one call_of by_call by_call (inl (λ other i. ap (first_of call_of) i))
+    (if_one call_word by_call by_call (inl (λ other i. ap (first_of call_word) i))
     (λ u. then_part {G = Any} _ _ names
     (λ ns. then_some {G = Begins (lexeme.Symbol symbol.Semicolon)} _ _ all_arguments (λ a. must (lexeme.Symbol symbol.Semicolon) (λ ts. refl) done done_starts) (λ a. must_starts (lexeme.Symbol symbol.Semicolon) (λ ts. refl) done_starts)
     (λ a other i. (other, refl)) (λ a. eats_first _ _ {F = Any} (eats_expect (lexeme.Symbol symbol.Semicolon)) (λ v. done)))

@@ -8,7 +8,7 @@ use Rattle.sq_tree.specs.declared.expr.Expr.{Expr}
 use Rattle.sq_tree.specs.declared.statement.Orientation.{Orientation}
 use Rattle.sq_grammar.specs.declared.verb.Verb.{Verb}
 use Rattle.sq_grammar.specs.declared.verb.Verb.TheVariants as verb
-use Rattle.sq_grammar.specs.Reading.{Tokens, Parser, ◌>>=◌, first_of, name_of, eat, listed, comma, sees}
+use Rattle.sq_grammar.specs.Reading.{Tokens, Parser, ◌>>=◌, first_of, name_of, eat, comma_separated, comma, sees}
 use Rattle.sq_grammar.specs.Expr as expressions
 use Rattle.sq_grammar.specs.Cond.{cond as condition}
 use Rattle.sq_grammar.specs.Names.{columns_if_any, parameter, dot}
@@ -96,16 +96,16 @@ unfolding fetch_from
 fetch_from_starts = starts_with {G = NoWord} _ (blank orientation_blank) (by_from_starts orientation_blank.value) (from_joins orientation_blank.value)
 
 module _ {F : Tokens → Type 0} (no_word : Not F (lexeme.Word word.Indicator)) (no_colon : Not F (lexeme.Symbol symbol.Colon)) (no_comma : Not F comma) where
-  parameter_lists : Viable (listed parameter) (listed parameter) F
+  parameter_lists : Viable (comma_separated parameter) (comma_separated parameter) F
   parameter_lists = commas (parameters no_word no_colon) (from (parameter_begun no_word no_colon)) no_comma
 
-  abbrev parameter_starts : Starts (listed parameter) F
+  abbrev parameter_starts : Starts (comma_separated parameter) F
   parameter_starts = commas_start (parameters no_word no_colon) (from (parameter_begun no_word no_colon)) no_comma
 
-semi_parameters : Viable (listed parameter) (listed parameter) Semi
+semi_parameters : Viable (comma_separated parameter) (comma_separated parameter) Semi
 semi_parameters = parameter_lists (semi_not (lexeme.Word word.Indicator) (λ ts. refl)) (semi_not (lexeme.Symbol symbol.Colon) (λ ts. refl)) (semi_not comma (λ ts. refl))
 
-semi_parameter_starts : Starts (listed parameter) Semi
+semi_parameter_starts : Starts (comma_separated parameter) Semi
 semi_parameter_starts = parameter_starts (semi_not (lexeme.Word word.Indicator) (λ ts. refl)) (semi_not (lexeme.Symbol symbol.Colon) (λ ts. refl)) (semi_not comma (λ ts. refl))
 
 fetches : Viable fetch fetch Semi
@@ -157,10 +157,10 @@ digit_quantifiers = quantifiers (not_begun one_digit (lexeme.Word word.All) (λ 
 digit_quantifier_blank : Blank quantifier_if_any (Begins one_digit)
 digit_quantifier_blank = quantifier_blank (not_begun one_digit (lexeme.Word word.All) (λ ts. refl)) (not_begun one_digit (lexeme.Word word.Distinct) (λ ts. refl))
 
-from_parameters : Viable (listed parameter) (listed parameter) (Begins (lexeme.Word word.From))
+from_parameters : Viable (comma_separated parameter) (comma_separated parameter) (Begins (lexeme.Word word.From))
 from_parameters = parameter_lists (not_begun (lexeme.Word word.From) (lexeme.Word word.Indicator) (λ ts. refl)) (not_begun (lexeme.Word word.From) (lexeme.Symbol symbol.Colon) (λ ts. refl)) (not_begun (lexeme.Word word.From) comma (λ ts. refl))
 
-from_parameter_starts : Starts (listed parameter) (Begins (lexeme.Word word.From))
+from_parameter_starts : Starts (comma_separated parameter) (Begins (lexeme.Word word.From))
 from_parameter_starts = parameter_starts (not_begun (lexeme.Word word.From) (lexeme.Word word.Indicator) (λ ts. refl)) (not_begun (lexeme.Word word.From) (lexeme.Symbol symbol.Colon) (λ ts. refl)) (not_begun (lexeme.Word word.From) comma (λ ts. refl))
 
 module _ (left : ℕ) where
@@ -203,10 +203,10 @@ module _ (left : ℕ) where
 
   -- ---- changes
 
-  inner_values : Viable (listed (new_value (expressions.inside left))) (listed (new_value (expressions.inside (suc left)))) (Begins closing)
+  inner_values : Viable (comma_separated (new_value (expressions.inside left))) (comma_separated (new_value (expressions.inside (suc left)))) (Begins closing)
   inner_values = commas (new_values (inner_exprs left close_after) (inner_begun left close_after) (inner_exprs_eat left)) (from (new_value_begun (inner_exprs left close_after) (inner_begun left close_after) (inner_exprs_eat left))) (not_begun closing comma (λ ts. refl))
 
-  abbrev inner_values_start : Starts (listed (new_value (expressions.inside (suc left)))) (Begins closing)
+  abbrev inner_values_start : Starts (comma_separated (new_value (expressions.inside (suc left)))) (Begins closing)
   inner_values_start = commas_start (new_values (inner_exprs left close_after) (inner_begun left close_after) (inner_exprs_eat left)) (from (new_value_begun (inner_exprs left close_after) (inner_begun left close_after) (inner_exprs_eat left))) (not_begun closing comma (λ ts. refl))
 
   value_lists : Viable (by_values left true) (by_values (suc left) true) Semi
@@ -269,10 +269,10 @@ module _ (left : ℕ) where
   unfolding assignment
   assignment_starts = starts_with {G = Any} _ name_starts (must_starts (lexeme.Symbol symbol.Equal) (λ ts. refl) (mapped_starts _ plain_value_starts)) (λ other i. tt)
 
-  sets : Viable (listed (assignment left)) (listed (assignment (suc left))) Semi
+  sets : Viable (comma_separated (assignment left)) (comma_separated (assignment (suc left))) Semi
   sets = commas assignments assignment_starts (semi_not comma (λ ts. refl))
 
-  sets_start : Starts (listed (assignment (suc left))) Semi
+  sets_start : Starts (comma_separated (assignment (suc left))) Semi
   sets_start = commas_start assignments assignment_starts (semi_not comma (λ ts. refl))
 
   set_no_dot : Not (Begins (lexeme.Word word.Set)) dot

@@ -7,7 +7,7 @@ use Rattle.sq_lex.specs.declared.word.Word.TheVariants as word
 use Rattle.sq_lex.specs.declared.name.Name.{Name}
 use Rattle.sq_tree.specs.declared.names.TableName.{TableName}
 use Rattle.sq_tree.specs.declared.schema.TableDefinition.{TableDefinition}
-use Rattle.sq_grammar.specs.Reading.{Tokens, Parser, ◌>>=◌, ◌>>◌, pure, expect, sees, comma, listed, first_of, text_of, name_of}
+use Rattle.sq_grammar.specs.Reading.{Tokens, Parser, ◌>>=◌, ◌>>◌, pure, expect, sees, comma, comma_separated, first_of, text_of, name_of}
 use Rattle.sq_grammar.specs.Schema.{references_from, references, by_text, by_null, by_user, default_value, default_clause, check, constraint_check, constraint_references, constraint_primary, constraint_unique, constraint_not, column_constraint, column_definition, foreign_key, element_foreign, element_primary, element_unique, table_constraint, element_name, table_element, table_definition}
 use Rattle.sq_run.proofs.Tokens.Viable.{Any, Begins, Blank, Not, Starts, Viable, behind_it, blank, blanks, commas, commas_start, comes_starts, done, done_starts, eats_expect, eats_first, from, if_comes, if_one, mapped, mapped_starts, must, must_starts, not_begun, not_starts, one_starts, rows, rows_start, starts_with, then_part, then_some}
 use Rattle.sq_run.proofs.Tokens.NamesViable.{a_name, bracketed_columns, closing, columns_begun, columns_blank, columns_or_none, signed_numbers, tables, tables_begun}
@@ -149,7 +149,7 @@ dot_opens = not_begun opening (lexeme.Symbol symbol.Dot) (λ ts. refl)
 
 -- the elements behind the bracket
 abbrev up_to_close : ℕ → TableName → Parser TableDefinition
-up_to_close left n = listed (table_element left) >>= λ es. expect closing >> pure (record { name = n; elements = es })
+up_to_close left n = comma_separated (table_element left) >>= λ es. expect closing >> pure (record { name = n; elements = es })
 
 module _ (left : ℕ) {F : Tokens → Type 0} where
   bracketed : (n : TableName) → Viable (up_to_close left n) (up_to_close (suc left) n) F

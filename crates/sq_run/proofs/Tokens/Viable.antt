@@ -5,7 +5,7 @@ use Rattle.std.proofs.lemmas.Bool.{ltb-true, ltb-false}
 use Rattle.sq_lex.specs.declared.lexeme.Lexeme.{Lexeme}
 use Rattle.sq_lex.specs.declared.lexeme.Lexeme.TheVariants as lexeme
 use Rattle.sq_lex.specs.declared.symbol.Symbol.TheVariants as symbol
-use Rattle.sq_grammar.specs.Reading.{Tokens, Outcome, Parser, ◌>>=◌, pure, stuck, eat, expect, opened, rest as without_first, is_token, one_of, one_if_any, first_of, taken, behind, comma, listed, all, turn, with_front}
+use Rattle.sq_grammar.specs.Reading.{Tokens, Outcome, Parser, ◌>>=◌, pure, stuck, eat, expect, opening_bracket, rest as without_first, is_token, one_of, one_if_any, first_of, taken, behind, comma, comma_separated, all, turn, with_front}
 use Rattle.sq_grammar.proofs.Many.{all-none, all-some, all-turn}
 use Rattle.sq_grammar.proofs.Spells.{ok_pair}
 use Rattle.sq_grammar.proofs.Takes.{none_behind}
@@ -165,10 +165,10 @@ module _ {A : Type 0} {item item' : Parser A} {F : Tokens → Type 0} (h : Viabl
   pub no_more : (other : Tokens) → F other → behind comma item' other ≡ Ok (None, other)
   no_more other i = none_behind comma item' other (no_comma other i)
 
-  pub commas : Viable (listed item) (listed item') F
+  pub commas : Viable (comma_separated item) (comma_separated item') F
   commas = then_part _ _ h (λ x. mapped _ (rows (behind_it comma h k no_comma) no_more)) (λ x. mapped_starts _ (rows_start (behind_it comma h k no_comma) no_more)) (λ x other i. i) (λ other i. i)
 
-  abbrev pub commas_start : Starts (listed item') F
+  abbrev pub commas_start : Starts (comma_separated item') F
   commas_start = starts_with _ k (mapped_starts _ (rows_start (behind_it comma h k no_comma) no_more)) (λ other i. i)
 
 -- ---- what takes some tokens
@@ -328,24 +328,24 @@ eats_seeing test {p = p} {p' = p'} eats eats' ts x rest e = by (test ts) e
     by false i = eats' ts x rest i
 
 -- a bracket, of which one more may be open
-pub opening : (left : ℕ) {F : Tokens → Type 0} → Viable (opened left) (opened (suc left)) F
-unfolding opened
+pub opening : (left : ℕ) {F : Tokens → Type 0} → Viable (opening_bracket left) (opening_bracket (suc left)) F
+unfolding opening_bracket
 opening left {F = F} = record { reads = λ ts x rest e. by (nat_eq left 0) ts x rest e; stops = λ ts n e. to (nat_eq left 0) ts n e }
   where
-    here : Viable (expect (lexeme.Symbol symbol.Open)) (opened (suc left)) F
+    here : Viable (expect (lexeme.Symbol symbol.Open)) (opening_bracket (suc left)) F
     here = alike (λ ts. refl) (λ ts. ap (λ c. cond c stuck (expect (lexeme.Symbol symbol.Open)) ts) (eqb-suc-zero left)) (expected (lexeme.Symbol symbol.Open) (λ ts. refl))
 
-    by : (b : Bool) (ts : Tokens) (x : Unit {0}) (rest : Tokens) → cond b stuck (expect (lexeme.Symbol symbol.Open)) ts ≡ Ok (x, rest) → Kept (opened (suc left)) F ts x rest
+    by : (b : Bool) (ts : Tokens) (x : Unit {0}) (rest : Tokens) → cond b stuck (expect (lexeme.Symbol symbol.Open)) ts ≡ Ok (x, rest) → Kept (opening_bracket (suc left)) F ts x rest
     by true ts x rest e = cc
     by false ts x rest e = here.reads ts x rest e
 
-    to : (b : Bool) (ts : Tokens) (n : ℕ) → cond b stuck (expect (lexeme.Symbol symbol.Open)) ts ≡ Err n → (n ≡ length ts) ⊎ Inside (opened (suc left)) F ts n
+    to : (b : Bool) (ts : Tokens) (n : ℕ) → cond b stuck (expect (lexeme.Symbol symbol.Open)) ts ≡ Err n → (n ≡ length ts) ⊎ Inside (opening_bracket (suc left)) F ts n
     to true ts n e = inl (sym (err_is (Unit {0}) (length ts) n e))
     to false ts n e = here.stops ts n e
 
-pub opens : (left : ℕ) (ts : Tokens) → opened (suc left) (lexeme.Symbol symbol.Open ∷ ts) ≡ Ok (tt, ts)
-unfolding opened expect
+pub opens : (left : ℕ) (ts : Tokens) → opening_bracket (suc left) (lexeme.Symbol symbol.Open ∷ ts) ≡ Ok (tt, ts)
+unfolding opening_bracket expect
 opens left ts = ap (λ c. cond c stuck (expect (lexeme.Symbol symbol.Open)) (lexeme.Symbol symbol.Open ∷ ts)) (eqb-suc-zero left)
 
-abbrev pub opening_starts : (left : ℕ) {F : Tokens → Type 0} → Starts (opened (suc left)) F
+abbrev pub opening_starts : (left : ℕ) {F : Tokens → Type 0} → Starts (opening_bracket (suc left)) F
 opening_starts left = record { more = lexeme.Symbol symbol.Open ∷ []; value = tt; reads = λ other i. opens left other }

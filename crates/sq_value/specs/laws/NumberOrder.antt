@@ -8,7 +8,7 @@ use Rattle.std.specs.declared.cmp.Ordering.{Ordering}
 use Rattle.std.specs.declared.cmp.Ordering.TheVariants.{Less, Equal, Greater}
 use Rattle.std.specs.Ordering.{int_cmp, MatchOrdering}
 use Rattle.sq_value.specs.Number.{Number}
-use Rattle.sq_value.specs.Arithmetic.{compared}
+use Rattle.sq_value.specs.Arithmetic.{numbers_compared}
 
 times_lt : (m n k : ℕ) → 0 < k → m < n → m * k < n * k
 times_lt m n k p h = mul-lt-mul_of_pos_right h p
@@ -46,14 +46,14 @@ pub ten_positive : (s : ℕ) → 0 < 10 ^ s
 ten_positive s = omega (arith, one-le-pow s 10 (omega arith))
 
 -- at one scale numbers compare as their unscaled values
-pub compared_alike : (a b : Number) → a.scale ≡ b.scale → int_cmp a.unscaled b.unscaled ≡ compared a b
+pub compared_alike : (a b : Number) → a.scale ≡ b.scale → int_cmp a.unscaled b.unscaled ≡ numbers_compared a b
 compared_alike a b h =
     scaled_cmp a.unscaled b.unscaled (10 ^ a.scale) (ten_positive a.scale)
     ∙ ap (λ s. int_cmp (a.unscaled *ℤ pos (10 ^ s)) (b.unscaled *ℤ pos (10 ^ a.scale))) h
 
 -- two numbers compare as both times the power of ten of a third one's scale
 third : (a b : Number) (s : ℕ)
-    → compared a b ≡ int_cmp (a.unscaled *ℤ pos (10 ^ b.scale * 10 ^ s))
+    → numbers_compared a b ≡ int_cmp (a.unscaled *ℤ pos (10 ^ b.scale * 10 ^ s))
     (b.unscaled *ℤ pos (10 ^ a.scale * 10 ^ s))
 third a b s =
     scaled_cmp (a.unscaled *ℤ pos (10 ^ b.scale)) (b.unscaled *ℤ pos (10 ^ a.scale)) (10 ^ s) (ten_positive s)
@@ -66,24 +66,24 @@ turned x y k l m n = λ i. int_cmp (x *ℤ pos (mul_comm k l i)) (y *ℤ pos (mu
 
 -- all three comparisons of three numbers, over one common power of ten
 first_second : (a b c : Number)
-    → compared a b ≡ int_cmp (a.unscaled *ℤ pos (10 ^ b.scale * 10 ^ c.scale))
+    → numbers_compared a b ≡ int_cmp (a.unscaled *ℤ pos (10 ^ b.scale * 10 ^ c.scale))
     (b.unscaled *ℤ pos (10 ^ a.scale * 10 ^ c.scale))
 first_second a b c = third a b c.scale
 
 second_third : (a b c : Number)
-    → compared b c ≡ int_cmp (b.unscaled *ℤ pos (10 ^ a.scale * 10 ^ c.scale))
+    → numbers_compared b c ≡ int_cmp (b.unscaled *ℤ pos (10 ^ a.scale * 10 ^ c.scale))
     (c.unscaled *ℤ pos (10 ^ a.scale * 10 ^ b.scale))
 second_third a b c = third b c a.scale ∙ turned b.unscaled c.unscaled (10 ^ c.scale) (10 ^ a.scale)
     (10 ^ b.scale) (10 ^ a.scale)
 
 first_third : (a b c : Number)
-    → compared a c ≡ int_cmp (a.unscaled *ℤ pos (10 ^ b.scale * 10 ^ c.scale))
+    → numbers_compared a c ≡ int_cmp (a.unscaled *ℤ pos (10 ^ b.scale * 10 ^ c.scale))
     (c.unscaled *ℤ pos (10 ^ a.scale * 10 ^ b.scale))
 first_third a b c = third a c b.scale ∙
     (λ i. int_cmp (a.unscaled *ℤ pos (mul_comm (10 ^ c.scale) (10 ^ b.scale) i))
     (c.unscaled *ℤ pos (10 ^ a.scale * 10 ^ b.scale)))
 
-pub numbers_total : IsTotalOrder compared
+pub numbers_total : IsTotalOrder numbers_compared
 numbers_total = record {
   antisymm = λ a b. int_cmp_total.antisymm (a.unscaled *ℤ pos (10 ^ b.scale))
       (b.unscaled *ℤ pos (10 ^ a.scale));

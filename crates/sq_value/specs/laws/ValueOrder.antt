@@ -10,7 +10,7 @@ use Rattle.std.specs.declared.cmp.Ordering.TheVariants.{Less, Equal, Greater}
 use Rattle.std.specs.Hash as fed
 use Rattle.std.specs.Ordering.{nat_cmp, ordering_then, is_eq, on, then_cmp, eq_by_cmp}
 use Rattle.sq_value.specs.Number.{Number}
-use Rattle.sq_value.specs.Arithmetic.{compared, truncated, at_scale}
+use Rattle.sq_value.specs.Arithmetic.{numbers_compared, truncated, at_scale}
 use Rattle.sq_value.specs.Comparison.{ordered, is_same, texts_compared}
 use Rattle.sq_value.specs.private.Comparison.{kind_rank}
 use Rattle.sq_value.specs.Key.{value_writes}
@@ -32,7 +32,7 @@ text_part (Num n) = []
 text_part (Chars t) = t
 
 abbrev by_parts : Value → Value → Ordering
-by_parts = then_cmp (on kind_rank nat_cmp) (then_cmp (on number_part compared) (on text_part texts_compared))
+by_parts = then_cmp (on kind_rank nat_cmp) (then_cmp (on number_part numbers_compared) (on text_part texts_compared))
 
 parts_total : IsTotalOrder by_parts
 parts_total = then_total (on_total kind_rank nat_cmp_total)
@@ -49,7 +49,7 @@ ordered_is Null Null = refl
 ordered_is Null (Num b) = refl
 ordered_is Null (Chars t) = refl
 ordered_is (Num a) Null = refl
-ordered_is (Num a) (Num b) = then_equal (compared a b)
+ordered_is (Num a) (Num b) = then_equal (numbers_compared a b)
 ordered_is (Num a) (Chars t) = refl
 ordered_is (Chars s) Null = refl
 ordered_is (Chars s) (Num b) = refl
@@ -97,11 +97,11 @@ equal_from Less h = cc
 equal_from Equal h = refl
 equal_from Greater h = cc
 
-same_at_18 : (a b : Number) → is_eq (compared a b) ≡ true
+same_at_18 : (a b : Number) → is_eq (numbers_compared a b) ≡ true
     → (truncated 18 a).unscaled ≡ (truncated 18 b).unscaled
 same_at_18 a b h =
     let equal : a.unscaled *ℤ pos (10 ^ b.scale) ≡ b.unscaled *ℤ pos (10 ^ a.scale) =
-    exact_signed _ _ (equal_from (compared a b) h) in
+    exact_signed _ _ (equal_from (numbers_compared a b) h) in
     sym (quotient_reduced (a.unscaled *ℤ pos (10 ^ 18)) (10 ^ a.scale) (10 ^ b.scale) (ten_positive b.scale))
     ∙ ap (λ x. int_div x (pos (10 ^ a.scale * 10 ^ b.scale)))
     (exchanged a.unscaled (10 ^ 18) (10 ^ b.scale) ∙ ap

@@ -1,7 +1,7 @@
 use Rattle.std.proofs.Common.{Ok, Err, ap, ◌∙◌, sym, subst}
 use Rattle.sq_value.specs.declared.value.Value.TheVariants as value
 use Rattle.sq_tree.specs.declared.expr.Primary.TheVariants as spelled
-use Rattle.sq_meaning.specs.Spelled.{added_of, expr_of, factor_of, is_distinct_word, number_of, primary_of, scaled_of, term_of}
+use Rattle.sq_meaning.specs.Spelled.{added_of, expr_of, factor_of, is_distinct_word, spelled_number, primary_of, scaled_of, term_of}
 use Rattle.sq_meaning.specs.Syntax.{bracketed, column, count_rows, literal, parameter, set_function, user}
 use Rattle.sq_meaning.proofs.SpelledLevels.{primary_of-Bracketed, primary_of-Column, primary_of-CountRows, primary_of-Number, primary_of-Parameter, primary_of-SetFunction, primary_of-Text, primary_of-User}
 use Rattle.sq_binder.specs.Binds.{Binds}
@@ -95,7 +95,7 @@ factor_value-returns-in-Some t c = signed_is c.args.at.now c.args.before c.args.
 
 pub primary_value-returns-in-Number : goal.primary_value-returns-in-Number
 primary_value-returns-in-Number t c =
-    at_primary c.args.at.now c.args.before c.args.primary.now (spelled.Number c.in-Number.number) (literal (value.Num (number_of c.in-Number.number))) (Ok c.number_literal.result)
+    at_primary c.args.at.now c.args.before c.args.primary.now (spelled.Number c.in-Number.number) (literal (value.Num (spelled_number c.in-Number.number))) (Ok c.number_literal.result)
     c.in-Number.is (primary_of-Number c.in-Number.number) c.number_literal.ensures
 
 pub primary_value-returns-in-Text : goal.primary_value-returns-in-Text

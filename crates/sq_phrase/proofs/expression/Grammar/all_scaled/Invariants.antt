@@ -1,11 +1,11 @@
 use Rattle.std.proofs.Common.{◌≡◌, ◌≤◌, length}
 use Rattle.sq_grammar.specs.Reading.{with_front, all}
-use Rattle.sq_grammar.specs.Expr.{inside, scaled}
+use Rattle.sq_grammar.specs.Expr.{inside, scaled_factor}
 use Rattle.sq_phrase.proofs.expression.Grammar.all_scaled.Given as goal
 
 abbrev pub invariant-loop-items : goal.invariant-loop-items
 invariant-loop-items g l = record {
-  read : with_front l.items (all (scaled l.self.left (inside l.self.left)) l.tokens) ≡ all (scaled l.self.left (inside l.self.left)) l.fn.tokens;
+  read : with_front l.items (all (scaled_factor l.self.left (inside l.self.left)) l.tokens) ≡ all (scaled_factor l.self.left (inside l.self.left)) l.fn.tokens;
   shorter : length l.tokens ≤ length l.fn.tokens;
 }
 
