@@ -16,12 +16,12 @@ ghost use Rattle.sq_binding.specs.SeenQuery.{assignment_seen};
 ghost use Rattle.sq_binder.specs.Receiver.{AreWithin, column_made, columns_made, receiver_seen};
 ghost use Rattle.sq_binder.specs.Update.{AreAssignmentsOf, IsAssignmentOf, assignment_in};
 
-use crate::needed::requiring;
+use crate::needed::require_privilege;
 use crate::new_value::bind_new_value;
 use crate::receiver::{Receiver, receiver_named, receivers_of};
 use crate::{
-    ChangeableTables, ChangedTable, Counts, Found, FromItem, Privilege, Stop, Surroundings, begun,
-    item_at_leaf, with_next,
+    ChangeableTables, ChangedTable, Counts, Found, FromItem, Privilege, Stop, Surroundings,
+    begin_list, item_at_leaf, with_next,
 };
 use sq_bound::BoundAssignment;
 use sq_items::Items;
@@ -118,7 +118,7 @@ fn in_turn<T: ChangeableTables>(
         (λ found. AreAssignmentsOf table.now.under.leaf.now.table found.part) }
 {
     let first = bind_assignment(&list.first, false, table, receivers, at, before);
-    let mut assignments = begun(at.environment.alloc, first)?;
+    let mut assignments = begin_list(at.environment.alloc, first)?;
     for (number, assignment) in list.rest.as_slice().iter().enumerate() {
         let again = is_assigned(list, number, assignment.column);
         let counts = assignments.brought.next;
@@ -175,6 +175,6 @@ fn bind_assignment<T: ChangeableTables>(
             column: base.object_column(receiver.column),
             value: part,
         },
-        brought: requiring(brought, may_update),
+        brought: require_privilege(brought, may_update),
     })
 }

@@ -70,7 +70,7 @@ pub fn bind_check(
     let environment = Environment::new(alloc, user, &[]);
     let condition = condition_over(cond, &item, &environment);
     drop(item);
-    checked(condition)
+    check_condition(condition)
 }
 
 /// The table that is defined, as an item.
@@ -112,18 +112,18 @@ fn condition_over<'s>(
 }
 
 /// A condition that is bound, where it has neither a subquery nor USER.
-fn checked(cond: CondResult) -> CheckResult
+fn check_condition(cond: CondResult) -> CheckResult
     ensures { (b : Binding NumberedCond) → Finds cond_seen b (record { functions = 0; subqueries = 0 }) cond
         → BindsCheck (spec.checked (b at_first)) result }
 {
     match cond {
-        Ok(found) => without(found),
+        Ok(found) => check_contents(found),
         Err(Stop::Fault(fault)) => Err(CheckStop::Broken(fault.rule)),
         Err(Stop::NoMemory) => Err(CheckStop::NoMemory),
     }
 }
 
-fn without(found: Found<BoundCond>) -> CheckResult
+fn check_contents(found: Found<BoundCond>) -> CheckResult
     ensures { BindsCheck (spec.checked (Ok (found_of cond_seen found))) result }
 {
     let Found { part, brought } = found;

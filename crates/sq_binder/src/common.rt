@@ -12,8 +12,8 @@ ghost use Rattle.sq_binder.specs.Found.{Finds};
 ghost use Rattle.sq_binder.specs.InTurn.{in_turn};
 ghost use Rattle.sq_binder.specs.Query.{column_in_common, sides_seen};
 
-use crate::in_turn::grown;
-use crate::{Counts, Found, Stop, alone};
+use crate::in_turn::grow_list;
+use crate::{Counts, Found, Stop, bring_nothing};
 use sq_bound::ResultColumn;
 use sq_items::Items;
 use sq_lex::Name;
@@ -35,7 +35,7 @@ pub fn common_columns(
         return Err(Stop::broken(BindingFault::CountMismatch));
     }
     let columns = columns_in_turn(alloc, left, right)?;
-    Ok(alone(alloc, columns, before))
+    Ok(bring_nothing(alloc, columns, before))
 }
 
 /// The columns of sides that have as many columns.
@@ -51,7 +51,7 @@ fn columns_in_turn(
     let mut columns = Items::new(alloc);
     for (position, column) in left.iter().enumerate() {
         let next = common_column(column, &right[position]);
-        match grown(columns, next) {
+        match grow_list(columns, next) {
             Ok(more) => columns = more,
             Err(stop) => return Err(stop),
         }

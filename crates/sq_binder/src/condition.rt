@@ -17,16 +17,18 @@ ghost use Rattle.sq_binder.specs.Subquery.{negated_if};
 ghost use Rattle.sq_binder.specs.Surroundings.{surroundings};
 ghost use Rattle.sq_binder.specs.declared.found.Counts.{Counts as AnyCounts};
 
-use crate::found::{Brought, Counts, Found, alone, begun, paired, with_next};
+use crate::found::{Brought, Counts, Found, begin_list, bring_nothing, pair_parts, with_next};
 use crate::from::from_clause;
 use crate::group::group_by;
-use crate::predicate::{PredicateResult, between, compared, in_list, like, null_test};
+use crate::predicate::{
+    PredicateResult, bind_between, bind_comparison, bind_in_list, bind_like, bind_null_test,
+};
 use crate::scope::FromItem;
 use crate::select_list::{SelectedList, is_star, select_list};
 use crate::set_function::is_distinct;
 use crate::specification::{Groups, specification};
 use crate::stop::Stop;
-use crate::subquery::{SelectResult, compared_query, exists, in_query};
+use crate::subquery::{SelectResult, bind_compared_query, bind_exists, bind_in_query};
 use crate::surroundings::{Surroundings, Tables, value};
 use sq_bound::{BoundCond, BoundConj, BoundTest, Place, Predicate};
 use sq_items::{Boxed, Items};
@@ -48,7 +50,7 @@ pub fn bind_cond<T: Tables>(cond: &Cond, at: &Surroundings<'_, T>, before: Count
         (cond_of at.now.environment.now.user cond.now)) before result }
 {
     let first = conj_value(&cond.first, at, before);
-    let mut terms = begun(at.environment.alloc, first)?;
+    let mut terms = begin_list(at.environment.alloc, first)?;
     for conj in cond.rest.as_slice() {
         let next = conj_value(conj, at, terms.brought.next);
         match with_next(terms, next) {
@@ -80,7 +82,7 @@ fn conj_value<T: Tables>(
         (conj_of at.now.environment.now.user conj.now)) before result }
 {
     let first = test_value(&conj.first, at, before);
-    let mut tests = begun(at.environment.alloc, first)?;
+    let mut tests = begin_list(at.environment.alloc, first)?;
     for test in conj.rest.as_slice() {
         let next = test_value(test, at, tests.brought.next);
         match with_next(tests, next) {
@@ -139,12 +141,12 @@ fn body_value<T: Tables>(body: &Body, at: &Surroundings<'_, T>, before: Counts) 
     let alloc = at.environment.alloc;
     match body {
         Body::Predicate(left, tail) => tail_value(tail, left, at, before),
-        Body::Exists(query) => exists(alloc, subquery_value(query.get(), at, before)),
-        Body::Bracketed(cond) => bracketed(alloc, bind_cond(cond.get(), at, before)),
+        Body::Exists(query) => bind_exists(alloc, subquery_value(query.get(), at, before)),
+        Body::Bracketed(cond) => bracket_condition(alloc, bind_cond(cond.get(), at, before)),
     }
 }
 
-fn bracketed(alloc: Global, cond: CondResult) -> PredicateResult
+fn bracket_condition(alloc: Global, cond: CondResult) -> PredicateResult
     ensures { (b : Binding NumberedCond) (before : AnyCounts) → Finds cond_seen b before cond
         → Finds predicate_seen b before result }
 {
@@ -173,23 +175,30 @@ fn tail_value<T: Tables>(
 {
     let alloc = at.environment.alloc;
     match tail {
-        Tail::Compare(comparison, right) => compared(*comparison, left, right, at, before),
+        Tail::Compare(comparison, right) => bind_comparison(*comparison, left, right, at, before),
         Tail::CompareQuery(comparison, quantifier, query) => {
             let left = value(left, at, before)?;
             let query = subquery_value(query.get(), at, left.brought.next);
-            compared_query(alloc, *comparison, *quantifier, left, query)
+            bind_compared_query(alloc, *comparison, *quantifier, left, query)
         }
-        Tail::Between(negated, low, high) => between(*negated, left, low, high.get(), at, before),
+        Tail::Between(negated, low, high) => bind_between(
+            *negated,
+            left,
+            low,
+            high.get(),
+            at,
+            before,
+        ),
         Tail::InQuery(negated, query) => {
             let left = value(left, at, before)?;
             let query = subquery_value(query.get(), at, left.brought.next);
-            in_query(alloc, *negated, left, query)
+            bind_in_query(alloc, *negated, left, query)
         }
-        Tail::InList(negated, list) => in_list(*negated, left, list, at, before),
+        Tail::InList(negated, list) => bind_in_list(*negated, left, list, at, before),
         Tail::Like(negated, pattern, escape) => {
-            like(*negated, left, pattern, escape, at, before)
+            bind_like(*negated, left, pattern, escape, at, before)
         }
-        Tail::Null(negated) => null_test(*negated, left, at, before),
+        Tail::Null(negated) => bind_null_test(*negated, left, at, before),
     }
 }
 
@@ -220,7 +229,7 @@ pub fn bind_select<T: Tables>(
     let from = from_clause(&table.from, at, before.first())?;
     let items = from.part.items.as_slice();
     let clauses = clauses_value(table, list, items, &*at, from.brought.next);
-    let parts = paired(from, clauses);
+    let parts = pair_parts(from, clauses);
     specification(
         at.environment.alloc,
         is_distinct(quantifier),
@@ -246,7 +255,7 @@ fn clauses_value<'s, T: Tables>(
     let filter = where_value(&table.where_clause, items, at, before)?;
     let next = filter.brought.next;
     let groups = groups_value(&table.having, &table.group_by, list, items, at, next);
-    paired(filter, groups)
+    pair_parts(filter, groups)
 }
 
 /// A WHERE clause over these items, in which no set function may stand.
@@ -270,7 +279,7 @@ fn where_value<'s, T: Tables>(
         functions_allowed: false,
     };
     let filter = clause_value(cond, &lines, before.first());
-    counted(filter, before)
+    count_functions(filter, before)
 }
 
 /// GROUP BY, the select list and HAVING over these items.
@@ -290,7 +299,7 @@ fn groups_value<'s, T: Tables>(
     let columns = grouping_columns(by, items, at, before)?;
     let next = columns.brought.next;
     let shown = shown_value(having, list, &*items, columns.part.as_slice(), &*at, next);
-    paired(columns, shown)
+    pair_parts(columns, shown)
 }
 
 /// The columns of GROUP BY over these items.
@@ -339,7 +348,7 @@ fn shown_value<'s, T: Tables>(
     };
     let shown = select_list(list, items, &groups, before)?;
     let having = clause_value(having, &groups, shown.brought.next);
-    paired(shown, having)
+    pair_parts(shown, having)
 }
 
 /// A WHERE or HAVING clause, if it is written.
@@ -353,13 +362,13 @@ fn clause_value<T: Tables>(
         (clause (option_map (cond_of at.now.environment.now.user) cond.now))) before result }
 {
     match cond {
-        None => Ok(alone(at.environment.alloc, None, before)),
-        Some(cond) => present(bind_cond(cond, at, before)),
+        None => Ok(bring_nothing(at.environment.alloc, None, before)),
+        Some(cond) => make_present(bind_cond(cond, at, before)),
     }
 }
 
 /// A clause that is written.
-pub fn present(cond: CondResult) -> ClauseResult
+pub fn make_present(cond: CondResult) -> ClauseResult
     ensures { (b : Binding NumberedCond) (before : AnyCounts) → Finds cond_seen b before cond
         → Finds clause_seen (clause_present b) before result }
 {
@@ -371,7 +380,7 @@ pub fn present(cond: CondResult) -> ClauseResult
 }
 
 /// A WHERE clause, which is bound with no set function of the query before it, behind those that there are.
-pub fn counted(filter: ClauseResult, before: Counts) -> ClauseResult
+pub fn count_functions(filter: ClauseResult, before: Counts) -> ClauseResult
     ensures { (b : Binding NumberedClause) → Finds clause_seen b (first before) filter
         → Finds clause_seen (from_first b) before result }
 {

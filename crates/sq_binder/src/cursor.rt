@@ -24,8 +24,10 @@ use crate::names::ChangeableTables;
 use crate::order::order_by;
 use crate::query::{QueryResult, bind_query, of_term};
 use crate::updatable::{Over, bind_updatable};
-use crate::whole::{at_first, permitted};
-use crate::{Counts, Environment, Found, Stop, Surroundings, alone, bind_select, paired};
+use crate::whole::{at_first, take_permitted};
+use crate::{
+    Counts, Environment, Found, Stop, Surroundings, bind_select, bring_nothing, pair_parts,
+};
 use sq_bound::{
     BoundCursor, BoundQuery, BoundSpecification, BoundTerm, CursorBody, ParameterDesc,
     ResultColumn, SortColumn,
@@ -142,7 +144,7 @@ fn select_cursor<T: ChangeableTables>(
     ensures columns { IfOk result (λ cursor. BodyHasColumns cursor.body) }
 {
     let behind = found.brought.next.first();
-    let part = permitted(found)?;
+    let part = take_permitted(found)?;
     match bind_updatable(query, &part, at, behind) {
         Ok(over) => cursor_over(at.environment.alloc, cursor, part, over),
         Err(stop) => {
@@ -221,13 +223,13 @@ fn query_cursor<T: ChangeableTables>(cursor: &Cursor, at: &Surroundings<'_, T>) 
     ensures columns { IfOk result (λ cursor. BodyHasColumns cursor.body) }
 {
     let query = bind_query(&cursor.query, at, at_first());
-    let sorted = sorted(at.environment.alloc, query, &cursor.order_by)?;
-    let (query, sorts) = permitted(sorted)?;
+    let sorted = sort_query(at.environment.alloc, query, &cursor.order_by)?;
+    let (query, sorts) = take_permitted(sorted)?;
     rows_cursor(at.environment.alloc, cursor, query, sorts)
 }
 
 /// A query expression, and the columns by which its rows are sorted.
-fn sorted(
+fn sort_query(
     alloc: Global,
     query: QueryResult,
     order: &Option<CommaList<SortSpecification>>,
@@ -240,7 +242,7 @@ fn sorted(
     let query = query?;
     let columns = query.part.columns.as_slice();
     let sorts = found_order(alloc, columns, order, query.brought.next);
-    paired(query, sorts)
+    pair_parts(query, sorts)
 }
 
 fn found_order(
@@ -253,7 +255,7 @@ fn found_order(
         (outcome (order_bound (names_seen columns.now) (listed_if_any order.now))) before result }
 {
     let sorts = order_by(alloc, columns, order)?;
-    Ok(alone(alloc, sorts, before))
+    Ok(bring_nothing(alloc, sorts, before))
 }
 
 /// A cursor over the rows of a query, in the order of sort columns.

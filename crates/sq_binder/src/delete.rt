@@ -13,7 +13,7 @@ ghost use Rattle.sq_binding.specs.There.{StatementIsThere};
 ghost use Rattle.sq_binder.specs.Delete.{delete_in, delete_over};
 
 use crate::cursors::Cursors;
-use crate::needed::{reading, requiring};
+use crate::needed::{require_privilege, require_select_if_read};
 use crate::rows::{RowsResult, bind_rows};
 use crate::{
     ChangeableTables, ChangedTable, Counts, Found, Privilege, Surroundings, changed_table,
@@ -53,6 +53,6 @@ fn delete_from<T: ChangeableTables, C: Cursors>(
     let may_delete = at.tables.holds(table.user, table.name, Privilege::Delete);
     Ok(Found {
         part,
-        brought: requiring(reading(brought, may_select), may_delete),
+        brought: require_privilege(require_select_if_read(brought, may_select), may_delete),
     })
 }

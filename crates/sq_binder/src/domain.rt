@@ -21,7 +21,7 @@ pub fn domain_of(data_type: &DataType) -> Option<Domain>
         DataType::Smallint => Some(Domain::Small),
         DataType::Integer | DataType::Int => Some(Domain::Int),
         DataType::Exact(_, None) => Some(Domain::Numeric(18, 0)),
-        DataType::Exact(_, Some(precision)) => exact(precision),
+        DataType::Exact(_, Some(precision)) => read_exact(precision),
         DataType::Character(_, None) => Some(Domain::Char(1)),
         DataType::Character(_, Some(length)) => match length_of(*length) {
             Some(length) => Some(Domain::Char(length)),
@@ -34,13 +34,13 @@ pub fn domain_of(data_type: &DataType) -> Option<Domain>
     }
 }
 
-fn exact(written: &Precision) -> Option<Domain>
+fn read_exact(written: &Precision) -> Option<Domain>
     ensures { result ≡ meaning.exact_domain (meaning.spelled_whole written.now.precision)
         (meaning.scale_of written.now.scale) }
 {
-    let precision = whole(written.precision)?;
+    let precision = read_whole(written.precision)?;
     let scale = match written.scale {
-        Some(scale) => whole(scale)?,
+        Some(scale) => read_whole(scale)?,
         None => 0,
     };
     if precision == 0 || precision > 18 || scale > precision {
@@ -55,7 +55,7 @@ fn length_of(number: Number) -> Option<u16>
         → option_map texts result ≡ meaning.text_domain texts (meaning.spelled_whole number) }
     ensures within { IfSome result (λ length. (1 ≤ length) × (length ≤ 240)) }
 {
-    let length = whole(number)?;
+    let length = read_whole(number)?;
     if length == 0 || length > 240 {
         return None;
     }
@@ -63,7 +63,7 @@ fn length_of(number: Number) -> Option<u16>
 }
 
 /// A whole number that is written without a point.
-fn whole(number: Number) -> Option<u64>
+fn read_whole(number: Number) -> Option<u64>
     ensures { result ≡ meaning.spelled_whole number }
 {
     if is_whole(number) {

@@ -15,7 +15,7 @@ use crate::bound::{Bound, ExprResult};
 use crate::column::FoundColumn;
 use crate::findings::{Findings, column_findings};
 use crate::literal::{number_literal, text_literal};
-use crate::operation::{operated, product_operator, signed, sum_operator};
+use crate::operation::{apply_operator, product_operator, sign_operand, sum_operator};
 use crate::parameter::parameter_value;
 use crate::scope::Environment;
 use crate::set_function::{count_rows, function_over};
@@ -87,7 +87,7 @@ fn with_term(left: Bound, added: &Added, at: &Standing<'_>, before: usize) -> Ex
         return Err(Stop::NoMemory);
     };
     match term_value(&added.term, at, number) {
-        Ok(right) => operated(at.environment.alloc, sum_operator(added.sign), left, right),
+        Ok(right) => apply_operator(at.environment.alloc, sum_operator(added.sign), left, right),
         Err(stop) => {
             drop(left);
             Err(stop)
@@ -119,7 +119,7 @@ fn with_factor(left: Bound, scaled: &Scaled, at: &Standing<'_>, before: usize) -
         return Err(Stop::NoMemory);
     };
     match factor_value(&scaled.factor, at, number) {
-        Ok(right) => operated(
+        Ok(right) => apply_operator(
             at.environment.alloc,
             product_operator(scaled.sign),
             left,
@@ -139,7 +139,7 @@ fn factor_value(factor: &Factor, at: &Standing<'_>, before: usize) -> ExprResult
     let operand = primary_value(&factor.primary, at, before)?;
     match factor.sign {
         None => Ok(operand),
-        Some(sign) => signed(at.environment.alloc, sign, operand),
+        Some(sign) => sign_operand(at.environment.alloc, sign, operand),
     }
 }
 

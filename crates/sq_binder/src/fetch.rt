@@ -9,7 +9,7 @@ ghost use Rattle.sq_binding.specs.SeenQuery.{fetch_seen};
 use crate::Stop;
 use crate::cursors::{Cursors, cursor_named};
 use crate::into::targets_of;
-use crate::orientation::fetched;
+use crate::orientation::bind_orientation;
 use sq_bound::{BoundFetch, ParameterDesc};
 use sq_tree::Fetch;
 use std::alloc::Global;
@@ -24,7 +24,7 @@ pub fn bind_fetch<C: Cursors>(
         (fetch_bound (map declared_of parameters.now) (C.named cursors.now) fetch.now) result }
 {
     let known = cursor_named(cursors, fetch.cursor)?;
-    let orientation = fetched(fetch, known.cursor.scroll, parameters)?;
+    let orientation = bind_orientation(fetch, known.cursor.scroll, parameters)?;
     let columns = known.cursor.columns.as_slice();
     let outputs = targets_of(alloc, &fetch.targets, columns, parameters)?;
     Ok(BoundFetch {

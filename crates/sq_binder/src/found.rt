@@ -5,7 +5,7 @@ ghost use Rattle.sq_binding.specs.Found.{joined as both_joined};
 ghost use Rattle.sq_binding.specs.QueryFindings.{a_status};
 ghost use Rattle.sq_binder.specs.Found.{Begins, Continues, Pairs, brought_of, failing, nothing, outward};
 
-use crate::operation::joined;
+use crate::operation::join_lists;
 use crate::query_findings::QueryFindings;
 use crate::stop::Stop;
 use sq_bound::SetFunctionCall;
@@ -47,7 +47,7 @@ impl Brought {
         let calls_can_fail = self.calls_can_fail || next.calls_can_fail;
         let findings = self.findings.and(next.findings);
         Ok(Brought {
-            calls: joined(self.calls, next.calls)?,
+            calls: join_lists(self.calls, next.calls)?,
             calls_can_fail,
             findings,
             next: next.next,
@@ -76,7 +76,7 @@ impl Brought {
 }
 
 /// A part that brings nothing along.
-pub fn alone<T>(alloc: Global, part: T, before: Counts) -> Found<T>
+pub fn bring_nothing<T>(alloc: Global, part: T, before: Counts) -> Found<T>
     ensures { result ≡ record { part = part; brought = nothing before } }
 {
     Found {
@@ -91,14 +91,14 @@ pub fn alone<T>(alloc: Global, part: T, before: Counts) -> Found<T>
 }
 
 /// A part and the one behind it.
-pub fn paired<A: Drop, B: Drop>(
+pub fn pair_parts<A: Drop, B: Drop>(
     left: Found<A>,
     right: Result<Found<B>, Stop>,
 ) -> Result<Found<(A, B)>, Stop>
     ensures { Pairs left right result }
 {
     match right {
-        Ok(right) => both(left, right),
+        Ok(right) => pair_bound(left, right),
         Err(stop) => {
             drop(left);
             Err(stop)
@@ -106,7 +106,7 @@ pub fn paired<A: Drop, B: Drop>(
     }
 }
 
-fn both<A: Drop, B: Drop>(left: Found<A>, right: Found<B>) -> Result<Found<(A, B)>, Stop>
+fn pair_bound<A: Drop, B: Drop>(left: Found<A>, right: Found<B>) -> Result<Found<(A, B)>, Stop>
     ensures { Pairs left (Ok right) result }
 {
     match left.brought.and(right.brought) {
@@ -123,7 +123,10 @@ fn both<A: Drop, B: Drop>(left: Found<A>, right: Found<B>) -> Result<Found<(A, B
 }
 
 /// The first of a list.
-pub fn begun<T: Drop>(alloc: Global, first: Result<Found<T>, Stop>) -> Result<Found<Items<T>>, Stop>
+pub fn begin_list<T: Drop>(
+    alloc: Global,
+    first: Result<Found<T>, Stop>,
+) -> Result<Found<Items<T>>, Stop>
     ensures { Begins first result }
 {
     let Found { part, brought } = first?;
@@ -149,7 +152,7 @@ pub fn with_next<T: Drop>(
     ensures { Continues parts next result }
 {
     match next {
-        Ok(next) => continued(parts, next),
+        Ok(next) => continue_list(parts, next),
         Err(stop) => {
             drop(parts);
             Err(stop)
@@ -157,11 +160,11 @@ pub fn with_next<T: Drop>(
     }
 }
 
-fn continued<T: Drop>(parts: Found<Items<T>>, next: Found<T>) -> Result<Found<Items<T>>, Stop>
+fn continue_list<T: Drop>(parts: Found<Items<T>>, next: Found<T>) -> Result<Found<Items<T>>, Stop>
     ensures { Continues parts (Ok next) result }
 {
     match (
-        pushed(parts.part, next.part),
+        push_item(parts.part, next.part),
         parts.brought.and(next.brought),
     ) {
         (Ok(part), Ok(brought)) => Ok(Found { part, brought }),
@@ -174,7 +177,7 @@ fn continued<T: Drop>(parts: Found<Items<T>>, next: Found<T>) -> Result<Found<It
 }
 
 /// The list with a further element.
-pub fn pushed<T: Drop>(list: Items<T>, item: T) -> Result<Items<T>, AllocError>
+pub fn push_item<T: Drop>(list: Items<T>, item: T) -> Result<Items<T>, AllocError>
     ensures { IfOk result (λ longer. longer ≡ list ++ item ∷ []) }
 {
     let mut list = list;

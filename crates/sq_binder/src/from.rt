@@ -15,7 +15,7 @@ ghost use Rattle.sq_binder.specs.Surroundings.{named_table_of};
 
 use crate::column::ItemColumn;
 use crate::findings::{Findings, MOST_ITEMS};
-use crate::found::{Brought, Counts, Found, begun, with_next};
+use crate::found::{Brought, Counts, Found, begin_list, with_next};
 use crate::query_findings::QueryFindings;
 use crate::scope::FromItem;
 use crate::stop::Stop;
@@ -126,7 +126,7 @@ fn items<T: Tables>(
         (map (reference_of at.now.environment.now.user) (listed list.now))) before result }
 {
     let first = item(&list.first, at, before);
-    let mut items = begun(at.environment.alloc, first)?;
+    let mut items = begin_list(at.environment.alloc, first)?;
     for reference in list.rest.as_slice() {
         let next = item(reference, at, items.brought.next);
         match with_next(items, next) {

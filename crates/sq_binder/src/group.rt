@@ -11,7 +11,7 @@ ghost use Rattle.sq_binder.specs.Surroundings.{surroundings};
 
 use crate::column::FoundColumn;
 use crate::findings::column_findings;
-use crate::found::{Brought, Counts, Found, alone, begun, with_next};
+use crate::found::{Brought, Counts, Found, begin_list, bring_nothing, with_next};
 use crate::query_findings::QueryFindings;
 use crate::stop::Stop;
 use crate::surroundings::{Surroundings, Tables};
@@ -32,7 +32,7 @@ pub fn group_by<T: Tables>(
         (listed_if_any by.now)) before result }
 {
     match by {
-        None => Ok(alone(
+        None => Ok(bring_nothing(
             at.environment.alloc,
             Items::new(at.environment.alloc),
             before,
@@ -50,7 +50,7 @@ fn columns_listed<T: Tables>(
         (listed list.now)) before result }
 {
     let first = grouping_column(&list.first, at, before);
-    let mut columns = begun(at.environment.alloc, first)?;
+    let mut columns = begin_list(at.environment.alloc, first)?;
     for reference in list.rest.as_slice() {
         let next = grouping_column(reference, at, columns.brought.next);
         match with_next(columns, next) {

@@ -14,12 +14,12 @@ ghost use Rattle.sq_binding.specs.There.{SourceIsPlain, StatementIsThere};
 ghost use Rattle.sq_binder.specs.Insert.{InsertsInto, IsInsertOver, insert_in, insert_over};
 ghost use Rattle.sq_binder.specs.Receiver.{AreWithin, receiver_seen};
 
-use crate::needed::requiring;
+use crate::needed::require_privilege;
 use crate::receiver::{Receiver, insert_receivers};
 use crate::source::bind_source;
 use crate::{
     ChangeableTables, ChangedTable, Counts, Found, Privilege, Stop, Surroundings, changed_table,
-    paired,
+    pair_parts,
 };
 use sq_bound::{BaseTable, BoundInsert, InsertedRows, ObjectColumn};
 use sq_items::Items;
@@ -62,12 +62,12 @@ fn insert_into<T: ChangeableTables>(
     let receivers = insert_receivers(alloc, table, &insert.columns, before)?;
     let next = receivers.brought.next;
     let source = bind_source(&insert.source, receivers.part.as_slice(), at, next);
-    let parts = paired(receivers, source);
+    let parts = pair_parts(receivers, source);
     let may_insert = at.tables.holds(table.user, table.name, Privilege::Insert);
-    inserted(alloc, table, parts, may_insert)
+    make_insert(alloc, table, parts, may_insert)
 }
 
-fn inserted(
+fn make_insert(
     alloc: Global,
     table: &ChangedTable<'_>,
     parts: Result<Parts, Stop>,
@@ -93,7 +93,7 @@ fn inserted(
                 columns,
                 source,
             },
-            brought: requiring(brought, may_insert),
+            brought: require_privilege(brought, may_insert),
         }),
         (columns, leaf) => {
             drop(columns);

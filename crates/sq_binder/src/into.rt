@@ -10,7 +10,7 @@ ghost use Rattle.sq_binder.specs.Scope.{declared_of};
 ghost use Rattle.sq_binder.specs.Target.{all_set, indicator_again, is_set_again, is_set_in, kinds_shown, set_unless, sets, target_step};
 ghost use Rattle.sq_binding.specs.SeenQuery.{output_seen};
 
-use crate::{Stop, are_comparable, indicator_of, parameter_of, pushed};
+use crate::{Stop, are_comparable, indicator_of, parameter_of, push_item};
 use sq_bound::{Output, ParameterDesc, ResultColumn};
 use sq_items::Items;
 use sq_lex::Name;
@@ -99,7 +99,7 @@ fn with_output(
         drop(outputs);
         return Err(Stop::about(BindingFault::TargetTwice, name));
     }
-    Ok(pushed(outputs, output)?)
+    Ok(push_item(outputs, output)?)
 }
 
 /// The parameter that a target sets though one before it sets it, or though it is its own indicator.

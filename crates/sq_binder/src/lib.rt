@@ -67,15 +67,19 @@ pub use bound::{Bound, ExprResult};
 pub use changeable::{ChangedTable, changed_table, item_at_leaf};
 pub use check::{CheckResult, CheckStop, bind_check};
 pub use column::{FoundColumn, ItemColumn};
-pub use condition::{ClauseResult, CondResult, bind_cond, bind_select, counted, present};
+pub use condition::{
+    ClauseResult, CondResult, bind_cond, bind_select, count_functions, make_present,
+};
 pub use cursor::{CursorResult, bind_cursor};
 pub use cursors::Cursors;
 pub use domain::domain_of;
 pub use expression::bind_expr;
 pub use findings::Findings;
-pub use found::{Brought, Counts, Found, alone, begun, paired, pushed, with_next};
+pub use found::{
+    Brought, Counts, Found, begin_list, bring_nothing, pair_parts, push_item, with_next,
+};
 pub use from::{FromClause, columns_over, correlation_of, from_clause};
-pub use in_turn::grown;
+pub use in_turn::grow_list;
 pub use item_name::name_of;
 pub use kinds::{are_comparable, is_text};
 pub use literal_value::{is_whole, number_value, signed_value, text_value};
@@ -90,11 +94,11 @@ pub use statement::bind_statement;
 pub use stop::{Fault, Stop};
 pub use subquery::SelectResult;
 pub use surroundings::{
-    NamedTable, Surroundings, Tables, TreeResult, TypedResult, agreeing, value,
+    NamedTable, Surroundings, Tables, TreeResult, TypedResult, bind_agreeing, value,
 };
 pub use target::{TargetResult, bind_target};
 pub use typed::Typed;
 pub use under::UnderTable;
 pub use updatable::{Over, UpdatableResult, bind_updatable};
 pub use view::{BoundView, ViewResult, bind_view};
-pub use whole::{at_first, permitted};
+pub use whole::{at_first, take_permitted};

@@ -5,10 +5,10 @@ ghost use Rattle.sq_binding.specs.Whole.{needed};
 ghost use Rattle.sq_binder.specs.Found.{brought_of, query_findings_of};
 ghost use Rattle.sq_binder.specs.Needed.{Permits, reading, requiring};
 
-use crate::{Brought, Found, QueryFindings, Stop, permitted};
+use crate::{Brought, Found, QueryFindings, Stop, take_permitted};
 
 /// What is found where a privilege is needed.
-fn needed(is_held: bool) -> QueryFindings
+fn need_privilege(is_held: bool) -> QueryFindings
     ensures { query_findings_of result ≡ needed is_held }
 {
     QueryFindings {
@@ -18,26 +18,26 @@ fn needed(is_held: bool) -> QueryFindings
 }
 
 /// What a part that needs a privilege brings along.
-pub fn requiring(brought: Brought, is_held: bool) -> Brought
+pub fn require_privilege(brought: Brought, is_held: bool) -> Brought
     ensures { (brought_of result ≡ requiring is_held (brought_of brought)) × (result.next ≡ brought.next) }
 {
     Brought {
-        findings: brought.findings.and(needed(is_held)),
+        findings: brought.findings.and(need_privilege(is_held)),
         ..brought
     }
 }
 
 /// What a part that needs SELECT if it reads a column of the table that is changed brings along (own rule).
-pub fn reading(brought: Brought, may_select: bool) -> Brought
+pub fn require_select_if_read(brought: Brought, may_select: bool) -> Brought
     ensures { (brought_of result ≡ reading may_select (brought_of brought)) × (result.next ≡ brought.next) }
 {
     let reads = brought.findings.values.reads_outermost;
-    requiring(brought, !reads || may_select)
+    require_privilege(brought, !reads || may_select)
 }
 
 /// What is bound by itself, if no privilege is missing.
-pub fn whole<T: Drop>(found: Result<Found<T>, Stop>) -> Result<T, Stop>
+pub fn take_whole<T: Drop>(found: Result<Found<T>, Stop>) -> Result<T, Stop>
     ensures { Permits found result }
 {
-    permitted(found?)
+    take_permitted(found?)
 }

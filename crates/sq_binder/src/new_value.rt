@@ -7,7 +7,7 @@ ghost use Rattle.sq_binder.specs.Found.{Finds};
 ghost use Rattle.sq_binder.specs.Surroundings.{surroundings};
 ghost use Rattle.sq_binding.specs.There.{IsPlain};
 
-use crate::{Counts, Surroundings, Tables, TreeResult, agreeing, alone};
+use crate::{Counts, Surroundings, Tables, TreeResult, bind_agreeing, bring_nothing};
 use sq_bound::BoundExpr;
 use sq_tree::NewValue;
 use sq_value::{Kind, Value};
@@ -24,8 +24,8 @@ pub fn bind_new_value<T: Tables>(
     ensures plain { IfOk result (λ found. IsPlain found.part) }
 {
     match value {
-        NewValue::Expr(expr) => agreeing(expr, kind, at, before),
-        NewValue::Null => Ok(alone(
+        NewValue::Expr(expr) => bind_agreeing(expr, kind, at, before),
+        NewValue::Null => Ok(bring_nothing(
             at.environment.alloc,
             BoundExpr::Literal(Value::Null),
             before,

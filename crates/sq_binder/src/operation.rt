@@ -37,7 +37,7 @@ pub fn product_operator(sign: TimesSign) -> Operator
 }
 
 /// An operand with a sign before it.
-pub fn signed(alloc: Global, sign: Sign, operand: Bound) -> ExprResult
+pub fn sign_operand(alloc: Global, sign: Sign, operand: Bound) -> ExprResult
     ensures { Binds bound_of (spec.signed_as sign (bound_of operand)) result }
 {
     if is_text(operand.kind) {
@@ -75,7 +75,7 @@ fn with_sign(alloc: Global, sign: Sign, operand: Bound) -> ExprResult
 
 /// Two operands and the operator between them.
 #[tactic(auto, using(crate::proofs::KindLaws::operated_bounded))]
-pub fn operated(alloc: Global, operator: Operator, left: Bound, right: Bound) -> ExprResult
+pub fn apply_operator(alloc: Global, operator: Operator, left: Bound, right: Bound) -> ExprResult
     ensures { Binds bound_of (spec.operated_as operator (bound_of left) (bound_of right)) result }
 {
     match operation_kind(operator, left.kind, right.kind) {
@@ -96,7 +96,7 @@ fn operands(alloc: Global, operator: Operator, left: Bound, right: Bound, kind: 
     let calls_can_fail = left.calls_can_fail || right.calls_can_fail;
     let findings = left.findings.and(right.findings).failing();
     let expr = with_operation(alloc, left.expr, operator, right.expr);
-    match (expr, joined(left.calls, right.calls)) {
+    match (expr, join_lists(left.calls, right.calls)) {
         (Ok(expr), Ok(calls)) => Ok(Bound {
             expr,
             kind,
@@ -133,13 +133,17 @@ fn with_operation(
                 Err(error)
             }
         },
-        first => begun(alloc, first, operation),
+        first => begin_operation(alloc, first, operation),
     }
 }
 
 /// An operand with its first operation behind it.
 #[tactic(auto, using(crate::proofs::Operations::operation_first))]
-fn begun(alloc: Global, first: BoundExpr, operation: Operation) -> Result<BoundExpr, AllocError>
+fn begin_operation(
+    alloc: Global,
+    first: BoundExpr,
+    operation: Operation,
+) -> Result<BoundExpr, AllocError>
     ensures { IfOk result
         (λ expr. numbered_of expr
         ≡ Numbered.operation operation.operator (numbered_of first) (numbered_of operation.operand)) }
@@ -163,7 +167,7 @@ fn begun(alloc: Global, first: BoundExpr, operation: Operation) -> Result<BoundE
 }
 
 /// Two lists one behind the other.
-pub fn joined<T: Drop>(left: Items<T>, right: Items<T>) -> Result<Items<T>, AllocError>
+pub fn join_lists<T: Drop>(left: Items<T>, right: Items<T>) -> Result<Items<T>, AllocError>
     ensures { IfOk result (λ all. all ≡ left ++ right) }
 {
     let mut all = left.into_vec();

@@ -9,7 +9,7 @@ ghost use Rattle.sq_binder.specs.Binds.{Binds};
 ghost use Rattle.sq_binder.specs.Order.{names_seen};
 ghost use Rattle.sq_binding.specs.SeenQuery.{sort_seen};
 
-use crate::in_turn::grown;
+use crate::in_turn::grow_list;
 use crate::{Stop, is_whole, number_value};
 use sq_bound::{ResultColumn, SortColumn};
 use sq_items::Items;
@@ -44,10 +44,10 @@ fn listed_order(
     ensures { Binds (map sort_seen) (spec.order_bound (names_seen columns.now) (listed list.now)) result }
 {
     let first = sort_column(columns, &list.first);
-    let mut sorts = grown(Items::new(alloc), first)?;
+    let mut sorts = grow_list(Items::new(alloc), first)?;
     for sort in list.rest.as_slice() {
         let next = sort_column(columns, sort);
-        match grown(sorts, next) {
+        match grow_list(sorts, next) {
             Ok(more) => sorts = more,
             Err(stop) => return Err(stop),
         }
@@ -113,7 +113,7 @@ fn is_named(column: &ResultColumn, wanted: Name) -> bool
 fn column_numbered(columns: &[ResultColumn], number: Number) -> Option<usize>
     ensures { result ≡ result_ok (meaning.column_numbered (names_seen columns.now) (spelled_whole number)) }
 {
-    let position = whole(number)?;
+    let position = read_whole(number)?;
     if position < 1 || position > columns.len() as u64 {
         None
     } else {
@@ -122,7 +122,7 @@ fn column_numbered(columns: &[ResultColumn], number: Number) -> Option<usize>
 }
 
 /// A whole number that is written without a point.
-fn whole(number: Number) -> Option<u64>
+fn read_whole(number: Number) -> Option<u64>
     ensures { result ≡ spelled_whole number }
 {
     if is_whole(number) {

@@ -16,7 +16,7 @@ use sq_tree::{Fetch, Orientation, Position, SignedNumber};
 use sq_value::Domain;
 
 /// The orientation of a fetch statement. Any other than NEXT needs a cursor that scrolls.
-pub fn fetched(
+pub fn bind_orientation(
     fetch: &Fetch,
     scrolls: bool,
     parameters: &[ParameterDesc],
@@ -24,7 +24,7 @@ pub fn fetched(
     ensures { Binds (λ orientation. orientation)
         (spec.fetched (map declared_of parameters.now) scrolls (orientation_of fetch.now)) result }
 {
-    let orientation = orientation_if(written(fetch), parameters)?;
+    let orientation = orientation_if(read_orientation(fetch), parameters)?;
     if scrolls || is_next(orientation) {
         Ok(orientation)
     } else {
@@ -33,7 +33,7 @@ pub fn fetched(
 }
 
 /// The orientation that is written, if one is.
-fn written(fetch: &Fetch) -> Option<Orientation>
+fn read_orientation(fetch: &Fetch) -> Option<Orientation>
     ensures { result ≡ orientation_of fetch.now }
 {
     match fetch.from {

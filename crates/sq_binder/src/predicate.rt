@@ -10,9 +10,9 @@ ghost use Rattle.sq_binding.specs.Seen.{numbered_of, predicate_seen};
 ghost use Rattle.sq_binder.specs.Found.{Finds, both_of, pairs};
 ghost use Rattle.sq_binder.specs.Surroundings.{surroundings};
 
-use crate::found::{Counts, Found, begun, paired, with_next};
+use crate::found::{Counts, Found, begin_list, pair_parts, with_next};
 use crate::stop::Stop;
-use crate::surroundings::{Surroundings, Tables, agreeing, escape, text, value};
+use crate::surroundings::{Surroundings, Tables, bind_agreeing, bind_escape, bind_text, value};
 use crate::typed::Typed;
 use sq_bound::{BoundExpr, Predicate};
 use sq_items::{Boxed, Items};
@@ -23,7 +23,7 @@ use sq_value::Kind;
 pub type PredicateResult = Result<Found<Predicate>, Stop>;
 
 /// `left op right` (8.2).
-pub fn compared<T: Tables>(
+pub fn bind_comparison<T: Tables>(
     comparison: Comparison,
     left: &Expr,
     right: &Expr,
@@ -34,8 +34,8 @@ pub fn compared<T: Tables>(
         (compare comparison (expr_of left.now) (expr_of right.now))) before result }
 {
     let left = value(left, at, before)?;
-    let right = agreeing(right, left.part.kind, at, left.brought.next);
-    let Found { part, brought } = paired(left, right)?;
+    let right = bind_agreeing(right, left.part.kind, at, left.brought.next);
+    let Found { part, brought } = pair_parts(left, right)?;
     let (left, right) = part;
     Ok(Found {
         part: Predicate::Compare(comparison, left.expr, right),
@@ -44,7 +44,7 @@ pub fn compared<T: Tables>(
 }
 
 /// `left [ NOT ] BETWEEN low AND high` (8.3).
-pub fn between<T: Tables>(
+pub fn bind_between<T: Tables>(
     negated: bool,
     left: &Expr,
     low: &Expr,
@@ -57,8 +57,8 @@ pub fn between<T: Tables>(
         (expr_of high.now)))) before result }
 {
     let left = value(left, at, before)?;
-    let bounds = bounds(low, high, left.part.kind, at, left.brought.next);
-    let Found { part, brought } = paired(left, bounds)?;
+    let bounds = bind_bounds(low, high, left.part.kind, at, left.brought.next);
+    let Found { part, brought } = pair_parts(left, bounds)?;
     let (left, (low, high)) = part;
     Ok(Found {
         part: Predicate::Between(negated, left.expr, low, high),
@@ -66,7 +66,7 @@ pub fn between<T: Tables>(
     })
 }
 
-fn bounds<T: Tables>(
+fn bind_bounds<T: Tables>(
     low: &Expr,
     high: &Expr,
     kind: Kind,
@@ -77,13 +77,13 @@ fn bounds<T: Tables>(
         (pairs (spec.agreeing a kind (expr_of low.now)) (λ x. spec.agreeing a kind (expr_of high.now)))
         before result }
 {
-    let low = agreeing(low, kind, at, before)?;
-    let high = agreeing(high, kind, at, low.brought.next);
-    paired(low, high)
+    let low = bind_agreeing(low, kind, at, before)?;
+    let high = bind_agreeing(high, kind, at, low.brought.next);
+    pair_parts(low, high)
 }
 
 /// `left [ NOT ] IN (list)` (8.4).
-pub fn in_list<T: Tables>(
+pub fn bind_in_list<T: Tables>(
     negated: bool,
     left: &Expr,
     list: &CommaList<Expr>,
@@ -94,8 +94,8 @@ pub fn in_list<T: Tables>(
         (not_if negated (in_list_tree (expr_of left.now) (map expr_of (listed list.now))))) before result }
 {
     let left = value(left, at, before)?;
-    let list = listed(list, left.part.kind, at, left.brought.next);
-    let Found { part, brought } = paired(left, list)?;
+    let list = bind_list(list, left.part.kind, at, left.brought.next);
+    let Found { part, brought } = pair_parts(left, list)?;
     let (left, list) = part;
     Ok(Found {
         part: Predicate::InList(negated, left.expr, list),
@@ -104,7 +104,7 @@ pub fn in_list<T: Tables>(
 }
 
 /// The expressions of an IN list, of kinds that agree with this one.
-fn listed<T: Tables>(
+fn bind_list<T: Tables>(
     list: &CommaList<Expr>,
     kind: Kind,
     at: &Surroundings<'_, T>,
@@ -113,10 +113,10 @@ fn listed<T: Tables>(
     ensures { Finds (map numbered_of) (each (spec.agreeing (surroundings T.named at.now) kind)
         (map expr_of (listed list.now))) before result }
 {
-    let first = agreeing(&list.first, kind, at, before);
-    let mut exprs = begun(at.environment.alloc, first)?;
+    let first = bind_agreeing(&list.first, kind, at, before);
+    let mut exprs = begin_list(at.environment.alloc, first)?;
     for expr in list.rest.as_slice() {
-        let next = agreeing(expr, kind, at, exprs.brought.next);
+        let next = bind_agreeing(expr, kind, at, exprs.brought.next);
         match with_next(exprs, next) {
             Ok(more) => exprs = more,
             Err(stop) => return Err(stop),
@@ -126,7 +126,7 @@ fn listed<T: Tables>(
 }
 
 /// `left [ NOT ] LIKE pattern [ ESCAPE escape ]` (8.5).
-pub fn like<T: Tables>(
+pub fn bind_like<T: Tables>(
     negated: bool,
     left: &Expr,
     pattern: &Expr,
@@ -138,9 +138,9 @@ pub fn like<T: Tables>(
         (not_if negated (like_tree (expr_of left.now) (expr_of pattern.now) (option_map expr_of escape.now))))
         before result }
 {
-    let left = text(left, at, before)?;
-    let pattern = escaped(pattern, escape, at, left.brought.next);
-    let Found { part, brought } = paired(left, pattern)?;
+    let left = bind_text(left, at, before)?;
+    let pattern = bind_pattern(pattern, escape, at, left.brought.next);
+    let Found { part, brought } = pair_parts(left, pattern)?;
     let (left, (pattern, escape)) = part;
     Ok(Found {
         part: Predicate::Like(negated, left, pattern, escape),
@@ -149,7 +149,7 @@ pub fn like<T: Tables>(
 }
 
 /// A pattern and its escape character.
-fn escaped<T: Tables>(
+fn bind_pattern<T: Tables>(
     pattern: &Expr,
     character: &Option<Boxed<Expr>>,
     at: &Surroundings<'_, T>,
@@ -159,13 +159,13 @@ fn escaped<T: Tables>(
         (pairs (spec.text a (expr_of pattern.now))
         (λ x. spec.escape_bound a (option_map expr_of character.now))) before result }
 {
-    let pattern = text(pattern, at, before)?;
-    let character = escape(character, at, pattern.brought.next);
-    paired(pattern, character)
+    let pattern = bind_text(pattern, at, before)?;
+    let character = bind_escape(character, at, pattern.brought.next);
+    pair_parts(pattern, character)
 }
 
 /// `left IS [ NOT ] NULL` (8.6).
-pub fn null_test<T: Tables>(
+pub fn bind_null_test<T: Tables>(
     negated: bool,
     left: &Expr,
     at: &Surroundings<'_, T>,

@@ -14,7 +14,9 @@ ghost use Rattle.sq_binder.specs.Query.{Joins, as_query, union_of};
 ghost use Rattle.sq_binding.specs.SeenQuery.{HaveTheirColumns, TermHasColumns, query_seen, term_seen};
 
 use crate::common::common_columns;
-use crate::{Counts, Found, SelectResult, Stop, Surroundings, Tables, bind_select, paired, pushed};
+use crate::{
+    Counts, Found, SelectResult, Stop, Surroundings, Tables, bind_select, pair_parts, push_item,
+};
 use sq_bound::{BoundQuery, BoundTerm, BoundUnion, ResultColumn};
 use sq_items::{Boxed, Items};
 use sq_tree::{Query, QueryTerm};
@@ -33,7 +35,7 @@ pub fn bind_query<T: Tables>(query: &Query, at: &Surroundings<'_, T>, before: Co
     ensures columns { IfOk result (λ found. HaveTheirColumns found.part) }
 {
     let first = bind_term(&query.first, at, before);
-    let mut joined = started(at.environment.alloc, first)?;
+    let mut joined = start_query(at.environment.alloc, first)?;
     for union in query.rest.as_slice() {
         let term = bind_term(&union.term, at, joined.brought.next);
         match with_union(at.environment.alloc, joined, union.all, term) {
@@ -107,7 +109,7 @@ fn columns_of(term: &BoundTerm) -> &[ResultColumn]
 }
 
 /// A query expression of one term.
-fn started(alloc: Global, term: TermResult) -> QueryResult
+fn start_query(alloc: Global, term: TermResult) -> QueryResult
     requires { IfOk term (λ found. TermHasColumns found.part) }
     ensures finds { (b : Binding NumberedQuery) (before : AnyCounts) → Finds term_seen b before term
         → Finds query_seen b before result }
@@ -150,7 +152,7 @@ fn with_union(alloc: Global, joined: Found<BoundQuery>, all: bool, term: TermRes
     ensures columns { IfOk result (λ found. HaveTheirColumns found.part) }
 {
     let term = with_common(alloc, joined.part.columns.as_slice(), term);
-    match paired(joined, term) {
+    match pair_parts(joined, term) {
         Ok(sides) => joined_sides(alloc, all, sides),
         Err(stop) => Err(stop),
     }
@@ -170,7 +172,7 @@ fn with_common(
 {
     let term = term?;
     let columns = common_columns(alloc, left, columns_of(&term.part), term.brought.next);
-    paired(term, columns)
+    pair_parts(term, columns)
 }
 
 fn joined_sides(
@@ -239,7 +241,7 @@ fn union_term(
         (λ more. more ≡ rest ++ (record { all = all; term = term; columns = columns.now }) ∷ []) }
 {
     match Items::from_slice(alloc, columns) {
-        Ok(columns) => pushed(rest, BoundUnion { all, term, columns }),
+        Ok(columns) => push_item(rest, BoundUnion { all, term, columns }),
         Err(error) => {
             drop(rest);
             drop(term);

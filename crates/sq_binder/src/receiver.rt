@@ -11,7 +11,10 @@ ghost use Rattle.sq_binder.specs.Found.{Finds};
 ghost use Rattle.sq_binder.specs.Changeable.{changed_of};
 ghost use Rattle.sq_binder.specs.Receiver.{column_made, columns_made, named_once, once, receiver_at, receiver_seen};
 
-use crate::{ChangedTable, Counts, Found, ItemColumn, Stop, alone, begun, item_at_leaf, with_next};
+use crate::{
+    ChangedTable, Counts, Found, ItemColumn, Stop, begin_list, bring_nothing, item_at_leaf,
+    with_next,
+};
 use sq_items::Items;
 use sq_lex::Name;
 use sq_meaning::BindingFault;
@@ -76,7 +79,7 @@ pub fn insert_receivers(
             drop(all);
             listed
         }
-        None => Ok(alone(alloc, all, before)),
+        None => Ok(bring_nothing(alloc, all, before)),
     }
 }
 
@@ -92,7 +95,7 @@ fn listed_receivers(
         before result }
 {
     let first = receiver_by_name(alloc, list.first, false, all, before);
-    let mut receivers = begun(alloc, first)?;
+    let mut receivers = begin_list(alloc, first)?;
     for (number, name) in list.rest.as_slice().iter().enumerate() {
         let again = is_named(list, number, *name);
         let next = receiver_by_name(alloc, *name, again, all, receivers.brought.next);
@@ -131,7 +134,7 @@ fn receiver_by_name(
         (column_made (map receiver_seen all.now) name again (spec.itself name)) before result }
 {
     let receiver = receiver_named(name, again, all)?;
-    Ok(alone(alloc, receiver, before))
+    Ok(bring_nothing(alloc, receiver, before))
 }
 
 /// The column of a name that is not among those before it.
@@ -139,7 +142,7 @@ pub fn receiver_named(name: Name, again: bool, all: &[Receiver]) -> Result<Recei
     ensures { Binds receiver_seen (named_once (map receiver_seen all.now) name again) result }
 {
     match receiver_with(name, all) {
-        Some(receiver) => once(receiver, again),
+        Some(receiver) => check_once(receiver, again),
         None => Err(Stop::about(BindingFault::UnknownColumn, name)),
     }
 }
@@ -158,7 +161,7 @@ fn receiver_with(name: Name, all: &[Receiver]) -> Option<Receiver>
 }
 
 /// A column that is not named again.
-fn once(receiver: Receiver, again: bool) -> Result<Receiver, Stop>
+fn check_once(receiver: Receiver, again: bool) -> Result<Receiver, Stop>
     ensures { Binds receiver_seen (once again (receiver_seen receiver)) result }
 {
     if again {

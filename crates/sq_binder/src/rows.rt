@@ -13,7 +13,7 @@ ghost use Rattle.sq_binder.specs.Rows.{is_over, searched};
 
 use crate::cursors::{Cursors, cursor_named};
 use crate::{
-    ChangeableTables, ChangedTable, Counts, Found, Stop, Surroundings, alone, bind_target,
+    ChangeableTables, ChangedTable, Counts, Found, Stop, Surroundings, bind_target, bring_nothing,
 };
 use sq_bound::{ChangeTarget, KnownCursor, PositionedTarget, Target};
 use sq_lex::Name;
@@ -37,7 +37,7 @@ pub fn bind_rows<T: ChangeableTables, C: Cursors>(
 {
     match target {
         Some(target) => rows_where(target, table, at, cursors, before),
-        None => searched(bind_target(None, table, at, before)),
+        None => make_searched(bind_target(None, table, at, before)),
     }
 }
 
@@ -54,12 +54,18 @@ fn rows_where<T: ChangeableTables, C: Cursors>(
     ensures leaf { IfOk result (λ found. under found.part ≡ table.now.under.leaf.now) }
 {
     match target {
-        Where::CurrentOf(name) => positioned(at.environment.alloc, *name, table, cursors, before),
-        Where::Condition(cond) => searched(bind_target(Some(cond), table, at, before)),
+        Where::CurrentOf(name) => bind_positioned(
+            at.environment.alloc,
+            *name,
+            table,
+            cursors,
+            before,
+        ),
+        Where::Condition(cond) => make_searched(bind_target(Some(cond), table, at, before)),
     }
 }
 
-fn searched(target: Result<Found<Target>, Stop>) -> RowsResult
+fn make_searched(target: Result<Found<Target>, Stop>) -> RowsResult
     ensures { result ≡ searched target }
 {
     let Found { part, brought } = target?;
@@ -70,7 +76,7 @@ fn searched(target: Result<Found<Target>, Stop>) -> RowsResult
 }
 
 /// The row of an updatable cursor over the very table that is named.
-fn positioned<C: Cursors>(
+fn bind_positioned<C: Cursors>(
     alloc: Global,
     name: Name,
     table: &ChangedTable<'_>,
@@ -91,7 +97,7 @@ fn positioned<C: Cursors>(
         base: table.base(),
         leaf,
     };
-    Ok(alone(alloc, ChangeTarget::Positioned(positioned), before))
+    Ok(bring_nothing(alloc, ChangeTarget::Positioned(positioned), before))
 }
 
 /// Whether a cursor is updatable and over this table.

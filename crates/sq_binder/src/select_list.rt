@@ -11,7 +11,7 @@ ghost use Rattle.sq_binder.specs.SelectList.{BeginsList, Shows, behind, list_see
 ghost use Rattle.sq_binder.specs.Surroundings.{surroundings};
 
 use crate::column::ItemColumn;
-use crate::found::{Counts, Found, alone, pushed};
+use crate::found::{Counts, Found, bring_nothing, push_item};
 use crate::item_name::name_of;
 use crate::scope::FromItem;
 use crate::stop::Stop;
@@ -47,12 +47,12 @@ pub fn select_list<T: Tables>(
         (list_of list.now)) before result }
 {
     match list {
-        SelectList::Star => star(at.environment.alloc, items, before),
+        SelectList::Star => bind_star(at.environment.alloc, items, before),
         SelectList::Items(list) => listed_columns(list, at, before),
     }
 }
 
-fn star(alloc: Global, items: &[FromItem], before: Counts) -> ListResult
+fn bind_star(alloc: Global, items: &[FromItem], before: Counts) -> ListResult
     ensures { (a : AnySurroundings) → Finds list_seen (list_split a (map item_of items.now) all_columns_tree)
         before result }
 {
@@ -61,7 +61,7 @@ fn star(alloc: Global, items: &[FromItem], before: Counts) -> ListResult
         drop(list);
         return Err(Stop::broken(BindingFault::LimitExceeded));
     }
-    Ok(alone(alloc, list, before))
+    Ok(bring_nothing(alloc, list, before))
 }
 
 /// Whether it is `*`.
@@ -133,14 +133,14 @@ fn with_column(
 {
     let SelectedList { exprs, columns } = list;
     let (expr, column) = shown;
-    let exprs = match pushed(exprs, expr) {
+    let exprs = match push_item(exprs, expr) {
         Ok(exprs) => exprs,
         Err(error) => {
             drop(columns);
             return Err(error);
         }
     };
-    match pushed(columns, column) {
+    match push_item(columns, column) {
         Ok(columns) => Ok(SelectedList { exprs, columns }),
         Err(error) => {
             drop(exprs);

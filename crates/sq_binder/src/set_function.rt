@@ -25,7 +25,7 @@ pub fn count_rows(alloc: Global, allowed: bool, number: usize) -> ExprResult
     ensures { Binds bound_of (spec.count_bound allowed number) result }
 {
     if allowed {
-        called(
+        make_call(
             alloc,
             number,
             SetFunctionCall::CountRows,
@@ -85,12 +85,12 @@ fn function_call(
         distinct: is_distinct(quantifier),
         operand: expr,
     });
-    called(alloc, number, call, kind, can_fail)
+    make_call(alloc, number, call, kind, can_fail)
 }
 
 /// A set function, which is known by its number.
 #[tactic(auto, using(crate::proofs::Images::images))]
-fn called(
+fn make_call(
     alloc: Global,
     number: usize,
     call: SetFunctionCall,

@@ -18,7 +18,7 @@ ghost use Rattle.sq_binder.specs.Source.{Inserts, agrees, column_fault, columns_
 use crate::new_value::bind_new_value;
 use crate::receiver::Receiver;
 use crate::{
-    ChangeableTables, Counts, Found, SelectResult, Stop, Surroundings, are_comparable, begun,
+    ChangeableTables, Counts, Found, SelectResult, Stop, Surroundings, are_comparable, begin_list,
     bind_select, with_next,
 };
 use sq_bound::{BoundExpr, InsertedRows, ResultColumn};
@@ -89,7 +89,7 @@ fn values_for<T: ChangeableTables>(
     ensures plain { IfOk result (λ found. AllByRecursion IsPlain found.part) }
 {
     let first = bind_new_value(&list.first, receiver.kind, at, before);
-    let mut values = begun(at.environment.alloc, first)?;
+    let mut values = begin_list(at.environment.alloc, first)?;
     for (number, value) in list.rest.as_slice().iter().enumerate() {
         let next = bind_new_value(value, others[number].kind, at, values.brought.next);
         match with_next(values, next) {

@@ -54,7 +54,7 @@ pub fn specification(
             drop(parts);
             Err(Stop::broken(fault))
         }
-        None => Ok(selected(alloc, distinct, before, parts)),
+        None => Ok(make_specification(alloc, distinct, before, parts)),
     }
 }
 
@@ -73,7 +73,7 @@ fn fault_of(is_star: bool, parts: &Found<Parts>) -> Option<BindingFault>
 }
 
 /// The query specification of these parts.
-fn selected(
+fn make_specification(
     alloc: Global,
     distinct: bool,
     before: Counts,

@@ -15,7 +15,7 @@ use crate::cursors::{Cursors, cursor_named};
 use crate::delete::bind_delete;
 use crate::fetch::bind_fetch;
 use crate::insert::bind_insert;
-use crate::needed::whole;
+use crate::needed::take_whole;
 use crate::row::bind_row;
 use crate::update::bind_update;
 use crate::{ChangeableTables, Environment, Stop, Surroundings, at_first};
@@ -77,16 +77,16 @@ fn statement_at<T: ChangeableTables, C: Cursors>(
             environment.parameters,
             cursors,
         )?)),
-        Statement::Select(select) => Ok(BoundStatement::Select(whole(bind_row(
+        Statement::Select(select) => Ok(BoundStatement::Select(take_whole(bind_row(
             select, at, first,
         ))?)),
-        Statement::Insert(insert) => Ok(BoundStatement::Insert(whole(bind_insert(
+        Statement::Insert(insert) => Ok(BoundStatement::Insert(take_whole(bind_insert(
             insert, at, first,
         ))?)),
-        Statement::Update(update) => Ok(BoundStatement::Update(whole(bind_update(
+        Statement::Update(update) => Ok(BoundStatement::Update(take_whole(bind_update(
             update, at, cursors, first,
         ))?)),
-        Statement::Delete(delete) => Ok(BoundStatement::Delete(whole(bind_delete(
+        Statement::Delete(delete) => Ok(BoundStatement::Delete(take_whole(bind_delete(
             delete, at, cursors, first,
         ))?)),
         Statement::Commit(_) => Ok(BoundStatement::Commit),

@@ -11,7 +11,7 @@ ghost use Rattle.sq_binder.specs.Subquery.{Beside, Numbers, among_query, compare
 ghost use Rattle.sq_binder.specs.Surroundings.{typed_of};
 ghost use Rattle.sq_binder.specs.declared.found.Counts.{Counts as AnyCounts};
 
-use crate::found::{Brought, Counts, Found, paired};
+use crate::found::{Brought, Counts, Found, pair_parts};
 use crate::kinds::are_comparable;
 use crate::predicate::PredicateResult;
 use crate::stop::Stop;
@@ -39,7 +39,7 @@ fn as_subquery(query: Found<BoundSpecification>) -> SelectResult
     ensures { Numbers query result }
 {
     if query.brought.findings.values.reach == 0 {
-        return numbered(query);
+        return number_query(query);
     }
     let Found { part, brought } = query;
     Ok(Found {
@@ -49,7 +49,7 @@ fn as_subquery(query: Found<BoundSpecification>) -> SelectResult
 }
 
 /// The query, with the next number of a subquery.
-fn numbered(query: Found<BoundSpecification>) -> SelectResult
+fn number_query(query: Found<BoundSpecification>) -> SelectResult
     requires { query.brought.findings.values.reach ≡ 0 }
     ensures { Numbers query result }
 {
@@ -85,7 +85,7 @@ fn fault_beside(kind: Kind, columns: &[ResultColumn]) -> Option<BindingFault>
 }
 
 /// A subquery that is compared with a value of this kind.
-fn beside(kind: Kind, query: SelectResult) -> SelectResult
+fn check_beside(kind: Kind, query: SelectResult) -> SelectResult
     ensures { (b : Binding NumberedSelect) (before : AnyCounts) → Finds select_seen b before query
         → Finds select_seen (spec.beside kind b) before result }
 {
@@ -100,11 +100,11 @@ fn beside(kind: Kind, query: SelectResult) -> SelectResult
 }
 
 /// A scalar subquery, which may have more than one row.
-fn scalar(kind: Kind, query: SelectResult) -> SelectResult
+fn make_scalar(kind: Kind, query: SelectResult) -> SelectResult
     ensures { (b : Binding NumberedSelect) (before : AnyCounts) → Finds select_seen b before query
         → Finds select_seen (spec.scalar kind b) before result }
 {
-    let Found { part, brought } = beside(kind, query)?;
+    let Found { part, brought } = check_beside(kind, query)?;
     Ok(Found {
         part,
         brought: brought.failing(),
@@ -119,7 +119,7 @@ fn boxed_beside(
 ) -> Result<Found<(BoundExpr, Boxed<BoundSpecification>)>, Stop>
     ensures { Beside left query result }
 {
-    let Found { part, brought } = paired(left, query)?;
+    let Found { part, brought } = pair_parts(left, query)?;
     let (left, query) = part;
     match Boxed::new(alloc, query) {
         Ok(query) => Ok(Found {
@@ -151,13 +151,13 @@ fn compared_side(quantifier: Option<Quantifier>, kind: Kind, query: SelectResult
         → Finds select_seen (compared_side quantifier kind b) before result }
 {
     match quantifier {
-        None => scalar(kind, query),
-        Some(_) => beside(kind, query),
+        None => make_scalar(kind, query),
+        Some(_) => check_beside(kind, query),
     }
 }
 
 /// `left op [ ALL | ANY | SOME ] (query)`.
-pub fn compared_query(
+pub fn bind_compared_query(
     alloc: Global,
     comparison: Comparison,
     quantifier: Option<Quantifier>,
@@ -178,7 +178,7 @@ pub fn compared_query(
 }
 
 /// `left [ NOT ] IN (query)`.
-pub fn in_query(
+pub fn bind_in_query(
     alloc: Global,
     negated: bool,
     left: Found<Typed>,
@@ -188,7 +188,7 @@ pub fn in_query(
         → Finds typed_of b before (Ok left) → Finds select_seen q left.brought.next query
         → Finds predicate_seen (among_query negated b q) before result }
 {
-    let query = beside(left.part.kind, query);
+    let query = check_beside(left.part.kind, query);
     let Found { part, brought } = boxed_beside(alloc, left, query)?;
     let (left, query) = part;
     Ok(Found {
@@ -198,7 +198,7 @@ pub fn in_query(
 }
 
 /// `EXISTS (query)`.
-pub fn exists(alloc: Global, query: SelectResult) -> PredicateResult
+pub fn bind_exists(alloc: Global, query: SelectResult) -> PredicateResult
     ensures { (b : Binding NumberedSelect) (before : AnyCounts) → Finds select_seen b before query
         → Finds predicate_seen (query_exists b) before result }
 {

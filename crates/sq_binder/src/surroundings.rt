@@ -15,7 +15,7 @@ ghost use Rattle.sq_binder.specs.Surroundings.{named_table_of, surroundings, typ
 
 use crate::bound::Bound;
 use crate::expression::{bind_expr, number_behind};
-use crate::found::{Brought, Counts, Found, alone};
+use crate::found::{Brought, Counts, Found, bring_nothing};
 use crate::kinds::{are_comparable, is_text};
 use crate::query_findings::QueryFindings;
 use crate::scope::Environment;
@@ -120,7 +120,7 @@ fn tree_if(value: Found<Typed>, passes: bool) -> TreeResult
 }
 
 /// A value of a kind that agrees with one before it.
-pub fn agreeing<T: Tables>(
+pub fn bind_agreeing<T: Tables>(
     expr: &Expr,
     kind: Kind,
     at: &Surroundings<'_, T>,
@@ -134,7 +134,7 @@ pub fn agreeing<T: Tables>(
     tree_if(value, agrees)
 }
 
-pub fn text<T: Tables>(expr: &Expr, at: &Surroundings<'_, T>, before: Counts) -> TreeResult
+pub fn bind_text<T: Tables>(expr: &Expr, at: &Surroundings<'_, T>, before: Counts) -> TreeResult
     ensures { Finds numbered_of (spec.text (surroundings T.named at.now) (expr_of expr.now)) before result }
 {
     let value = value(expr, at, before)?;
@@ -143,7 +143,7 @@ pub fn text<T: Tables>(expr: &Expr, at: &Surroundings<'_, T>, before: Counts) ->
 }
 
 /// An escape character, with which a pattern may be none.
-pub fn escape<T: Tables>(
+pub fn bind_escape<T: Tables>(
     escape: &Option<Boxed<Expr>>,
     at: &Surroundings<'_, T>,
     before: Counts,
@@ -152,9 +152,9 @@ pub fn escape<T: Tables>(
         (option_map expr_of escape.now)) before result }
 {
     match escape {
-        None => Ok(alone(at.environment.alloc, None, before)),
+        None => Ok(bring_nothing(at.environment.alloc, None, before)),
         Some(escape) => {
-            let Found { part, brought } = text(escape.get(), at, before)?;
+            let Found { part, brought } = bind_text(escape.get(), at, before)?;
             Ok(Found {
                 part: Some(part),
                 brought: brought.failing(),

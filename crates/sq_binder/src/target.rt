@@ -21,8 +21,8 @@ ghost use Rattle.sq_binding.specs.SeenQuery.{target_seen};
 use crate::changeable::{ChangedTable, item_at_leaf};
 use crate::under::UnderTable;
 use crate::{
-    ClauseResult, Counts, Found, FromItem, Stop, Surroundings, Tables, alone, bind_cond, counted,
-    present,
+    ClauseResult, Counts, Found, FromItem, Stop, Surroundings, Tables, bind_cond, bring_nothing,
+    count_functions, make_present,
 };
 use sq_bound::{BoundCond, Target, is_quiet_cond, shortest_key};
 use sq_tree::Cond;
@@ -71,7 +71,7 @@ fn condition_over<'s, T: Tables>(
         functions_allowed: false,
     };
     let condition = clause_value(cond, &lines, before.first());
-    counted(condition, before)
+    count_functions(condition, before)
 }
 
 /// A condition, if one is written.
@@ -84,8 +84,8 @@ fn clause_value<T: Tables>(
         (clause (option_map (λ c. cond_of at.now.environment.now.user c.now) cond.entry))) before result }
 {
     match cond {
-        None => Ok(alone(at.environment.alloc, None, before)),
-        Some(cond) => present(bind_cond(cond, at, before)),
+        None => Ok(bring_nothing(at.environment.alloc, None, before)),
+        Some(cond) => make_present(bind_cond(cond, at, before)),
     }
 }
 

@@ -21,7 +21,7 @@ use crate::changeable::ChangedTable;
 use crate::names::ChangeableTables;
 use crate::target::{TargetResult, bind_target};
 use crate::under::UnderTable;
-use crate::{Counts, Found, Stop, Surroundings, alone, correlation_of, name_of};
+use crate::{Counts, Found, Stop, Surroundings, bring_nothing, correlation_of, name_of};
 use sq_bound::{BoundExpr, BoundSpecification, Target, UpdatableQuery, are_distinct};
 use sq_items::Items;
 use sq_lex::Name;
@@ -50,7 +50,7 @@ pub fn bind_updatable<T: ChangeableTables>(
 {
     match only_table(query, bound, at.tables, at.environment.user) {
         Some(table) => updatable_over(&table, query, bound, at, before),
-        None => Ok(alone(at.environment.alloc, None, before)),
+        None => Ok(bring_nothing(at.environment.alloc, None, before)),
     }
 }
 
@@ -140,11 +140,11 @@ fn updatable_over<T: ChangeableTables>(
     let alloc = at.environment.alloc;
     let columns = columns_shown(alloc, &query.list, bound.list.as_slice(), &table.under)?;
     let target = bind_target(query.table.where_clause.as_ref(), table, at, before);
-    updatable(table, columns, target)
+    make_updatable(table, columns, target)
 }
 
 /// An updatable query shows columns of the base table, and has no subquery in its condition.
-fn updatable(
+fn make_updatable(
     table: &ChangedTable<'_>,
     columns: Option<Items<usize>>,
     target: TargetResult,

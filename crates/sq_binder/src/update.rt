@@ -14,11 +14,11 @@ ghost use Rattle.sq_binder.specs.Update.{IsUpdateOver, update_in, update_over, u
 
 use crate::assignment::bind_assignments;
 use crate::cursors::Cursors;
-use crate::needed::reading;
+use crate::needed::require_select_if_read;
 use crate::rows::bind_rows;
 use crate::{
     ChangeableTables, ChangedTable, Counts, Found, Privilege, Stop, Surroundings, changed_table,
-    paired,
+    pair_parts,
 };
 use sq_bound::{BoundAssignment, BoundUpdate, ChangeTarget};
 use sq_items::Items;
@@ -55,16 +55,16 @@ fn update_of_table<T: ChangeableTables, C: Cursors>(
         (surroundings T.named at.now) (C.named cursors.now) update.now (changed_of table.now)) before result }
     ensures over { IfOk result (λ found. IsUpdateOver table.now.under.leaf.now found.part) }
 {
-    let Found { part, brought } = parts(update, table, at, cursors, before)?;
+    let Found { part, brought } = bind_parts(update, table, at, cursors, before)?;
     let may_select = at.tables.holds(table.user, table.name, Privilege::Select);
     Ok(Found {
         part,
-        brought: reading(brought, may_select),
+        brought: require_select_if_read(brought, may_select),
     })
 }
 
 /// The set clauses, and the rows.
-fn parts<T: ChangeableTables, C: Cursors>(
+fn bind_parts<T: ChangeableTables, C: Cursors>(
     update: &Update,
     table: &ChangedTable<'_>,
     at: &Surroundings<'_, T>,
@@ -78,10 +78,10 @@ fn parts<T: ChangeableTables, C: Cursors>(
     let assignments = bind_assignments(&update.assignments, table, &*at, before)?;
     let next = assignments.brought.next;
     let rows = bind_rows(&update.target, table, at, cursors, next);
-    updated(paired(assignments, rows))
+    make_update(pair_parts(assignments, rows))
 }
 
-fn updated(parts: Result<Found<(Items<BoundAssignment>, ChangeTarget)>, Stop>) -> UpdateResult
+fn make_update(parts: Result<Found<(Items<BoundAssignment>, ChangeTarget)>, Stop>) -> UpdateResult
     ensures { result ≡ updated parts }
 {
     let Found { part, brought } = parts?;

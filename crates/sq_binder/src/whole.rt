@@ -19,7 +19,7 @@ pub fn at_first() -> Counts
 }
 
 /// The part, where no privilege is missing.
-pub fn permitted<T: Drop>(found: Found<T>) -> Result<T, Stop>
+pub fn take_permitted<T: Drop>(found: Found<T>) -> Result<T, Stop>
     ensures { result ≡ (if found.brought.findings.lacks_privilege
         then Err (broken PrivilegeMissing)
         else Ok found.part) }

@@ -49,7 +49,7 @@ pub(crate) fn check_options_met<N: Names, S: Store>(
         → AreOnRowsPut (N.column_kinds setting.now.names.now) parameters leaf.now.conditions changes.now
         → IfErr result MayEnd }
 {
-    let conditions = demanded(leaf);
+    let conditions = take_demanded(leaf);
     for change in changes {
         if let Some(row) = row_put(change) {
             meets_check_option(setting, conditions, row)?;
@@ -59,7 +59,7 @@ pub(crate) fn check_options_met<N: Names, S: Store>(
 }
 
 /// The conditions, from inside out, that rows have to meet.
-fn demanded(leaf: &Leaf) -> &[Shared<BoundCond>]
+fn take_demanded(leaf: &Leaf) -> &[Shared<BoundCond>]
     ensures { result.now ≡ take leaf.now.demanded leaf.now.conditions }
 {
     &leaf.conditions.as_slice()[..leaf.demanded]

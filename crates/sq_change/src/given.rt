@@ -21,7 +21,7 @@ ghost use Rattle.sq_change.specs.Made.{rows_found, rows_given, rows_made};
 ghost use Rattle.sq_change.specs.Statement.{IsShown, KeepsTables};
 
 use crate::setting::Setting;
-use crate::storing::{assigned, stored_value};
+use crate::storing::{assign_value, stored_value};
 use sq_bound::{
     BaseColumn, BaseTable, BoundExpr, BoundInsert, BoundSpecification, ColumnDefault, InsertedRows,
     Names, ObjectColumn,
@@ -185,7 +185,7 @@ fn stored_row(alloc: Global, columns: &[ObjectColumn], row: &[Value]) -> Result<
 {
     let mut stored = Items::from_vec(Vec::with_capacity(alloc, columns.len())?);
     for (column, value) in columns.iter().zip(row) {
-        stored.push(assigned(alloc, column.domain, value)?)?;
+        stored.push(assign_value(alloc, column.domain, value)?)?;
     }
     Ok(stored)
 }
@@ -272,7 +272,7 @@ fn value_or_default<N: Names, S: Store>(
         ColumnDefault::Value(value) => Ok(value.copy(setting.alloc)?),
         ColumnDefault::User => {
             let user = setting.value(&BoundExpr::User, None)?;
-            assigned(setting.alloc, column.domain, &user)
+            assign_value(setting.alloc, column.domain, &user)
         }
     }
 }

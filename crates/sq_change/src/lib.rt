@@ -20,6 +20,6 @@ mod target;
 pub use complete::Changed;
 pub use row::{is_null, row_put, values_in};
 pub use setting::Setting;
-pub use statement::{delete, deleted, insert, inserted, update, updated};
-pub use storing::assigned;
+pub use statement::{delete, find_deleted, find_inserted, find_updated, insert, update};
+pub use storing::assign_value;
 pub use target::{leaf_under, rows_changed};

@@ -16,7 +16,7 @@ use crate::complete::{Changed, complete};
 use crate::given::new_rows;
 use crate::setting::Setting;
 use crate::target::{
-    all_keys, keys_assigned, leaf_under, numbers_changed, removed, replaced, rows_changed,
+    all_keys, keys_assigned, leaf_under, numbers_changed, remove_rows, replace_rows, rows_changed,
 };
 use sq_bound::{BoundInsert, BoundUpdate, ChangeTarget, Names};
 use sq_expression::{Failure, Fault};
@@ -54,14 +54,14 @@ pub fn insert<N: Names, S: Store>(
 {
     let Inputs { user, parameters } = inputs;
     let setting = Setting::new(alloc, names, &*store, user, parameters);
-    let changed = inserted(&setting, insert, meter)?;
+    let changed = find_inserted(&setting, insert, meter)?;
     let leaf = insert.leaf.get();
     complete(alloc, names, leaf, changed, store, user, parameters)
 }
 
 /// The new rows of an insert statement, which need as many row numbers (own rule).
 #[tactic(auto, using(crate::proofs::Applied::fewer_inserted))]
-pub fn inserted<N: Names, S: Store>(
+pub fn find_inserted<N: Names, S: Store>(
     setting: &Setting<'_, N, S>,
     insert: &BoundInsert,
     meter: &mut Meter,
@@ -131,13 +131,13 @@ pub fn update<N: Names, S: Store>(
 {
     let Inputs { user, parameters } = inputs;
     let setting = Setting::new(alloc, names, &*store, user, parameters);
-    let changed = updated(&setting, update, on, meter)?;
+    let changed = find_updated(&setting, update, on, meter)?;
     let leaf = leaf_under(&update.target);
     complete(alloc, names, leaf, changed, store, user, parameters)
 }
 
 /// The changed rows of an update statement.
-pub fn updated<N: Names, S: Store>(
+pub fn find_updated<N: Names, S: Store>(
     setting: &Setting<'_, N, S>,
     update: &BoundUpdate,
     on: Option<u64>,
@@ -166,13 +166,13 @@ pub fn updated<N: Names, S: Store>(
     let table = leaf_under(&update.target).table.get();
     let assignments = update.assignments.as_slice();
     let rows = rows_changed(setting, &update.target, on, meter)?;
-    let changes = replaced(setting, table, assignments, rows.as_slice());
+    let changes = replace_rows(setting, table, assignments, rows.as_slice());
     drop(rows);
-    changed(changes, keys_assigned(setting.alloc, table, assignments))
+    make_changed(changes, keys_assigned(setting.alloc, table, assignments))
 }
 
 /// Changes, and the keys whose values rows may lose by them.
-fn changed(
+fn make_changed(
     changes: Result<Vec<Change>, Fault>,
     lost_keys: Result<Vec<usize>, AllocError>,
 ) -> Result<Changed, Fault>
@@ -228,13 +228,13 @@ pub fn delete<N: Names, S: Store>(
 {
     let Inputs { user, parameters } = inputs;
     let setting = Setting::new(alloc, names, &*store, user, parameters);
-    let changed = deleted(&setting, target, on, meter)?;
+    let changed = find_deleted(&setting, target, on, meter)?;
     let leaf = leaf_under(target);
     complete(alloc, names, leaf, changed, store, user, parameters)
 }
 
 /// The removed rows of a delete statement.
-pub fn deleted<N: Names, S: Store>(
+pub fn find_deleted<N: Names, S: Store>(
     setting: &Setting<'_, N, S>,
     target: &ChangeTarget,
     on: Option<u64>,
@@ -261,8 +261,8 @@ pub fn deleted<N: Names, S: Store>(
         → meter.new ≤ meter.old + 1 }
 {
     let numbers = numbers_changed(setting, target, on, meter)?;
-    let changes = removed(setting.alloc, numbers.as_slice());
+    let changes = remove_rows(setting.alloc, numbers.as_slice());
     drop(numbers);
     let table = leaf_under(target).table.get();
-    changed(changes, all_keys(setting.alloc, table))
+    make_changed(changes, all_keys(setting.alloc, table))
 }

@@ -37,12 +37,12 @@ pub(crate) fn stored_value<N: Names, S: Store>(
     ensures right { IfErr result MayEnd }
 {
     let value = setting.value(expr, row)?;
-    assigned(setting.alloc, column.domain, &value)
+    assign_value(setting.alloc, column.domain, &value)
 }
 
 /// A value as a domain stores it, or the status for which it can't be stored. Null and a number take no memory.
 #[tactic(auto, using(crate::proofs::Stored::ok_meets, crate::proofs::Stored::err_meets))]
-pub fn assigned(alloc: Global, domain: Domain, value: &Value) -> Result<Value, Fault>
+pub fn assign_value(alloc: Global, domain: Domain, value: &Value) -> Result<Value, Fault>
     requires domain { IsDomain domain }
     requires kind { FitsKind domain value.now }
     ensures fit { Meets result (spec.assigned domain value.now) }

@@ -78,14 +78,14 @@ pub(crate) fn numbers_changed<N: Names, S: Store>(
             Ok(numbers)
         }
         ChangeTarget::Positioned(_) => match on {
-            Some(number) => only(setting.alloc, number),
+            Some(number) => list_only(setting.alloc, number),
             None => unreachable!(),
         },
     }
 }
 
 /// The number of the row that a cursor is on.
-fn only(alloc: Global, number: u64) -> Result<Vec<u64>, Fault>
+fn list_only(alloc: Global, number: u64) -> Result<Vec<u64>, Fault>
     ensures only { IfOk result (λ numbers. numbers.items ≡ number ∷ []) }
     ensures memory { IfErr result (λ f. f ≡ Fault.NoMemory) }
     ensures right { IfErr result MayEnd }
@@ -183,7 +183,7 @@ fn row_under<'a, N: Names, S: Store>(
 }
 
 /// These rows after the set clauses, under their numbers.
-pub(crate) fn replaced<N: Names, S: Store>(
+pub(crate) fn replace_rows<N: Names, S: Store>(
     setting: &Setting<'_, N, S>,
     table: &BaseTable,
     assignments: &[BoundAssignment],
@@ -243,7 +243,7 @@ fn updated_row<N: Names, S: Store>(
 }
 
 /// The removal of the rows under these numbers.
-pub(crate) fn removed(alloc: Global, numbers: &[u64]) -> Result<Vec<Change>, Fault>
+pub(crate) fn remove_rows(alloc: Global, numbers: &[u64]) -> Result<Vec<Change>, Fault>
     ensures removals { IfOk result (λ changes. changes.items ≡ map Change.Remove numbers.now) }
     ensures memory { IfErr result (λ f. f ≡ Fault.NoMemory) }
 {

@@ -29,7 +29,7 @@ fn holds(comparison: Comparison, order: Ordering) -> bool
 }
 
 /// Unknown where a value is null.
-pub(crate) fn compared(comparison: Comparison, left: &Value, right: &Value) -> Truth
+pub(crate) fn compare_values(comparison: Comparison, left: &Value, right: &Value) -> Truth
     ensures { result ≡ meaning.comparison comparison left.now right.now }
 {
     match left.cmp3(right) {
@@ -114,7 +114,7 @@ fn compared_with_row(comparison: Comparison, left: &Value, row: &Row) -> Truth
     ensures { result ≡ meaning.comparison comparison left.now (meaning.first_value row.now) }
 {
     match row.as_slice() {
-        [value, ..] => compared(comparison, left, value),
+        [value, ..] => compare_values(comparison, left, value),
         [] => Truth::Unknown,
     }
 }

@@ -10,7 +10,7 @@ ghost use Rattle.sq_expression.specs.Fault.{Meets};
 ghost use Rattle.sq_expression.specs.Frame.{on_line, truth_in};
 ghost use Rattle.sq_condition.specs.Predicate.{with_not};
 
-use crate::comparison::compared;
+use crate::comparison::compare_values;
 use sq_bound::BoundExpr;
 use sq_expression::{Context, Fault, Frame, standing_value, value};
 use sq_tree::Comparison;
@@ -66,10 +66,10 @@ fn comparison_with(
         (compare comparison (literal left.now) (on_line frame.now right.now))) }
 {
     match standing_value(right, frame, context) {
-        Some(right) => Ok(compared(comparison, left, right)),
+        Some(right) => Ok(compare_values(comparison, left, right)),
         None => {
             let right = value(right, frame, context)?;
-            Ok(compared(comparison, left, right.get()))
+            Ok(compare_values(comparison, left, right.get()))
         }
     }
 }

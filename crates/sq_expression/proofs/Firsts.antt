@@ -59,6 +59,7 @@ values_more = firsts_more is_same same_equiv
 pub found_alone : (v : Value) (vs : List Value) → list_any (same_row (alone v)) (map alone vs) ≡ list_any (is_same v) vs
 found_alone v [] = refl
 found_alone v (w ∷ vs) = (λ i. and_true (is_same v w) i || found_alone v vs i)
+
 pub alone_more : (vs : List Value) (v : Value) → insert_key same_row (map alone vs) (alone v) ≡ map alone (insert_key is_same vs v)
 alone_more vs v = ap (λ b. if b then map alone vs else map alone vs ++ alone v ∷ []) (found_alone v vs) ∙ split (list_any (is_same v) vs)
   where

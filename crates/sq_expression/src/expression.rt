@@ -197,11 +197,11 @@ fn is_below_zero(value: &Value) -> bool
 fn user_value<'a>(context: &Context<'_>) -> Result<Evaluated<'a>, Fault>
     ensures { Meets result (Ok (meaning.user_value context.now.user)) }
 {
-    let codes = padded(context.user);
+    let codes = pad_name(context.user);
     Ok(Evaluated::made(Value::Chars(Text::new(context.alloc, &codes)?)))
 }
 
-fn padded(name: Name) -> [u8; 18]
+fn pad_name(name: Name) -> [u8; 18]
     ensures value { result ≡ of_length 18 name }
     ensures text { IsText result }
 {

@@ -21,7 +21,7 @@ use std::alloc::Global;
 
 /// The groups of a grouped query by its grouping columns, each with its first line and the values of its set functions.
 /// Without grouping columns there is one, also of no lines.
-pub fn grouped<'a>(
+pub fn group_lines<'a>(
     columns: &[Place],
     calls: &[SetFunctionCall],
     lines: &'a Lines<'a>,

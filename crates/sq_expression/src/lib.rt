@@ -28,7 +28,7 @@ pub use evaluated::Evaluated;
 pub use expression::{owned_value, standing_value, value};
 pub use fault::{Failure, Fault};
 pub use frame::{Frame, Group, Lines, line_frame, value_at, value_in_line};
-pub use group::{add_group_if, grouped};
+pub use group::{add_group_if, group_lines};
 pub use index::Index;
 pub use select::{distinct_rows, shown_groups, shown_lines};
 pub use set_function::key_of;

@@ -35,7 +35,7 @@ pub fn shown_lines<'a>(
 {
     let lent = lines.lend(context.alloc)?;
     let rows = rows_of_lines(list, lent.as_slice(), outer, context);
-    left(is_distinct, context.alloc, rows)
+    take_distinct(is_distinct, context.alloc, rows)
 }
 
 #[tactic(auto, using(crate::proofs::Each::each_ends))]
@@ -82,7 +82,7 @@ pub fn shown_groups(
         (λ rows. Ok (rows_left is_distinct rows))) }
 {
     let rows = rows_of_groups(list, groups, outer, context);
-    left(is_distinct, context.alloc, rows)
+    take_distinct(is_distinct, context.alloc, rows)
 }
 
 #[tactic(auto, using(crate::proofs::Each::each_ends))]
@@ -114,7 +114,11 @@ fn row_of_group(
 }
 
 /// The rows that DISTINCT leaves, or their fault.
-fn left(is_distinct: bool, alloc: Global, rows: Result<Vec<Row>, Fault>) -> Result<Vec<Row>, Fault>
+fn take_distinct(
+    is_distinct: bool,
+    alloc: Global,
+    rows: Result<Vec<Row>, Fault>,
+) -> Result<Vec<Row>, Fault>
     ensures { (o : Outcome (List (List AnyValue))) → HasRows rows o
         → HasRows result (and_then o (λ found. Ok (rows_left is_distinct found))) }
 {

@@ -118,7 +118,7 @@ fn rows_meeting<'a, N: Names, S: Store>(
         bases: tables.bases.as_slice(),
         views: tables.views.as_slice(),
     };
-    chosen(levels, rows, &context)
+    choose_rows(levels, rows, &context)
 }
 
 /// The tables that the conditions read.
@@ -141,7 +141,7 @@ fn needed_tables(alloc: Global, conditions: &[&BoundCond]) -> Result<Needed, All
 }
 
 /// The rows for which each condition in turn is true, over all rows.
-fn chosen<'a>(
+fn choose_rows<'a>(
     levels: &[&BoundCond],
     rows: Result<Vec<(u64, &'a Row)>, Fault>,
     context: &Context<'_>,

@@ -39,7 +39,7 @@ pub(crate) fn query_rows<'a, N: Names, S: Store>(
     let mut before = None;
     for union in query.rest.as_slice() {
         match term_rows(names, &union.term, store, call, meter) {
-            Ok(others) => so_far = joined(before, union, so_far, others, call.alloc)?,
+            Ok(others) => so_far = join_rows(before, union, so_far, others, call.alloc)?,
             Err(fault) => return Err(fault),
         }
         before = Some(union);
@@ -68,7 +68,7 @@ fn term_rows<'a, N: Names, S: Store>(
 
 /// The rows of both sides, brought to their common kinds. Repeats that a UNION drops are still there: they are dropped once,
 /// behind the last one that drops them, and before rows are brought to other columns or kept with their repeats.
-fn joined(
+fn join_rows(
     before: Option<&BoundUnion>,
     union: &BoundUnion,
     left: Vec<Row>,
@@ -304,7 +304,7 @@ fn text_brought_to(column: ResultColumn, text: Text, alloc: Global) -> Result<Va
     ensures { Meets result (meaning.brought_to column.kind (Value.Chars text)) }
 {
     match column.kind {
-        Kind::Chars(length) => padded(text, length, alloc),
+        Kind::Chars(length) => pad_text(text, length, alloc),
         Kind::Vary(_) => Ok(Value::Chars(text)),
         Kind::Num(_) => Err(Fault::NOT_WELL_FORMED),
     }
@@ -320,7 +320,7 @@ fn at_scale(scale: u8, number: Decimal) -> Result<Value, Fault>
 }
 
 /// A text with blanks behind it, up to a length.
-fn padded(text: Text, length: u16, alloc: Global) -> Result<Value, Fault>
+fn pad_text(text: Text, length: u16, alloc: Global) -> Result<Value, Fault>
     requires { length ≤ 240 }
     ensures { Meets result (meaning.brought_to (Chars length) (Value.Chars text)) }
 {
@@ -328,14 +328,14 @@ fn padded(text: Text, length: u16, alloc: Global) -> Result<Value, Fault>
         Ok(Value::Chars(text))
     } else {
         let text = Value::Chars(text);
-        let padded = stored(store(alloc, &text, Domain::Char(length)));
+        let padded = take_stored(store(alloc, &text, Domain::Char(length)));
         drop(text);
         padded
     }
 }
 
 /// The value that was stored, or the status of its fault.
-fn stored(value: Result<Value, StoreFault>) -> Result<Value, Fault>
+fn take_stored(value: Result<Value, StoreFault>) -> Result<Value, Fault>
     ensures { (v : AnyValue) → IsStored value (Ok v) → Meets result (Ok v) }
 {
     match value {

@@ -56,7 +56,7 @@ pub(crate) fn call<S: Store>(
 {
     let procedure = &program.procedures[procedure];
     match &procedure.statement {
-        Ok(statement) => performed(
+        Ok(statement) => perform_statement(
             alloc, catalog, program, procedure, statement, values, machine, meter,
         ),
         Err(_) => Err(Fault::NOT_WELL_FORMED),
@@ -65,7 +65,7 @@ pub(crate) fn call<S: Store>(
 
 /// Performs a statement of a procedure.
 #[tactic(auto, using(crate::proofs::Ending::done_right))]
-fn performed<S: Store>(
+fn perform_statement<S: Store>(
     alloc: Global,
     catalog: &Catalog,
     program: &Program,

@@ -68,7 +68,7 @@ pub(crate) fn place_reached(
     requires orientation { MeansPlace values.now orientation }
     ensures { place_reached values.now orientation count place ≡ Ok result }
 {
-    bounded(count, place_wanted(orientation, values, count, place))
+    bound_place(count, place_wanted(orientation, values, count, place))
 }
 
 /// The place that a fetch orientation names, which may lie outside the rows.
@@ -94,7 +94,7 @@ fn place_wanted(orientation: FetchOrientation, values: &[Value], count: usize, p
 }
 
 /// The place, or the nearest place that there is.
-fn bounded(count: usize, wanted: i128) -> usize
+fn bound_place(count: usize, wanted: i128) -> usize
     requires { count < 2 ^ 63 }
     ensures { result ≡ bounded count wanted }
 {

@@ -51,7 +51,7 @@ pub(crate) fn open_closed<S: Store>(
     ensures read { OpenReads (over_at called.now.cursors.now number) meter.new }
 {
     let declared = &called.cursors[number];
-    match opened(called, &declared.cursor, store, meter) {
+    match make_open(called, &declared.cursor, store, meter) {
         Ok(cursor) => {
             cursors[number] = cursor;
             Ok(Done::successful(called.alloc))
@@ -61,7 +61,7 @@ pub(crate) fn open_closed<S: Store>(
 }
 
 /// An open cursor, before its first row.
-fn opened<S: Store>(
+fn make_open<S: Store>(
     called: &Called<'_>,
     cursor: &BoundCursor,
     store: &S,

@@ -51,7 +51,7 @@ pub(crate) fn row_retrieved(
     ensures right { IfSome (ending result) EndsRight }
 {
     match assignments_of(called, targets, row) {
-        Ok(assignments) => Ok(done(called, assignments)?),
+        Ok(assignments) => Ok(make_done(called, assignments)?),
         Err(Fault::Status(failure)) => Ok(Done::without_outputs(called.alloc, failure.status())),
         Err(Fault::NoMemory) => Err(Fault::NoMemory),
     }
@@ -80,7 +80,7 @@ pub(crate) fn only_row_retrieved(
 }
 
 /// The targets and their indicators, in the order in which the parameters are declared.
-fn done(called: &Called<'_>, assignments: Assignments) -> Result<Done, AllocError>
+fn make_done(called: &Called<'_>, assignments: Assignments) -> Result<Done, AllocError>
     ensures { IfOk result (λ d. d ≡ set_reply called.now.procedure.now.parameters assignments) }
 {
     let Assignments { list, is_cut } = assignments;
@@ -209,7 +209,7 @@ impl Assignments {
             return Err(Fault::Status(Failure::NullWithoutIndicator));
         };
         self.add(target.parameter, Value::Null)?;
-        Ok(self.add(indicator, whole(-1))?)
+        Ok(self.add(indicator, make_whole(-1))?)
     }
 
     /// Sets a target to a value, and its indicator to the length of the text before it was cut, else to 0.
@@ -226,7 +226,7 @@ impl Assignments {
             self.is_cut = true;
         }
         match target.indicator {
-            Some(indicator) => self.add(indicator, whole(uncut.unwrap_or(0) as i64)),
+            Some(indicator) => self.add(indicator, make_whole(uncut.unwrap_or(0) as i64)),
             None => Ok(()),
         }
     }
@@ -244,7 +244,7 @@ impl Assignments {
 }
 
 /// The value of a whole number.
-fn whole(number: i64) -> Value
+fn make_whole(number: i64) -> Value
     requires { unsigned_abs number < 10 ^ 18 }
     ensures { result ≡ integer_value number }
 {

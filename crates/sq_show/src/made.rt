@@ -15,7 +15,7 @@ ghost use Rattle.sq_show.specs.Made.{Insertions, IsMade};
 
 use sq_bound::{BoundInsert, BoundStatement, BoundUpdate, ChangeTarget, PositionedTarget};
 use sq_catalog::Catalog;
-use sq_change::{Changed, Setting, deleted, inserted, updated};
+use sq_change::{Changed, Setting, find_deleted, find_inserted, find_updated};
 use sq_expression::Fault;
 use sq_session::{Called, CursorState, Inside, number_on};
 use sq_store::{Change, Meter, Store};
@@ -76,7 +76,7 @@ fn insertions<S: Store>(
         (seen_by setting.now.names.now.views (S.content_now setting.now.store.now) setting.now.user
         setting.now.parameters.now) (S.row_numbers setting.now.store.now) insert.now changes.items)) }
 {
-    match inserted(setting, insert, &mut Meter::new()) {
+    match find_inserted(setting, insert, &mut Meter::new()) {
         Ok(Changed { changes, lost_keys }) => {
             drop(lost_keys);
             Ok(Some(changes))
@@ -101,7 +101,7 @@ fn replacements<S: Store>(
         (seen_by setting.now.names.now.views (S.content_now setting.now.store.now) setting.now.user
         setting.now.parameters.now) update.now on changes.items)) }
 {
-    match updated(setting, update, on, &mut Meter::new()) {
+    match find_updated(setting, update, on, &mut Meter::new()) {
         Ok(Changed { changes, lost_keys }) => {
             drop(lost_keys);
             Ok(Some(changes))
@@ -126,7 +126,7 @@ fn removals<S: Store>(
         (seen_by setting.now.names.now.views (S.content_now setting.now.store.now) setting.now.user
         setting.now.parameters.now) target.now on changes.items)) }
 {
-    match deleted(setting, target, on, &mut Meter::new()) {
+    match find_deleted(setting, target, on, &mut Meter::new()) {
         Ok(Changed { changes, lost_keys }) => {
             drop(lost_keys);
             Ok(Some(changes))

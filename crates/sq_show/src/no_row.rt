@@ -15,7 +15,7 @@ use crate::cause::NoRowCause;
 use crate::query_rows::rows_of_query;
 use sq_bound::{BoundInsert, BoundStatement, ChangeTarget, InsertedRows};
 use sq_catalog::Catalog;
-use sq_change::{Changed, Setting, inserted, rows_changed};
+use sq_change::{Changed, Setting, find_inserted, rows_changed};
 use sq_expression::{Failure, Fault};
 use sq_session::{Called, CursorState, Inside, row_at};
 use sq_store::{Meter, Store};
@@ -203,7 +203,7 @@ fn unnumbered<S: Store>(
         (seen_by setting.now.names.now.views (S.content_now setting.now.store.now) setting.now.user
         setting.now.parameters.now) (S.row_numbers setting.now.store.now) insert.now)) }
 {
-    match inserted(setting, insert, &mut Meter::new()) {
+    match find_inserted(setting, insert, &mut Meter::new()) {
         Ok(Changed { changes, lost_keys }) => {
             drop(lost_keys);
             drop(changes);

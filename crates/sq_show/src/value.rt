@@ -19,7 +19,7 @@ use crate::query_value::fault_in_rows;
 use crate::set_value::set_fault;
 use sq_bound::{BoundExpr, BoundInsert, BoundStatement, InsertedRows, ObjectColumn, fits_kind};
 use sq_catalog::Catalog;
-use sq_change::{Setting, assigned};
+use sq_change::{Setting, assign_value};
 use sq_expression::Fault;
 use sq_meaning::Status;
 use sq_session::{Called, Inside};
@@ -196,7 +196,7 @@ pub(crate) fn unfit_status(
     if !fits_kind(domain, value) {
         return Ok(None);
     }
-    match assigned(alloc, domain, value) {
+    match assign_value(alloc, domain, value) {
         Ok(stored) => {
             drop(stored);
             Ok(None)

@@ -24,7 +24,7 @@ returns c =
     let plain : Surroundings = record { names = none; parameters = []; scopes = []; functions_allowed = false } in
     let first : Counts = record { functions = 0; subqueries = 0 } in
     let bound = c.condition_over-condition.result in
-    c.checked.ensures (cond_bound (beside_columns t columns) (cond_of user c.args.cond.now))
+    c.check_condition.ensures (cond_bound (beside_columns t columns) (cond_of user c.args.cond.now))
     (subst (λ (item : FromItem). Finds cond_seen (cond_bound (of_lines (item ∷ []) plain) (cond_of user c.args.cond.now)) first bound) c.in-Ok.ensures
     (in_none (λ (u : Name) (s : Surroundings). Finds cond_seen (cond_bound (of_lines (item_of c.in-Ok.item ∷ []) s) (cond_of u c.args.cond.now)) first bound) none c.new-environment.result user []
     c.new-environment.ensures.scopes c.new-environment.ensures.parameters c.new-environment.ensures.user c.condition_over-condition.ensures))

@@ -26,5 +26,5 @@ returns c =
     let right = c.args.right.now in
     let e : length left ≡ length right = omega (arith, c.if-left-right.false) in
     let both = common_columns (map column_of left) (map column_of right) in
-    subst (λ found. Finds (map column_of) both c.args.before (Ok found)) (sym c.alone.ensures)
+    subst (λ found. Finds (map column_of) both c.args.before (Ok found)) (sym c.bring_nothing.ensures)
     (found_alone (map column_of) both (in_turn column_in_common (map sides_seen (zip left right))) c.args.before c.in_ok-columns.columns (common_is left right (counts_of c.args.before) e) c.in_ok-columns.ensures)

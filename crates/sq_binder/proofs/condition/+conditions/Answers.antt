@@ -150,15 +150,15 @@ pub body_value-returns-in-Exists : goal.body_value-returns-in-Exists
 body_value-returns-in-Exists g t c =
     let a = surroundings g.T.Tables.named c.args.at.now in
     let own = c.args.at.now.environment.now.user in
-    subst (λ x. Finds predicate_seen (cond_bound a x) c.args.before c.exists.result) (sym (ap (body_of own) c.in-Exists.is ∙ body_of-Exists own c.in-Exists.query))
-    (c.exists.ensures (select_bound a (select_of own c.in-Exists.query)) c.args.before (subst (λ q. Finds select_seen (select_bound a (select_of own q)) c.args.before c.subquery_value.result) c.get.ensures c.subquery_value.ensures))
+    subst (λ x. Finds predicate_seen (cond_bound a x) c.args.before c.bind_exists.result) (sym (ap (body_of own) c.in-Exists.is ∙ body_of-Exists own c.in-Exists.query))
+    (c.bind_exists.ensures (select_bound a (select_of own c.in-Exists.query)) c.args.before (subst (λ q. Finds select_seen (select_bound a (select_of own q)) c.args.before c.subquery_value.result) c.get.ensures c.subquery_value.ensures))
 
 pub body_value-returns-in-Bracketed : goal.body_value-returns-in-Bracketed
 body_value-returns-in-Bracketed g t c =
     let a = surroundings g.T.Tables.named c.args.at.now in
     let own = c.args.at.now.environment.now.user in
-    subst (λ x. Finds predicate_seen (cond_bound a x) c.args.before c.bracketed.result) (sym (ap (body_of own) c.in-Bracketed.is ∙ body_of-Bracketed own c.in-Bracketed.cond))
-    (c.bracketed.ensures (cond_bound a (cond_of own c.in-Bracketed.cond)) c.args.before (subst (λ x. Finds cond_seen (cond_bound a (cond_of own x)) c.args.before c.bind_cond.result) c.get-in-Bracketed.ensures c.bind_cond.ensures))
+    subst (λ x. Finds predicate_seen (cond_bound a x) c.args.before c.bracket_condition.result) (sym (ap (body_of own) c.in-Bracketed.is ∙ body_of-Bracketed own c.in-Bracketed.cond))
+    (c.bracket_condition.ensures (cond_bound a (cond_of own c.in-Bracketed.cond)) c.args.before (subst (λ x. Finds cond_seen (cond_bound a (cond_of own x)) c.args.before c.bind_cond.result) c.get-in-Bracketed.ensures c.bind_cond.ensures))
 
 -- ---- predicates
 
@@ -168,7 +168,7 @@ tail_value-returns-in-Compare g t c =
     let own = c.args.at.now.environment.now.user in
     let e = expr_of c.args.left.now in
     let arm = c.in-Compare in
-    subst (λ x. Finds predicate_seen (cond_bound a x) c.args.before c.compared.result) (sym (ap (λ t. tail_of own t e) arm.is ∙ tail_of-Compare own arm.comparison arm.right e)) c.compared.ensures
+    subst (λ x. Finds predicate_seen (cond_bound a x) c.args.before c.bind_comparison.result) (sym (ap (λ t. tail_of own t e) arm.is ∙ tail_of-Compare own arm.comparison arm.right e)) c.bind_comparison.ensures
 
 pub tail_value-returns-in-Between : goal.tail_value-returns-in-Between
 tail_value-returns-in-Between g t c =
@@ -176,8 +176,8 @@ tail_value-returns-in-Between g t c =
     let own = c.args.at.now.environment.now.user in
     let e = expr_of c.args.left.now in
     let arm = c.in-Between in
-    subst (λ x. Finds predicate_seen (cond_bound a x) c.args.before c.between.result) (sym (ap (λ t. tail_of own t e) arm.is ∙ tail_of-Between own arm.negated arm.low arm.high e))
-    (subst (λ high. Finds predicate_seen (cond_bound a (spelled.not_if arm.negated (between e (expr_of arm.low) (expr_of high)))) c.args.before c.between.result) c.get-in-Between.ensures c.between.ensures)
+    subst (λ x. Finds predicate_seen (cond_bound a x) c.args.before c.bind_between.result) (sym (ap (λ t. tail_of own t e) arm.is ∙ tail_of-Between own arm.negated arm.low arm.high e))
+    (subst (λ high. Finds predicate_seen (cond_bound a (spelled.not_if arm.negated (between e (expr_of arm.low) (expr_of high)))) c.args.before c.bind_between.result) c.get-in-Between.ensures c.bind_between.ensures)
 
 pub tail_value-returns-in-InList : goal.tail_value-returns-in-InList
 tail_value-returns-in-InList g t c =
@@ -185,7 +185,7 @@ tail_value-returns-in-InList g t c =
     let own = c.args.at.now.environment.now.user in
     let e = expr_of c.args.left.now in
     let arm = c.in-InList in
-    subst (λ x. Finds predicate_seen (cond_bound a x) c.args.before c.in_list.result) (sym (ap (λ t. tail_of own t e) arm.is ∙ tail_of-InList own arm.negated arm.list e)) c.in_list.ensures
+    subst (λ x. Finds predicate_seen (cond_bound a x) c.args.before c.bind_in_list.result) (sym (ap (λ t. tail_of own t e) arm.is ∙ tail_of-InList own arm.negated arm.list e)) c.bind_in_list.ensures
 
 pub tail_value-returns-in-Like : goal.tail_value-returns-in-Like
 tail_value-returns-in-Like g t c =
@@ -193,7 +193,7 @@ tail_value-returns-in-Like g t c =
     let own = c.args.at.now.environment.now.user in
     let e = expr_of c.args.left.now in
     let arm = c.in-Like in
-    subst (λ x. Finds predicate_seen (cond_bound a x) c.args.before c.like.result) (sym (ap (λ t. tail_of own t e) arm.is ∙ tail_of-Like own arm.negated arm.pattern arm.escape e)) c.like.ensures
+    subst (λ x. Finds predicate_seen (cond_bound a x) c.args.before c.bind_like.result) (sym (ap (λ t. tail_of own t e) arm.is ∙ tail_of-Like own arm.negated arm.pattern arm.escape e)) c.bind_like.ensures
 
 pub tail_value-returns-in-Null : goal.tail_value-returns-in-Null
 tail_value-returns-in-Null g t c =
@@ -201,7 +201,7 @@ tail_value-returns-in-Null g t c =
     let own = c.args.at.now.environment.now.user in
     let e = expr_of c.args.left.now in
     let arm = c.in-Null in
-    subst (λ x. Finds predicate_seen (cond_bound a x) c.args.before c.null_test.result) (sym (ap (λ t. tail_of own t e) arm.is ∙ tail_of-Null own arm.negated e)) c.null_test.ensures
+    subst (λ x. Finds predicate_seen (cond_bound a x) c.args.before c.bind_null_test.result) (sym (ap (λ t. tail_of own t e) arm.is ∙ tail_of-Null own arm.negated e)) c.bind_null_test.ensures
 
 pub tail_value-returns-in_err-left-in-CompareQuery : goal.tail_value-returns-in_err-left-in-CompareQuery
 tail_value-returns-in_err-left-in-CompareQuery g t c =
@@ -223,9 +223,9 @@ tail_value-returns-in_ok-left-in-CompareQuery g t c =
     let e = expr_of c.args.left.now in
     let arm = c.in-CompareQuery in
     let left = c.in_ok-left-in-CompareQuery.left in
-    subst (λ b. Finds predicate_seen b c.args.before c.compared_query.result)
+    subst (λ b. Finds predicate_seen b c.args.before c.bind_compared_query.result)
     (sym (ap (cond_bound a) (ap (λ t. tail_of own t e) arm.is ∙ tail_of-CompareQuery own arm.comparison arm.quantifier arm.query e) ∙ compared_is a arm.comparison arm.quantifier e (select_of own arm.query)))
-    (c.compared_query.ensures (value a e) (select_bound a (select_of own arm.query)) c.args.before c.in_ok-left-in-CompareQuery.ensures
+    (c.bind_compared_query.ensures (value a e) (select_bound a (select_of own arm.query)) c.args.before c.in_ok-left-in-CompareQuery.ensures
     (subst (λ q. Finds select_seen (select_bound a (select_of own q)) left.brought.next c.subquery_value-query.result) c.get.ensures c.subquery_value-query.ensures))
 
 pub tail_value-returns-in_err-left-in-InQuery : goal.tail_value-returns-in_err-left-in-InQuery
@@ -248,9 +248,9 @@ tail_value-returns-in_ok-left-in-InQuery g t c =
     let e = expr_of c.args.left.now in
     let arm = c.in-InQuery in
     let left = c.in_ok-left-in-InQuery.left in
-    subst (λ b. Finds predicate_seen b c.args.before c.in_query.result)
+    subst (λ b. Finds predicate_seen b c.args.before c.bind_in_query.result)
     (sym (ap (cond_bound a) (ap (λ t. tail_of own t e) arm.is ∙ tail_of-InQuery own arm.negated arm.query e) ∙ among_is a arm.negated e (select_of own arm.query)))
-    (c.in_query.ensures (value a e) (select_bound a (select_of own arm.query)) c.args.before c.in_ok-left-in-InQuery.ensures
+    (c.bind_in_query.ensures (value a e) (select_bound a (select_of own arm.query)) c.args.before c.in_ok-left-in-InQuery.ensures
     (subst (λ q. Finds select_seen (select_bound a (select_of own q)) left.brought.next c.subquery_value-query-in-InQuery.result) c.get-in-InQuery.ensures c.subquery_value-query-in-InQuery.ensures))
 
 -- ---- clauses
@@ -259,8 +259,8 @@ pub clause_value-returns-in-Some : goal.clause_value-returns-in-Some
 clause_value-returns-in-Some g t c =
     let a = surroundings g.T.Tables.named c.args.at.now in
     let own = c.args.at.now.environment.now.user in
-    subst (λ cond. Finds clause_seen (clause_bound a (clause (option_map (cond_of own) cond))) c.args.before c.present.result) (sym c.in-Some.is)
-    (c.present.ensures (cond_bound a (cond_of own c.in-Some.cond)) c.args.before c.bind_cond.ensures)
+    subst (λ cond. Finds clause_seen (clause_bound a (clause (option_map (cond_of own) cond))) c.args.before c.make_present.result) (sym c.in-Some.is)
+    (c.make_present.ensures (cond_bound a (cond_of own c.in-Some.cond)) c.args.before c.bind_cond.ensures)
 
 pub where_value-returns : goal.where_value-returns
 where_value-returns g t c =
@@ -268,7 +268,7 @@ where_value-returns g t c =
     let own = c.args.at.now.environment.now.user in
     let inner = c.within-environment.result in
     let cond = c.args.cond.now in
-    c.counted.ensures (clause_bound (of_lines (map item_of c.args.items.now) a) (clause (option_map (cond_of own) cond)))
+    c.count_functions.ensures (clause_bound (of_lines (map item_of c.args.items.now) a) (clause (option_map (cond_of own) cond)))
     (inside_lines (λ s u. Finds clause_seen (clause_bound s (clause (option_map (cond_of u) cond))) (first c.args.before) c.clause_value-filter.result) a inner own c.args.items.now
     c.within-environment.ensures.parameters c.within-environment.ensures.user (c.within-environment.ensures.scopes ∙ c.scope_over.ensures)
     (subst (λ n. Finds clause_seen (clause_bound (at a.names inner false) (clause (option_map (cond_of inner.user) cond))) n c.clause_value-filter.result) c.first.ensures c.clause_value-filter.ensures))
@@ -295,10 +295,10 @@ shown_value-returns g t c =
     let items = map item_of c.args.items.now in
     let list = list_of c.args.list.now in
     let having = c.args.having.now in
-    inside_groups (λ s u. Finds shown_seen (shown_bound s items list (clause (option_map (cond_of u) having))) c.args.before c.paired.result) a inner own c.args.items.now
+    inside_groups (λ s u. Finds shown_seen (shown_bound s items list (clause (option_map (cond_of u) having))) c.args.before c.pair_parts.result) a inner own c.args.items.now
     c.within-environment.ensures.parameters c.within-environment.ensures.user c.args.columns (c.within-environment.ensures.scopes ∙ c.scope_over.ensures)
     (pairs_found list_seen clause_seen (list_split (at a.names inner true) items list) (λ shown. clause_bound (at a.names inner true) (clause (option_map (cond_of inner.user) having))) c.args.before
-    c.in_ok-shown.shown c.clause_value-having.result c.paired.result c.in_ok-shown.ensures c.clause_value-having.ensures c.paired.ensures)
+    c.in_ok-shown.shown c.clause_value-having.result c.pair_parts.result c.in_ok-shown.ensures c.clause_value-having.ensures c.pair_parts.ensures)
 
 pub groups_value-returns : goal.groups_value-returns
 groups_value-returns g t c =
@@ -309,8 +309,8 @@ groups_value-returns g t c =
     let having = clause (option_map (cond_of own) c.args.having.now) in
     let columns = c.in_ok-columns.columns in
     pairs_found (map place_meant) shown_seen (each (grouping_column (of_lines items a)) (listed_if_any c.args.by.now)) (λ columns. shown_bound (of_groups items columns a) items list having) c.args.before
-    columns c.shown_value-shown.result c.paired.result c.in_ok-columns.ensures
-    (subst (λ places. Finds shown_seen (shown_bound (of_groups items (map place_meant places) a) items list having) columns.brought.next c.shown_value-shown.result) c.as_slice.ensures c.shown_value-shown.ensures) c.paired.ensures
+    columns c.shown_value-shown.result c.pair_parts.result c.in_ok-columns.ensures
+    (subst (λ places. Finds shown_seen (shown_bound (of_groups items (map place_meant places) a) items list having) columns.brought.next c.shown_value-shown.result) c.as_slice.ensures c.shown_value-shown.ensures) c.pair_parts.ensures
 
 pub clauses_value-returns : goal.clauses_value-returns
 clauses_value-returns g t c =
@@ -321,7 +321,7 @@ clauses_value-returns g t c =
     let filter = clause (option_map (cond_of own) table.where_clause) in
     let having = clause (option_map (cond_of own) table.having) in
     pairs_found clause_seen groups_seen (from_first (clause_bound (of_lines items a) filter)) (λ kept. groups_bound a items (listed_if_any table.group_by) (list_of c.args.list.now) having) c.args.before
-    c.in_ok-filter.filter c.groups_value-groups.result c.paired.result c.in_ok-filter.ensures c.groups_value-groups.ensures c.paired.ensures
+    c.in_ok-filter.filter c.groups_value-groups.result c.pair_parts.result c.in_ok-filter.ensures c.groups_value-groups.ensures c.pair_parts.ensures
 
 -- ---- query specifications
 
@@ -360,11 +360,11 @@ bind_select-returns g t c =
     let behind = λ (f : List TablePlace × List FromItem). clauses_bound a f.1 filter by list having in
     let b = pairs (from_split a.names from) behind in
     let found = c.in_ok-from.from in
-    let parts : Finds parts_seen b (first c.args.before) c.paired-parts.result =
-    pairs_found clause_of clauses_seen (from_split a.names from) behind (first c.args.before) found c.clauses_value-clauses.result c.paired-parts.result
+    let parts : Finds parts_seen b (first c.args.before) c.pair_parts-parts.result =
+    pairs_found clause_of clauses_seen (from_split a.names from) behind (first c.args.before) found c.clauses_value-clauses.result c.pair_parts-parts.result
     (subst (λ n. Finds clause_of (from_split a.names from) n (Ok found)) c.first.ensures c.in_ok-from.ensures)
     (subst (λ items. Finds clauses_seen (clauses_bound a (map item_of items) filter by list having) found.brought.next c.clauses_value-clauses.result) c.as_slice-items.ensures c.clauses_value-clauses.ensures)
-    c.paired-parts.ensures in
+    c.pair_parts-parts.ensures in
     finds_as select_seen (select_bound a (select_of_parts own c.args.quantifier c.args.list.now c.args.table.now)) (specification_of (is_star list) distinct b) c.args.before c.specification.result
     (ap (λ q. select_bound a q counts) (parts_of own c.args.quantifier c.args.list.now c.args.table.now) ∙ select_is a distinct list from filter by having counts)
     (subst (λ (z : Bool × Bool). Finds select_seen (specification_of z.0 z.1 b) c.args.before c.specification.result) (λ i. (c.is_star.ensures i, c.is_distinct.ensures i)) (c.specification.ensures b parts))

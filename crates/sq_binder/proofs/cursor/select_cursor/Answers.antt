@@ -30,7 +30,7 @@ returns-in-Ok-clause-binds g c =
     let s = select_seen c.in_ok-part.part in
     let y = found_of (option_map updatable_seen) c.in-Ok.over in
     then_binds cursor_seen (permitted x) (λ (s : NumberedSelect). and_then (updatable_bound names a q s (behind x)) (λ y. Ok (cursor_over cursor s y.part))) s c.cursor_over.result
-    (permitted_is select_seen c.args.found c.in_ok-part.part (sym c.permitted.ensures ∙ c.in_ok-part.was))
+    (permitted_is select_seen c.args.found c.in_ok-part.part (sym c.take_permitted.ensures ∙ c.in_ok-part.was))
     (then_binds cursor_seen (updatable_bound names a q s (behind x)) (λ y. Ok (cursor_over cursor s y.part)) y c.cursor_over.result
     (subst (λ (n : Counts). updatable_bound names a q s (counts_of n) ≡ Ok y) c.first-behind.ensures c.in-Ok.ensures.finds.0) c.cursor_over.ensures.binds)
 
@@ -43,7 +43,7 @@ returns-in-Err-clause-binds g c =
     let x = found_of select_seen c.args.found in
     let s = select_seen c.in_ok-part.part in
     subst (λ (o : Outcome NumberedSelect). Stops (and_then o (λ (s : NumberedSelect). and_then (updatable_bound names a q s (behind x)) (λ y. Ok (cursor_over cursor s y.part)))) c.in-Err.stop)
-    (sym (permitted_is select_seen c.args.found c.in_ok-part.part (sym c.permitted.ensures ∙ c.in_ok-part.was)))
+    (sym (permitted_is select_seen c.args.found c.in_ok-part.part (sym c.take_permitted.ensures ∙ c.in_ok-part.was)))
     (stops_here (updatable_bound names a q s (behind x)) (λ y. Ok (cursor_over cursor s y.part)) c.in-Err.stop
     (subst (λ (n : Counts). Stops (updatable_bound names a q s (counts_of n)) c.in-Err.stop) c.first-behind.ensures c.in-Err.ensures.finds))
 

@@ -25,5 +25,5 @@ returns-clause-finds g c =
     let a = surroundings g.T.Tables.named c.args.at.now in
     let cursors = g.C.Cursors.named c.args.cursors.now in
     let t = changed_of c.args.table.now in
-    delete_found names a cursors t c.args.before c.args.delete.now c.in_ok-part.field-0 c.requiring.result c.holds-may_select.result c.holds-may_delete.result c.holds-may_select.ensures c.holds-may_delete.ensures
-    c.in_ok-part.ensures.finds (c.requiring.ensures.0 ∙ ap (requiring c.holds-may_delete.result) c.reading.ensures.0) (c.requiring.ensures.1 ∙ c.reading.ensures.1)
+    delete_found names a cursors t c.args.before c.args.delete.now c.in_ok-part.field-0 c.require_privilege.result c.holds-may_select.result c.holds-may_delete.result c.holds-may_select.ensures c.holds-may_delete.ensures
+    c.in_ok-part.ensures.finds (c.require_privilege.ensures.0 ∙ ap (requiring c.holds-may_delete.result) c.require_select_if_read.ensures.0) (c.require_privilege.ensures.1 ∙ c.require_select_if_read.ensures.1)

@@ -38,8 +38,8 @@ expr_value-returns t c =
 
 pub with_term-returns-in-Ok : goal.with_term-returns-in-Ok
 with_term-returns-in-Ok t c =
-    term_behind c.args.at.now c.args.before (bound_of c.args.left) c.in-Some.number c.in-Some.ensures c.args.added.now c.sum_operator.result (bound_of c.in-Ok.right) c.operated.result
-    c.sum_operator.ensures c.in-Ok.ensures c.operated.ensures
+    term_behind c.args.at.now c.args.before (bound_of c.args.left) c.in-Some.number c.in-Some.ensures c.args.added.now c.sum_operator.result (bound_of c.in-Ok.right) c.apply_operator.result
+    c.sum_operator.ensures c.in-Ok.ensures c.apply_operator.ensures
 
 pub with_term-returns-in-Err : goal.with_term-returns-in-Err
 with_term-returns-in-Err t c = term_stops c.args.at.now c.args.before (bound_of c.args.left) c.in-Some.number c.in-Some.ensures c.args.added.now c.in-Err.stop c.in-Err.ensures
@@ -72,8 +72,8 @@ term_value-returns t c =
 
 pub with_factor-returns-in-Ok : goal.with_factor-returns-in-Ok
 with_factor-returns-in-Ok t c =
-    factor_behind c.args.at.now c.args.before (bound_of c.args.left) c.in-Some.number c.in-Some.ensures c.args.scaled.now c.product_operator.result (bound_of c.in-Ok.right) c.operated.result
-    c.product_operator.ensures c.in-Ok.ensures c.operated.ensures
+    factor_behind c.args.at.now c.args.before (bound_of c.args.left) c.in-Some.number c.in-Some.ensures c.args.scaled.now c.product_operator.result (bound_of c.in-Ok.right) c.apply_operator.result
+    c.product_operator.ensures c.in-Ok.ensures c.apply_operator.ensures
 
 pub with_factor-returns-in-Err : goal.with_factor-returns-in-Err
 with_factor-returns-in-Err t c = factor_stops c.args.at.now c.args.before (bound_of c.args.left) c.in-Some.number c.in-Some.ensures c.args.scaled.now c.in-Err.stop c.in-Err.ensures
@@ -89,7 +89,7 @@ pub factor_value-returns-in-None : goal.factor_value-returns-in-None
 factor_value-returns-in-None t c = unsigned_is c.args.at.now c.args.before c.args.factor.now (bound_of c.in_ok-operand.operand) c.in-None.is c.in_ok-operand.ensures
 
 pub factor_value-returns-in-Some : goal.factor_value-returns-in-Some
-factor_value-returns-in-Some t c = signed_is c.args.at.now c.args.before c.args.factor.now c.in-Some.sign (bound_of c.in_ok-operand.operand) c.signed.result c.in-Some.is c.in_ok-operand.ensures c.signed.ensures
+factor_value-returns-in-Some t c = signed_is c.args.at.now c.args.before c.args.factor.now c.in-Some.sign (bound_of c.in_ok-operand.operand) c.sign_operand.result c.in-Some.is c.in_ok-operand.ensures c.sign_operand.ensures
 
 -- ---- primaries
 

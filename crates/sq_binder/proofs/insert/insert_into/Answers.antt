@@ -35,21 +35,21 @@ returns-clause-finds g c =
     let table = c.args.table.now in
     let receivers = c.in_ok-receivers.receivers in
     let source = c.bind_source-source.result in
-    let both = c.paired-parts.result in
-    insert_found names a i table c.args.before c.holds-may_insert.result c.holds-may_insert.ensures both c.inserted.result
+    let both = c.pair_parts-parts.result in
+    insert_found names a i table c.args.before c.holds-may_insert.result c.holds-may_insert.ensures both c.make_insert.result
     (pairs_found (map receiver_seen) source_seen (receivers_bound (changed_of table) i.columns) (λ rs. source_bound names a rs i.source) c.args.before receivers source both c.in_ok-receivers.ensures
-    (subst (λ rs. Finds source_seen (source_bound names a (map receiver_seen rs) i.source) receivers.brought.next source) c.as_slice.ensures c.bind_source-source.ensures.finds) c.paired-parts.ensures)
-    c.inserted.ensures
+    (subst (λ rs. Finds source_seen (source_bound names a (map receiver_seen rs) i.source) receivers.brought.next source) c.as_slice.ensures c.bind_source-source.ensures.finds) c.pair_parts-parts.ensures)
+    c.make_insert.ensures
 
-pub inserted-requires : goal.inserted-requires
-inserted-requires g c =
+pub make_insert-requires : goal.make_insert-requires
+make_insert-requires g c =
     let table = c.args.table.now in
     let columns = length table.under.leaf.now.table.columns in
     let receivers = c.in_ok-receivers.receivers in
-    first_holds (λ (rs : List Receiver). AreWithin columns (map receiver_seen rs)) receivers c.bind_source-source.result c.paired-parts.result c.paired-parts.ensures
+    first_holds (λ (rs : List Receiver). AreWithin columns (map receiver_seen rs)) receivers c.bind_source-source.result c.pair_parts-parts.result c.pair_parts-parts.ensures
     (receivers_hold (λ (r : change.Receiver). r.column < columns) (changed_of table) (table_within table) c.args.insert.now.columns (counts_of c.args.before) (found_of (map receiver_seen) receivers) c.in_ok-receivers.ensures.0)
 
 pub returns-clause-over : goal.returns-clause-over
 returns-clause-over g c =
-    insert_is_over c.args.table.now c.holds-may_insert.result c.paired-parts.result c.inserted.result c.inserted.ensures
-    (second_holds SourceIsPlain c.in_ok-receivers.receivers c.bind_source-source.result c.paired-parts.result c.paired-parts.ensures c.bind_source-source.ensures.plain)
+    insert_is_over c.args.table.now c.holds-may_insert.result c.pair_parts-parts.result c.make_insert.result c.make_insert.ensures
+    (second_holds SourceIsPlain c.in_ok-receivers.receivers c.bind_source-source.result c.pair_parts-parts.result c.pair_parts-parts.ensures c.bind_source-source.ensures.plain)

@@ -13,16 +13,16 @@ use Rattle.sq_binder.proofs.new_value.bind_new_value.Goals as goal
 pub returns-in-Expr-clause-finds : goal.returns-in-Expr-clause-finds
 returns-in-Expr-clause-finds g c =
     let a = surroundings g.T.Tables.named c.args.at.now in
-    subst (λ b. Finds numbered_of b c.args.before c.agreeing.result) (sym (ap (new_value_bound a c.args.kind) c.in-Expr.is ∙ value_is a c.args.kind c.in-Expr.expr)) c.agreeing.ensures
+    subst (λ b. Finds numbered_of b c.args.before c.bind_agreeing.result) (sym (ap (new_value_bound a c.args.kind) c.in-Expr.is ∙ value_is a c.args.kind c.in-Expr.expr)) c.bind_agreeing.ensures
 
 pub returns-in-Null-clause-finds : goal.returns-in-Null-clause-finds
 returns-in-Null-clause-finds g c =
     let a = surroundings g.T.Tables.named c.args.at.now in
-    subst (λ v. Finds numbered_of (new_value_bound a c.args.kind v) c.args.before (Ok c.alone.result)) (sym c.in-Null.is)
-    (alone_seen numbered_of (Numbered.literal value.Null) c.alone.result c.args.before (ap (λ x. numbered_of x.part) c.alone.ensures ∙ numbered_of-Literal value.Null) (ap (λ x. x.brought) c.alone.ensures))
+    subst (λ v. Finds numbered_of (new_value_bound a c.args.kind v) c.args.before (Ok c.bring_nothing.result)) (sym c.in-Null.is)
+    (alone_seen numbered_of (Numbered.literal value.Null) c.bring_nothing.result c.args.before (ap (λ x. numbered_of x.part) c.bring_nothing.ensures ∙ numbered_of-Literal value.Null) (ap (λ x. x.brought) c.bring_nothing.ensures))
 
 pub returns-in-Expr-clause-plain : goal.returns-in-Expr-clause-plain
-returns-in-Expr-clause-plain g c = value_plain (surroundings g.T.Tables.named c.args.at.now) c.args.kind c.in-Expr.expr c.args.before c.agreeing.result c.agreeing.ensures
+returns-in-Expr-clause-plain g c = value_plain (surroundings g.T.Tables.named c.args.at.now) c.args.kind c.in-Expr.expr c.args.before c.bind_agreeing.result c.bind_agreeing.ensures
 
 pub returns-in-Null-clause-plain : goal.returns-in-Null-clause-plain
-returns-in-Null-clause-plain g c = λ null. ap (λ x. x.part) c.alone.ensures
+returns-in-Null-clause-plain g c = λ null. ap (λ x. x.part) c.bring_nothing.ensures

@@ -15,12 +15,12 @@ pub returns-clause-finds : goal.returns-clause-finds
 returns-clause-finds c = λ right before found.
     let left = map column_of c.args.left.now in
     let t = c.in_ok-term.term in
-    pairs_found term_seen (map column_of) right (λ y. common_columns left (columns_of_query y)) before t c.common_columns-columns.result c.paired.result
+    pairs_found term_seen (map column_of) right (λ y. common_columns left (columns_of_query y)) before t c.common_columns-columns.result c.pair_parts.result
     (subst (λ r. Finds term_seen right before r) c.in_ok-term.was found)
     (subst (λ (cs : List ResultColumn). Finds (map column_of) (common_columns left cs) t.brought.next c.common_columns-columns.result) c.columns_of.ensures c.common_columns-columns.ensures)
-    c.paired.ensures
+    c.pair_parts.ensures
 
 pub returns-clause-columns : goal.returns-clause-columns
 returns-clause-columns c =
-    first_holds TermHasColumns c.in_ok-term.term c.common_columns-columns.result c.paired.result c.paired.ensures
+    first_holds TermHasColumns c.in_ok-term.term c.common_columns-columns.result c.pair_parts.result c.pair_parts.ensures
     (IfOk-at_ok (λ (f : Found BoundTerm). TermHasColumns f.part) c.in_ok-term.was c.requires)

@@ -20,7 +20,7 @@ returns-in-Ok-clause-finds c = λ left right before l m.
     joins_found left right c.args.all before joined c.with_common-term.result c.in-Ok.sides c.joined_sides.result l
     (subst (λ (cs : List ResultColumn). Finds (both_of term_seen (map column_of)) (pairs right (λ y. common_columns cs (columns_of_query y))) joined.brought.next c.with_common-term.result)
     (ap (map column_of) c.as_slice.ensures ∙ query_itself joined.part c.requires.joined) (c.with_common-term.ensures.finds right joined.brought.next m))
-    (subst (λ r. Pairs joined c.with_common-term.result r) c.in-Ok.is c.paired.ensures) c.joined_sides.ensures
+    (subst (λ r. Pairs joined c.with_common-term.result r) c.in-Ok.is c.pair_parts.ensures) c.joined_sides.ensures
 
 pub returns-in-Err-clause-finds : goal.returns-in-Err-clause-finds
 returns-in-Err-clause-finds c = λ left right before l m.
@@ -28,14 +28,14 @@ returns-in-Err-clause-finds c = λ left right before l m.
     joins_stop left right c.args.all before joined c.with_common-term.result c.in-Err.stop l
     (subst (λ (cs : List ResultColumn). Finds (both_of term_seen (map column_of)) (pairs right (λ y. common_columns cs (columns_of_query y))) joined.brought.next c.with_common-term.result)
     (ap (map column_of) c.as_slice.ensures ∙ query_itself joined.part c.requires.joined) (c.with_common-term.ensures.finds right joined.brought.next m))
-    (subst (λ r. Pairs joined c.with_common-term.result r) c.in-Err.is c.paired.ensures)
+    (subst (λ r. Pairs joined c.with_common-term.result r) c.in-Err.is c.pair_parts.ensures)
 
 pub joined_sides-requires-clause-query : goal.joined_sides-requires-clause-query
 joined_sides-requires-clause-query c =
     IfOk-at_ok (λ (sides : Found (BoundQuery × (BoundTerm × List BoundColumn))). HaveTheirColumns sides.part.0) c.in-Ok.is
-    (first_holds HaveTheirColumns c.args.joined c.with_common-term.result c.paired.result c.paired.ensures c.requires.joined)
+    (first_holds HaveTheirColumns c.args.joined c.with_common-term.result c.pair_parts.result c.pair_parts.ensures c.requires.joined)
 
 pub joined_sides-requires-clause-term : goal.joined_sides-requires-clause-term
 joined_sides-requires-clause-term c =
     IfOk-at_ok (λ (sides : Found (BoundQuery × (BoundTerm × List BoundColumn))). TermHasColumns sides.part.1.0) c.in-Ok.is
-    (second_holds (λ (p : BoundTerm × List BoundColumn). TermHasColumns p.0) c.args.joined c.with_common-term.result c.paired.result c.paired.ensures c.with_common-term.ensures.columns)
+    (second_holds (λ (p : BoundTerm × List BoundColumn). TermHasColumns p.0) c.args.joined c.with_common-term.result c.pair_parts.result c.pair_parts.ensures c.with_common-term.ensures.columns)

@@ -22,5 +22,5 @@ returns-in-Some-clause-finds g c =
 
 pub returns-in-None-clause-leaf : goal.returns-in-None-clause-leaf
 returns-in-None-clause-leaf g c =
-    subst (λ (r : Result (Found ChangeTarget) Stop). IfOk r (λ found. under found.part ≡ c.args.table.now.under.leaf.now)) (sym c.searched.ensures)
+    subst (λ (r : Result (Found ChangeTarget) Stop). IfOk r (λ found. under found.part ≡ c.args.table.now.under.leaf.now)) (sym c.make_searched.ensures)
     (searched_under c.args.table.now.under.leaf.now c.bind_target.result c.bind_target.ensures.leaf)

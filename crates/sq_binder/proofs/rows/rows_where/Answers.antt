@@ -22,7 +22,7 @@ returns-in-CurrentOf-clause-finds g c =
     let names = names_at g.T.Tables.named g.T.ChangeableTables.changes c.args.at.now in
     let a = surroundings g.T.Tables.named c.args.at.now in
     let cursors = g.C.Cursors.named c.args.cursors.now in
-    subst (λ w. Finds change_seen (rows_bound names a cursors (changed_of c.args.table.now) (Some w)) c.args.before c.positioned.result) (sym c.in-CurrentOf.is) c.positioned.ensures.finds
+    subst (λ w. Finds change_seen (rows_bound names a cursors (changed_of c.args.table.now) (Some w)) c.args.before c.bind_positioned.result) (sym c.in-CurrentOf.is) c.bind_positioned.ensures.finds
 
 pub returns-in-Condition-clause-finds : goal.returns-in-Condition-clause-finds
 returns-in-Condition-clause-finds g c =
@@ -32,11 +32,11 @@ returns-in-Condition-clause-finds g c =
     let t = changed_of c.args.table.now in
     let cond = c.in-Condition.cond in
     let rows = rows_bound names a cursors t (Some (rows_where.Condition cond)) in
-    subst (λ w. Finds change_seen (rows_bound names a cursors t (Some w)) c.args.before c.searched.result) (sym c.in-Condition.is)
-    (subst (Finds change_seen rows c.args.before) (sym c.searched.ensures)
+    subst (λ w. Finds change_seen (rows_bound names a cursors t (Some w)) c.args.before c.make_searched.result) (sym c.in-Condition.is)
+    (subst (Finds change_seen rows c.args.before) (sym c.make_searched.ensures)
     (searched_found rows (target_bound a t (present (cond_of names.user cond))) (condition_made names a cursors t cond) c.args.before c.bind_target.result c.bind_target.ensures.finds))
 
 pub returns-in-Condition-clause-leaf : goal.returns-in-Condition-clause-leaf
 returns-in-Condition-clause-leaf g c =
-    subst (λ (r : Result (Found ChangeTarget) Stop). IfOk r (λ found. under found.part ≡ c.args.table.now.under.leaf.now)) (sym c.searched.ensures)
+    subst (λ (r : Result (Found ChangeTarget) Stop). IfOk r (λ found. under found.part ≡ c.args.table.now.under.leaf.now)) (sym c.make_searched.ensures)
     (searched_under c.args.table.now.under.leaf.now c.bind_target.result c.bind_target.ensures.leaf)

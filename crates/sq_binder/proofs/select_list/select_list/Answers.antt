@@ -9,4 +9,4 @@ use Rattle.sq_binder.proofs.select_list.select_list.Goals as goal
 pub returns-in-Star : goal.returns-in-Star
 returns-in-Star g c =
     let a = surroundings g.T.Tables.named c.args.at.now in
-    subst (λ list. Finds list_seen (list_split a (map item_of c.args.items.now) (list_of list)) c.args.before c.star.result) (sym c.in-Star.is) (c.star.ensures a)
+    subst (λ list. Finds list_seen (list_split a (map item_of c.args.items.now) (list_of list)) c.args.before c.bind_star.result) (sym c.in-Star.is) (c.bind_star.ensures a)

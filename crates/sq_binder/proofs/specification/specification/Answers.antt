@@ -16,6 +16,6 @@ pub returns-in-None : goal.returns-in-None
 returns-in-None c = λ b found.
     let parts : Finds parts_seen b (first c.args.before) (Ok c.in_ok-parts.parts) = subst (λ r. Finds parts_seen b (first c.args.before) r) c.in_ok-parts.was found in
     let x = found_of parts_seen c.in_ok-parts.parts in (
-      specified_found c.args.is_star c.args.distinct b (counts_of c.args.before) x parts.0 (sym c.fault_of.ensures ∙ c.in-None.is) ∙ ap Ok (sym c.selected.ensures.0),
-      (λ i. record { functions = (c.selected.ensures.1 ∙ sym (add-zero c.args.before.functions)) i; subqueries = (c.selected.ensures.0 i).subqueries }) ∙ ap (after (counts_of c.args.before)) (sym c.selected.ensures.0),
+      specified_found c.args.is_star c.args.distinct b (counts_of c.args.before) x parts.0 (sym c.fault_of.ensures ∙ c.in-None.is) ∙ ap Ok (sym c.make_specification.ensures.0),
+      (λ i. record { functions = (c.make_specification.ensures.1 ∙ sym (add-zero c.args.before.functions)) i; subqueries = (c.make_specification.ensures.0 i).subqueries }) ∙ ap (after (counts_of c.args.before)) (sym c.make_specification.ensures.0),
     )

@@ -5,7 +5,7 @@ use Rattle.sq_binder.specs.Subquery.{compared_side}
 use Rattle.sq_binder.proofs.subquery.compared_side.Goals as goal
 
 pub returns-in-None : goal.returns-in-None
-returns-in-None c = λ b before found. subst (λ quantifier. Finds select_seen (compared_side quantifier c.args.kind b) before c.scalar.result) (sym c.in-None.is) (c.scalar.ensures b before found)
+returns-in-None c = λ b before found. subst (λ quantifier. Finds select_seen (compared_side quantifier c.args.kind b) before c.make_scalar.result) (sym c.in-None.is) (c.make_scalar.ensures b before found)
 
 pub returns-in-Some : goal.returns-in-Some
-returns-in-Some c = λ b before found. subst (λ quantifier. Finds select_seen (compared_side quantifier c.args.kind b) before c.beside.result) (sym c.in-Some.is) (c.beside.ensures b before found)
+returns-in-Some c = λ b before found. subst (λ quantifier. Finds select_seen (compared_side quantifier c.args.kind b) before c.check_beside.result) (sym c.in-Some.is) (c.check_beside.ensures b before found)

@@ -12,5 +12,5 @@ pub returns-in-Some : goal.returns-in-Some
 returns-in-Some g c =
     let a = surroundings g.T.Tables.named c.args.at.now in
     let own = c.args.at.now.environment.now.user in
-    subst (λ (o : Option (Bor Cond)). Finds clause_seen (clause_bound a (clause (option_map (λ (x : Bor Cond). cond_of own x.now) o))) c.args.before c.present.result) (sym c.in-Some.is)
-    (c.present.ensures (cond_bound a (cond_of own c.in-Some.cond.now)) c.args.before c.bind_cond.ensures)
+    subst (λ (o : Option (Bor Cond)). Finds clause_seen (clause_bound a (clause (option_map (λ (x : Bor Cond). cond_of own x.now) o))) c.args.before c.make_present.result) (sym c.in-Some.is)
+    (c.make_present.ensures (cond_bound a (cond_of own c.in-Some.cond.now)) c.args.before c.bind_cond.ensures)

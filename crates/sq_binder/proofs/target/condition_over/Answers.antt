@@ -20,7 +20,7 @@ returns g c =
     let own = c.args.at.now.environment.now.user in
     let inner = c.within-environment.result in
     let spelled : Name → Clause Named = λ (u : Name). clause (option_map (λ (x : Bor Cond). cond_of u x.now) c.args.cond) in
-    c.counted.ensures (clause_bound (of_lines (item_of c.args.item.now ∷ []) a) (spelled own))
+    c.count_functions.ensures (clause_bound (of_lines (item_of c.args.item.now ∷ []) a) (spelled own))
     (inside_lines (λ s u. Finds clause_seen (clause_bound s (spelled u)) (first c.args.before) c.clause_value-condition.result) a inner own (c.args.item.now ∷ [])
     c.within-environment.ensures.parameters c.within-environment.ensures.user
     (c.within-environment.ensures.scopes ∙ c.scope_over.ensures ∙ ap (λ (items : List FromItem). scope_over items None ∷ a.scopes) c.from_ref.ensures.value)

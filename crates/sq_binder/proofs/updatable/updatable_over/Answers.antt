@@ -27,5 +27,5 @@ returns-clause-finds g c =
     let columns =
     c.in_ok-columns.ensures
     ∙ (λ i. columns_shown u (sym (list_is own q) i) ((ap (map numbered_of) c.as_slice.ensures ∙ sym (shown_is c.args.bound.now)) i)) in
-    subst (λ (z : Option (List ℕ) × Clause Named). Finds (option_map updatable_seen) (updatable_made t z.0 (condition_bound a t z.1)) c.args.before c.updatable.result) (λ i. (columns i, filter i))
-    (c.updatable.ensures.finds (condition_bound a t (clause (option_map (λ (x : Bor Cond). cond_of own x.now) c.as_ref.result))) c.args.before c.bind_target-target.ensures.finds)
+    subst (λ (z : Option (List ℕ) × Clause Named). Finds (option_map updatable_seen) (updatable_made t z.0 (condition_bound a t z.1)) c.args.before c.make_updatable.result) (λ i. (columns i, filter i))
+    (c.make_updatable.ensures.finds (condition_bound a t (clause (option_map (λ (x : Bor Cond). cond_of own x.now) c.as_ref.result))) c.args.before c.bind_target-target.ensures.finds)

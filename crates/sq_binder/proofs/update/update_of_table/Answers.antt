@@ -23,4 +23,4 @@ returns-clause-finds g c =
     let a = surroundings g.T.Tables.named c.args.at.now in
     let cursors = g.C.Cursors.named c.args.cursors.now in
     let t = changed_of c.args.table.now in
-    update_found names a cursors t c.args.before c.args.update.now c.in_ok-part.field-0 c.reading.result c.holds-may_select.result c.holds-may_select.ensures c.in_ok-part.ensures.finds c.reading.ensures.0 c.reading.ensures.1
+    update_found names a cursors t c.args.before c.args.update.now c.in_ok-part.field-0 c.require_select_if_read.result c.holds-may_select.result c.holds-may_select.ensures c.in_ok-part.ensures.finds c.require_select_if_read.ensures.0 c.require_select_if_read.ensures.1

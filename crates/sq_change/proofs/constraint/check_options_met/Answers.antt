@@ -17,7 +17,7 @@ use Rattle.sq_change.proofs.constraint.check_options_met.Goals.{in-Some+in_ok-me
 pub meets_check_option-requires : goal.meets_check_option-requires
 meets_check_option-requires g c =
     let columns = g.N.Names.column_kinds c.args.setting.now.names.now in
-    (c.requires.0, rw c.demanded-conditions.ensures (all_taken (Reads columns) c.args.leaf.now.demanded c.args.leaf.now.conditions c.requires.1))
+    (c.requires.0, rw c.take_demanded-conditions.ensures (all_taken (Reads columns) c.args.leaf.now.demanded c.args.leaf.now.conditions c.requires.1))
 
 pub returns-in_err-meets_check_option-clause-right : goal.returns-in_err-meets_check_option-clause-right
 returns-in_err-meets_check_option-clause-right g c = λ parameters tables may on.
@@ -28,7 +28,7 @@ returns-in_err-meets_check_option-clause-right g c = λ parameters tables may on
     on (omega arith) c.change-item.is c.in-Some.ensures in
     ends_so c.from_residual.result c.in_err-meets_check_option.field-0.0 c.from_residual.ensures.1
     (c.in_err-meets_check_option.ensures.right parameters tables may
-    (rw c.demanded-conditions.ensures (all_taken (IsOnRow columns parameters c.in-Some.row.now) c.args.leaf.now.demanded conditions here)))
+    (rw c.take_demanded-conditions.ensures (all_taken (IsOnRow columns parameters c.in-Some.row.now) c.args.leaf.now.demanded conditions here)))
 
 pub loop-change-init : goal.loop-change-init
 loop-change-init g c = λ parameters shown may on. refl
@@ -47,10 +47,10 @@ loop-change-preserved g c = λ parameters shown may on.
       | in-Some+in_ok-meets_check_option w ↦
           let row = w.in-Some.row.now in
           let all = put_so (λ r. AllByRecursion (IsOnRow columns parameters r) conditions) changes i x row on (omega arith) c.change-item.is w.in-Some.ensures in
-          let here : AllByRecursion (IsOnRow columns parameters row) c.demanded-conditions.result.now
-          = rw c.demanded-conditions.ensures (all_taken (IsOnRow columns parameters row) c.args.leaf.now.demanded conditions all) in
+          let here : AllByRecursion (IsOnRow columns parameters row) c.take_demanded-conditions.result.now
+          = rw c.take_demanded-conditions.ensures (all_taken (IsOnRow columns parameters row) c.args.leaf.now.demanded conditions all) in
           put_more test changes i x (omega arith) c.change-item.is (c.loop-change.invariant parameters shown may on) row w.in-Some.ensures
-          (rw c.demanded-conditions.ensures at (w.in_ok-meets_check_option.ensures.met parameters shown may here))
+          (rw c.take_demanded-conditions.ensures at (w.in_ok-meets_check_option.ensures.met parameters shown may here))
       | in_default w ↦ rest_none (all_satisfied test) changes i x (omega arith) c.change-item.is (c.loop-change.invariant parameters shown may on) (search rules)
     ]
 
@@ -66,12 +66,12 @@ returns-in_err-meets_check_option-clause-met g c = λ parameters shown may on.
     let test = check_option_met shown seen c.args.leaf.now in
     let row = c.in-Some.row.now in
     let all = put_so (λ r. AllByRecursion (IsOnRow columns parameters r) conditions) changes i x row on (omega arith) c.change-item.is c.in-Some.ensures in
-    let here : AllByRecursion (IsOnRow columns parameters row) c.demanded-conditions.result.now
-    = rw c.demanded-conditions.ensures (all_taken (IsOnRow columns parameters row) c.args.leaf.now.demanded conditions all) in
+    let here : AllByRecursion (IsOnRow columns parameters row) c.take_demanded-conditions.result.now
+    = rw c.take_demanded-conditions.ensures (all_taken (IsOnRow columns parameters row) c.args.leaf.now.demanded conditions all) in
     let f = c.in_err-meets_check_option.field-0.0 in
     handed_on c.from_residual.result f (all_satisfied test (rows_put changes)) c.from_residual.ensures.1
     (put_failed test changes i x (omega arith) c.change-item.is (c.loop-change.invariant parameters shown may on) row c.in-Some.ensures f
-    (rw c.demanded-conditions.ensures at (c.in_err-meets_check_option.ensures.met parameters shown may here)))
+    (rw c.take_demanded-conditions.ensures at (c.in_err-meets_check_option.ensures.met parameters shown may here)))
 
 pub returns-clause-met : goal.returns-clause-met
 returns-clause-met g c = λ parameters shown may on.

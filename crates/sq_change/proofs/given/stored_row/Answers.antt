@@ -10,8 +10,8 @@ use Rattle.sq_change.proofs.Domains.{stored_all, stored_push}
 use Rattle.sq_change.proofs.Storable.{zipped_at}
 use Rattle.sq_change.proofs.given.stored_row.Goals as goal
 
-pub assigned-requires-clause-kind : goal.assigned-requires-clause-kind
-assigned-requires-clause-kind c =
+pub assign_value-requires-clause-kind : goal.assign_value-requires-clause-kind
+assign_value-requires-clause-kind c =
     let turn =
     zip_turn c.args.columns.now c.args.row.now c.loop-column.yielded c.into_iter-column-iterator.result c.loop-column.column-iterator c.next.new.self c.next.result (search rules) (search rules)
     c.loop-column.yielded_by (c.in-Some.column, c.in-Some.value) c.in-Some.is c.next.ensures.steps in
@@ -31,21 +31,21 @@ loop-column-preserved c =
     c.loop-column.yielded_by (c.in-Some.column, c.in-Some.value) c.in-Some.is c.next.ensures.steps in
     record {
       fit = rw (c.in_ok-push.ensures.ok, length_push c.loop-column.yielded (c.in-Some.column, c.in-Some.value))
-          (stored_push c.args.columns.now (length c.loop-column.yielded) c.loop-column.stored c.in-Some.column.now c.in_ok-assigned.field-0 turn.0 (turn.2 c.in-Some.column.now)
-          c.loop-column.invariant.fit c.in_ok-assigned.ensures.in_domain);
+          (stored_push c.args.columns.now (length c.loop-column.yielded) c.loop-column.stored c.in-Some.column.now c.in_ok-assign_value.field-0 turn.0 (turn.2 c.in-Some.column.now)
+          c.loop-column.invariant.fit c.in_ok-assign_value.ensures.in_domain);
       meant = pair_more stored_in c.args.columns.now c.args.row.now c.loop-column.stored c.loop-column.yielded (c.in-Some.column, c.in-Some.value) turn c.loop-column.invariant.meant
-          c.push.new.self c.in_ok-assigned.field-0 c.in_ok-assigned.ensures.fit c.in_ok-push.ensures.ok;
+          c.push.new.self c.in_ok-assign_value.field-0 c.in_ok-assign_value.ensures.fit c.in_ok-push.ensures.ok;
     }
 
-pub returns-in_err-assigned-clause-meant : goal.returns-in_err-assigned-clause-meant
-returns-in_err-assigned-clause-meant c =
+pub returns-in_err-assign_value-clause-meant : goal.returns-in_err-assign_value-clause-meant
+returns-in_err-assign_value-clause-meant c =
     let turn =
     zip_turn c.args.columns.now c.args.row.now c.loop-column.yielded c.into_iter-column-iterator.result c.loop-column.column-iterator c.next.new.self c.next.result (search rules) (search rules)
     c.loop-column.yielded_by (c.in-Some.column, c.in-Some.value) c.in-Some.is c.next.ensures.steps in
-    let e = c.in_err-assigned.field-0.0 in
-    handed_on c.from_residual-in_err-assigned.result e (row_stored c.args.columns.now c.args.row.now) c.from_residual-in_err-assigned.ensures.1
+    let e = c.in_err-assign_value.field-0.0 in
+    handed_on c.from_residual-in_err-assign_value.result e (row_stored c.args.columns.now c.args.row.now) c.from_residual-in_err-assign_value.ensures.1
     (pair_failed stored_in c.args.columns.now c.args.row.now c.loop-column.stored c.loop-column.yielded (c.in-Some.column, c.in-Some.value) turn c.loop-column.invariant.meant
-    e c.in_err-assigned.ensures.fit)
+    e c.in_err-assign_value.ensures.fit)
 
 pub returns-clause-meant : goal.returns-clause-meant
 returns-clause-meant c =

@@ -3,8 +3,8 @@ use Rattle.sq_change.proofs.Endings.{ends_so, user_ends}
 use Rattle.sq_change.proofs.Storable.{user_fits}
 use Rattle.sq_change.proofs.given.value_or_default.Goals as goal
 
-pub assigned-requires-clause-kind : goal.assigned-requires-clause-kind
-assigned-requires-clause-kind g c =
+pub assign_value-requires-clause-kind : goal.assign_value-requires-clause-kind
+assign_value-requires-clause-kind g c =
     let column = c.args.column.now in
     let setting = c.args.setting.now in
     user_fits column.domain column.default c.in_ok-user-in-User.user setting.parameters.now setting.user column.default_is c.in-User.is c.in_ok-user-in-User.ensures
@@ -12,7 +12,7 @@ assigned-requires-clause-kind g c =
 pub returns-in_ok-user-in-User-clause-meant : goal.returns-in_ok-user-in-User-clause-meant
 returns-in_ok-user-in-User-clause-meant g c =
     let setting = c.args.setting.now in
-    user_stored c.args.column.now c.args.given c.in_default.is c.in-User.is setting.parameters.now setting.user c.assigned.result c.in_ok-user-in-User.user c.in_ok-user-in-User.ensures c.assigned.ensures.fit
+    user_stored c.args.column.now c.args.given c.in_default.is c.in-User.is setting.parameters.now setting.user c.assign_value.result c.in_ok-user-in-User.user c.in_ok-user-in-User.ensures c.assign_value.ensures.fit
 
 pub returns-in_err-user-in-User-clause-meant : goal.returns-in_err-user-in-User-clause-meant
 returns-in_err-user-in-User-clause-meant g c =

@@ -12,13 +12,13 @@ use Rattle.sq_change.proofs.Outcomes.{stops_as}
 use Rattle.sq_change.proofs.Performed.{delete_meets}
 use Rattle.sq_change.proofs.statement.delete.Goals as goal
 
-pub deleted-requires-clause-kept : goal.deleted-requires-clause-kept
-deleted-requires-clause-kept g c =
+pub find_deleted-requires-clause-kept : goal.find_deleted-requires-clause-kept
+find_deleted-requires-clause-kept g c =
     let is = c.new-setting.ensures in
     rw (is.names, is.store) (keeps_tables (g.N.Names.base_tables c.args.names.now) (g.S.Store.content_now c.args.store.now) (g.S.Store.key_columns c.args.store.now) c.requires.kept)
 
-pub deleted-requires-clause-can : goal.deleted-requires-clause-can
-deleted-requires-clause-can g c = let is = c.new-setting.ensures in rw (is.names, is.store, is.user, is.parameters) c.requires.can
+pub find_deleted-requires-clause-can : goal.find_deleted-requires-clause-can
+find_deleted-requires-clause-can g c = let is = c.new-setting.ensures in rw (is.names, is.store, is.user, is.parameters) c.requires.can
 
 pub complete-requires-clause-leaf : goal.complete-requires-clause-leaf
 complete-requires-clause-leaf g c =

@@ -10,11 +10,11 @@ use Rattle.sq_change.proofs.Outcomes.{stops_as}
 use Rattle.sq_change.proofs.Performed.{insert_meets}
 use Rattle.sq_change.proofs.statement.insert.Goals as goal
 
-pub inserted-requires-clause-can : goal.inserted-requires-clause-can
-inserted-requires-clause-can g c = let is = c.new-setting.ensures in rw (is.names, is.store, is.user, is.parameters) c.requires.can
+pub find_inserted-requires-clause-can : goal.find_inserted-requires-clause-can
+find_inserted-requires-clause-can g c = let is = c.new-setting.ensures in rw (is.names, is.store, is.user, is.parameters) c.requires.can
 
-pub inserted-requires-clause-kept : goal.inserted-requires-clause-kept
-inserted-requires-clause-kept g c =
+pub find_inserted-requires-clause-kept : goal.find_inserted-requires-clause-kept
+find_inserted-requires-clause-kept g c =
     let is = c.new-setting.ensures in
     rw (is.names, is.store) (keeps_tables (g.N.Names.base_tables c.args.names.now) (g.S.Store.content_now c.args.store.now) (g.S.Store.key_columns c.args.store.now) c.requires.kept)
 

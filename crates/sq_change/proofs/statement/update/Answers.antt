@@ -13,13 +13,13 @@ use Rattle.sq_change.proofs.Outcomes.{stops_as}
 use Rattle.sq_change.proofs.Performed.{update_meets}
 use Rattle.sq_change.proofs.statement.update.Goals as goal
 
-pub updated-requires-clause-kept : goal.updated-requires-clause-kept
-updated-requires-clause-kept g c =
+pub find_updated-requires-clause-kept : goal.find_updated-requires-clause-kept
+find_updated-requires-clause-kept g c =
     let is = c.new-setting.ensures in
     rw (is.names, is.store) (keeps_tables (g.N.Names.base_tables c.args.names.now) (g.S.Store.content_now c.args.store.now) (g.S.Store.key_columns c.args.store.now) c.requires.kept)
 
-pub updated-requires-clause-can : goal.updated-requires-clause-can
-updated-requires-clause-can g c = let is = c.new-setting.ensures in rw (is.names, is.store, is.user, is.parameters) c.requires.can
+pub find_updated-requires-clause-can : goal.find_updated-requires-clause-can
+find_updated-requires-clause-can g c = let is = c.new-setting.ensures in rw (is.names, is.store, is.user, is.parameters) c.requires.can
 
 pub complete-requires-clause-leaf : goal.complete-requires-clause-leaf
 complete-requires-clause-leaf g c =

@@ -85,7 +85,7 @@ pub returns-in-Some-clause-meant : goal.returns-in-Some-clause-meant
 returns-in-Some-clause-meant g c = λ shown is.
     let setting = c.args.setting.now in
     let s : Seen = seen_by (g.N.Names.view_queries setting.names.now) (g.S.Store.content_now setting.store.now) setting.user setting.parameters.now in
-    rw (c.in-Positioned.is, c.in-Some.is) (only_number c.in-Some.number c.only.result c.only.ensures.only c.only.ensures.memory)
+    rw (c.in-Positioned.is, c.in-Some.is) (only_number c.in-Some.number c.list_only.result c.list_only.ensures.only c.list_only.ensures.memory)
 
 pub returns-in_err-numbers-in-Searched-clause-right : goal.returns-in_err-numbers-in-Searched-clause-right
 returns-in_err-numbers-in-Searched-clause-right g c =

@@ -5,4 +5,4 @@ use Rattle.sq_expression.specs.Select.{row_seen}
 use Rattle.sq_expression.proofs.select.shown_groups.Goals as goal
 
 pub returns : goal.returns
-returns c = c.left.ensures (each (row_seen c.args.list.now c.args.outer c.args.context.now) (map group_seen c.args.groups.now)) c.rows_of_groups-rows.ensures
+returns c = c.take_distinct.ensures (each (row_seen c.args.list.now c.args.outer c.args.context.now) (map group_seen c.args.groups.now)) c.rows_of_groups-rows.ensures

@@ -13,7 +13,7 @@ returns c =
     let f = λ (line : Line). row_shown [] c.args.list.now (line_env line c.args.outer c.args.context.now) c.args.context.now in
     let found = each f (lines_lent c.as_slice.result.now) in
     let left : Outcome (List Row) → Outcome (List Row) = λ o. and_then o (λ rows. Ok (rows_left c.args.is_distinct rows)) in
-    meets_as_same rows_in c.left.result _ _
+    meets_as_same rows_in c.take_distinct.result _ _
     (ap (λ (ls : List Line). left (each f ls)) (sym c.in_ok-lent.ensures)
     ∙ ap (λ (ls : List (Bor (List (Bor Row)))). left (each f (lines_lent ls))) (sym c.as_slice.ensures.value))
-    (c.left.ensures found c.rows_of_lines-rows.ensures)
+    (c.take_distinct.ensures found c.rows_of_lines-rows.ensures)

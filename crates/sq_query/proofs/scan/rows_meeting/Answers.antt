@@ -28,7 +28,7 @@ returns-in_err-tables-clause-meant g c = λ o found parameters tables may base o
     (fails_so Tables e _ (c.in_err-tables.ensures.meant may.in_domains tables may.meant).0)
 
 pub returns-clause-plain : goal.returns-clause-plain
-returns-clause-plain g c = λ o found none tables. c.chosen.ensures.plain o found none tables
+returns-clause-plain g c = λ o found none tables. c.choose_rows.ensures.plain o found none tables
 
 pub returns-clause-meant : goal.returns-clause-meant
 returns-clause-meant g c = λ o found parameters tables may base on answers.
@@ -45,6 +45,6 @@ returns-clause-meant g c = λ o found parameters tables may base on answers.
     same_rows (table_rows context) tables values user o conditions
     (all_conds_read_as c.needed_tables-needed.result content c.in_ok-tables.tables c.in_ok-tables.ensures.bases context c.as_slice.ensures.value c.as_slice-2.ensures.value tables meant conditions c.needed_tables-needed.ensures.reads)
     in
-    exact numbered_in c.chosen.result (λ rows. ⊤) whole
-    (means_as_same numbered_in c.chosen.result whole _ (sym same) (c.chosen.ensures.known o found (all_known_in columns parameters base context conditions on.well)))
+    exact numbered_in c.choose_rows.result (λ rows. ⊤) whole
+    (means_as_same numbered_in c.choose_rows.result whole _ (sym same) (c.choose_rows.ensures.known o found (all_known_in columns parameters base context conditions on.well)))
     answers

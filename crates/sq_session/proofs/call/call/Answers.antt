@@ -18,15 +18,15 @@ index-procedure-requires g c =
     let program = c.args.program.now in
     fits_there program.cursors.items program.procedures.entries c.args.procedure c.args.values.now c.requires.values_fit
 
-pub performed-requires-clause-asked : goal.performed-requires-clause-asked
-performed-requires-clause-asked g c =
+pub perform_statement-requires-clause-asked : goal.perform_statement-requires-clause-asked
+perform_statement-requires-clause-asked g c =
     let program = c.args.program.now in
     let found = entry_of program.procedures.entries c.args.procedure c.index-procedure.result.now c.index-procedure.ensures in
     let entry : ProcedureName × BoundProcedure = (found.0, c.index-procedure.result.now) in
     asked_at (column_kinds c.args.catalog.now) c.args.catalog.now.bases program c.args.procedure entry c.in-Ok.statement found.1 c.in-Ok.is c.requires.session.fits c.requires.session.well_formed
 
-pub performed-requires-clause-values_fit : goal.performed-requires-clause-values_fit
-performed-requires-clause-values_fit g c =
+pub perform_statement-requires-clause-values_fit : goal.perform_statement-requires-clause-values_fit
+perform_statement-requires-clause-values_fit g c =
     let program = c.args.program.now in
     let found = entry_of program.procedures.entries c.args.procedure c.index-procedure.result.now c.index-procedure.ensures in
     let entry : ProcedureName × BoundProcedure = (found.0, c.index-procedure.result.now) in
@@ -40,11 +40,11 @@ returns-in-Ok g c =
     let cursors = c.args.program.now.cursors.items in
     let kind = kind_is cursors entries c.args.procedure entry c.in-Ok.statement found.1 c.in-Ok.is in
     let schemas = schemas_of c.args.catalog.now in
-    let read = as_read schemas cursors entry.1.user entry.1.parameters c.in-Ok.statement c.args.values.now c.args.machine.now (ending c.performed.result) _ c.performed.ensures.performed.step in
-    let step = all_if _ EndsRight _ (ending c.performed.result) read c.performed.ensures.performed.right (has_tables c.args.catalog.now c.args.machine.now.tables) in
-    let kept = after schemas (column_kinds c.args.catalog.now) c.args.catalog.now.bases cursors entry.1.user entry.1.parameters c.in-Ok.statement _ c.args.machine.now c.performed.result c.performed.new.machine c.requires.session.whole c.performed.ensures.left c.performed.ensures.performed.step c.performed.ensures.err in
-    let read = call_read cursors entry.1.user entry.1.parameters c.in-Ok.statement c.args.values.now c.args.machine.now (ending c.performed.result) _ c.performed.ensures.performed.read in
-    record { step = rw kind step; whole = kept; err = c.performed.ensures.err; memory = rw kind c.performed.ensures.memory; read = rw kind read }
+    let read = as_read schemas cursors entry.1.user entry.1.parameters c.in-Ok.statement c.args.values.now c.args.machine.now (ending c.perform_statement.result) _ c.perform_statement.ensures.performed.step in
+    let step = all_if _ EndsRight _ (ending c.perform_statement.result) read c.perform_statement.ensures.performed.right (has_tables c.args.catalog.now c.args.machine.now.tables) in
+    let kept = after schemas (column_kinds c.args.catalog.now) c.args.catalog.now.bases cursors entry.1.user entry.1.parameters c.in-Ok.statement _ c.args.machine.now c.perform_statement.result c.perform_statement.new.machine c.requires.session.whole c.perform_statement.ensures.left c.perform_statement.ensures.performed.step c.perform_statement.ensures.err in
+    let read = call_read cursors entry.1.user entry.1.parameters c.in-Ok.statement c.args.values.now c.args.machine.now (ending c.perform_statement.result) _ c.perform_statement.ensures.performed.read in
+    record { step = rw kind step; whole = kept; err = c.perform_statement.ensures.err; memory = rw kind c.perform_statement.ensures.memory; read = rw kind read }
 
 pub returns-in-Err-clause-step : goal.returns-in-Err-clause-step
 returns-in-Err-clause-step g c =

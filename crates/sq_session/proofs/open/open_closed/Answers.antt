@@ -35,8 +35,8 @@ returns-in-Err-clause-step g c =
     opens_not (schemas_of called.catalog.now) (opening called.cursors.now called.procedure.now.user called.procedure.now.parameters number) (over_of declared.cursor.body) declared.cursor.body called.values.now before c.in-Err.fault
     (ap (λ o. option_map_or (λ d. over_of d.cursor.body) o Over.rows) found) (ap (λ o. option_map (λ d. d.cursor.body) o) found) c.in-Err.ensures.opened
 
-pub opened-requires-clause-cursor : goal.opened-requires-clause-cursor
-opened-requires-clause-cursor g c =
+pub make_open-requires-clause-cursor : goal.make_open-requires-clause-cursor
+make_open-requires-clause-cursor g c =
     let called = c.args.called.now in
     let asked = c.requires.may.asked in
     record {
@@ -45,8 +45,8 @@ opened-requires-clause-cursor g c =
       given = c.requires.may.given;
     }
 
-pub opened-requires-clause-tables : goal.opened-requires-clause-tables
-opened-requires-clause-tables g c =
+pub make_open-requires-clause-tables : goal.make_open-requires-clause-tables
+make_open-requires-clause-tables g c =
     let store = c.args.store.now in
     let whole = c.requires.whole in
     keeps_tables c.args.called.now.catalog.now.bases (g.S.Store.content_now store) (g.S.Store.key_columns store) (record {
