@@ -26,6 +26,8 @@ OWED = ROOT / "tools/edits_owed.txt"
 OWED_HEADER = "# Edits that have no verdict of today's texts, as CRATE NAME. tools/try_edits.sh CRATE tries them; tools/edits.py owe writes this list.\n"
 # A module of definitions, wherever a text names one.
 CITED = re.compile(r"\bRattle\.(\w+)\.specs\.([^\s;{}(),]+)")
+# The folder in a path of a law. Where a law stands is no part of a verdict.
+FOLDER_OF_LAW = re.compile(r"\b((?:crate|sq_\w+)(::|\.)proofs\2)[A-Z]\w*\2(?=[A-Z]\w*\2)")
 VISIBLE = r"(?:pub(?:\(.*?\))? )?"
 FUNCTION = re.compile(rf"\s*{VISIBLE}(?:const )?(?:unsafe )?fn (\w+)")
 IMPL = re.compile(r"(?:unsafe )?impl (?:(?:\w+::)*(\w+) for )?[&*]*(?:\w+::)*(\w+)")
@@ -74,10 +76,10 @@ def edits_of(crate):
 
 @functools.lru_cache(maxsize=None)
 def text_of(file):
-    """A file without its comments."""
+    """A file without its comments and the folders of laws."""
     mark = "--" if file.suffix == ".antt" else "//"
     lines = file.read_text(encoding="utf-8").split("\n")
-    return "\n".join(line for line in lines if not line.lstrip().startswith(mark))
+    return FOLDER_OF_LAW.sub(r"\1", "\n".join(line for line in lines if not line.lstrip().startswith(mark)))
 
 
 def items(text, indent=0):

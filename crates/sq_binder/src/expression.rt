@@ -182,7 +182,7 @@ impl<'a> Standing<'a> {
 }
 
 /// USER, a text of 18 characters (6.2; the length is an own rule).
-#[tactic(auto, using(crate::proofs::Images::images))]
+#[tactic(auto, using(crate::proofs::Expressions::Images::images))]
 fn user_value(alloc: Global) -> Bound
     ensures { bound_of result ≡ spec.plain Numbered.user (Chars 18) spec.user_findings }
 {
@@ -218,7 +218,7 @@ fn is_ungrouped(in_function: bool, found: &FoundColumn) -> bool
     found.depth > 0 && !found.is_grouped && !in_function
 }
 
-#[tactic(auto, using(crate::proofs::Images::images))]
+#[tactic(auto, using(crate::proofs::Expressions::Images::images))]
 fn column_bound(alloc: Global, found: &FoundColumn) -> ExprResult
     ensures { Binds bound_of (Ok (spec.column_bound (found_of found.now))) result }
 {

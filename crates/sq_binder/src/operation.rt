@@ -47,7 +47,7 @@ pub fn sign_operand(alloc: Global, sign: Sign, operand: Bound) -> ExprResult
     with_sign(alloc, sign, operand)
 }
 
-#[tactic(auto, using(crate::proofs::Images::images))]
+#[tactic(auto, using(crate::proofs::Expressions::Images::images))]
 fn with_sign(alloc: Global, sign: Sign, operand: Bound) -> ExprResult
     ensures { Binds bound_of (Ok (spec.signed_by sign (bound_of operand))) result }
 {
@@ -74,7 +74,7 @@ fn with_sign(alloc: Global, sign: Sign, operand: Bound) -> ExprResult
 }
 
 /// Two operands and the operator between them.
-#[tactic(auto, using(crate::proofs::KindLaws::operated_bounded))]
+#[tactic(auto, using(crate::proofs::Expressions::KindLaws::operated_bounded))]
 pub fn apply_operator(alloc: Global, operator: Operator, left: Bound, right: Bound) -> ExprResult
     ensures { Binds bound_of (spec.operated_as operator (bound_of left) (bound_of right)) result }
 {
@@ -113,7 +113,7 @@ fn operands(alloc: Global, operator: Operator, left: Bound, right: Bound, kind: 
 }
 
 /// The expression with a further operation behind it.
-#[tactic(auto, using(crate::proofs::Operations::operation_behind))]
+#[tactic(auto, using(crate::proofs::Expressions::Operations::operation_behind))]
 fn with_operation(
     alloc: Global,
     left: BoundExpr,
@@ -138,7 +138,7 @@ fn with_operation(
 }
 
 /// An operand with its first operation behind it.
-#[tactic(auto, using(crate::proofs::Operations::operation_first))]
+#[tactic(auto, using(crate::proofs::Expressions::Operations::operation_first))]
 fn begin_operation(
     alloc: Global,
     first: BoundExpr,

@@ -29,7 +29,7 @@ fn position_of(parameters: &[ParameterDesc], name: Name) -> Option<usize>
 }
 
 /// The parameter of a name, and its position.
-#[tactic(auto, using(crate::proofs::Positions::seen))]
+#[tactic(auto, using(crate::proofs::OneByOne::Positions::seen))]
 pub fn parameter_of(
     parameters: &[ParameterDesc],
     name: Name,
@@ -87,7 +87,7 @@ pub fn parameter_value(
     Ok(input(alloc, position, named, indicator))
 }
 
-#[tactic(auto, using(crate::proofs::Images::images))]
+#[tactic(auto, using(crate::proofs::Expressions::Images::images))]
 fn input(alloc: Global, position: usize, named: ParameterDesc, indicator: Option<usize>) -> Bound
     ensures { bound_of result ≡ spec.parameter_as (named_of (position, named)) indicator }
 {

@@ -51,7 +51,7 @@ impl QueryFindings {
     }
 
     /// What is found in a part whose evaluation may answer a status.
-    #[tactic(auto, using(crate::proofs::Behind::with_a_status))]
+    #[tactic(auto, using(crate::proofs::OneByOne::Behind::with_a_status))]
     pub fn failing(self) -> QueryFindings
         ensures { query_findings_of result ≡ spec.both (query_findings_of self) spec.a_status }
     {

@@ -72,7 +72,7 @@ impl FromItem {
     }
 
     /// The column that the reference fits, by its number.
-    #[tactic(auto, using(crate::proofs::Positions::seen))]
+    #[tactic(auto, using(crate::proofs::OneByOne::Positions::seen))]
     fn column(&self, reference: &ColumnReference) -> Option<usize>
         ensures { result ≡ column_in reference.now (spec.item_named (item_of self.now)) }
     {
@@ -110,7 +110,7 @@ impl Scope<'_> {
     }
 
     /// Whether the column is among the grouping columns, where there are such.
-    #[tactic(auto, using(crate::proofs::Positions::seen))]
+    #[tactic(auto, using(crate::proofs::OneByOne::Positions::seen))]
     fn is_grouped(&self, item: usize, column: usize) -> bool
         ensures { result ≡ spec.is_grouped (scope_of self.now).grouping item column }
     {

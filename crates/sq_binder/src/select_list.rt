@@ -108,7 +108,7 @@ fn with_item(
 }
 
 /// A column of an item, by its place.
-#[tactic(auto, using(crate::proofs::Images::images))]
+#[tactic(auto, using(crate::proofs::Expressions::Images::images))]
 fn column_of_item(number: usize, column: &ItemColumn) -> (BoundExpr, ResultColumn)
     ensures { shown_of result ≡ spec.column_of_item number (column_of column.now) }
 {

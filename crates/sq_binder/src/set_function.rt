@@ -38,7 +38,7 @@ pub fn count_rows(alloc: Global, allowed: bool, number: usize) -> ExprResult
 }
 
 /// A set function over an expression that reads columns of its own query alone.
-#[tactic(auto, using(crate::proofs::KindLaws::call_bounded))]
+#[tactic(auto, using(crate::proofs::Expressions::KindLaws::call_bounded))]
 pub fn function_over(
     alloc: Global,
     allowed: bool,
@@ -89,7 +89,7 @@ fn function_call(
 }
 
 /// A set function, which is known by its number.
-#[tactic(auto, using(crate::proofs::Images::images))]
+#[tactic(auto, using(crate::proofs::Expressions::Images::images))]
 fn make_call(
     alloc: Global,
     number: usize,

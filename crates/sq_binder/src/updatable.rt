@@ -261,7 +261,7 @@ fn leaf_columns(
 }
 
 /// The column of the base table that an expression is, if it is one.
-#[tactic(auto, using(crate::proofs::Images::images))]
+#[tactic(auto, using(crate::proofs::Expressions::Images::images))]
 fn leaf_column(expr: &BoundExpr, under: &UnderTable<'_>) -> Option<usize>
     ensures { result ≡ spec.leaf_column (under_table (beneath_of under.now)) (numbered_of expr.now) }
 {

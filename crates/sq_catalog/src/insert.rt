@@ -61,7 +61,7 @@ impl Catalog {
 }
 
 /// Adds a base table as `insert_base` does, and the columns of its keys behind those of the others.
-#[tactic(auto, using(crate::proofs::Stored::keyed_added))]
+#[tactic(auto, using(crate::proofs::Growth::Stored::keyed_added))]
 fn insert_with_keys(
     alloc: Global,
     tables: &mut IndexMap<FullName, TableDesc>,

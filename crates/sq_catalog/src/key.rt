@@ -118,7 +118,7 @@ fn have_bad_list(keys: &[Items<usize>]) -> bool
 }
 
 /// Whether a list has a column twice or more than 6.
-#[tactic(auto, using(crate::proofs::Twice::twice_is))]
+#[tactic(auto, using(crate::proofs::OneByOne::Twice::twice_is))]
 pub(crate) fn is_bad_list(positions: &[usize]) -> bool
     ensures { result ≡ definition.is_bad_list positions.now }
 {

@@ -73,7 +73,7 @@ fn base_target<'a>(own: OwnKeys<'a>, table: &'a TableDesc) -> Result<Target<'a>,
 }
 
 /// A stored base table with these columns.
-#[tactic(auto, using(crate::proofs::Stored::earlier_keys))]
+#[tactic(auto, using(crate::proofs::Growth::Stored::earlier_keys))]
 fn stored_target<'a>(own: OwnKeys<'a>, columns: &'a [Column], base: &'a BaseTable) -> Target<'a>
     requires stored { IsBase own.before.now base.now }
     requires width { length columns.now ≡ length base.now.columns }
@@ -147,7 +147,7 @@ fn listed_key<'a>(
 }
 
 /// The primary key, if the table has one.
-#[tactic(auto, using(crate::proofs::Listed::all_among))]
+#[tactic(auto, using(crate::proofs::OneByOne::Listed::all_among))]
 fn primary_key(target: Target<'_>) -> Result<ReferencedKey<'_>, ElementFault>
     ensures place { IfOk result (λ key. key.place < length target.entry.keys.now) }
     ensures listed { IfOk result

@@ -217,7 +217,7 @@ fn name_shown(underneath: &[Column], expr: &BoundExpr) -> Option<Name>
 }
 
 /// The position of the column that an expression is, if it is one.
-#[tactic(auto, using(sq_binder::proofs::Images::images))]
+#[tactic(auto, using(sq_binder::proofs::Expressions::Images::images))]
 fn column_shown(expr: &BoundExpr) -> Option<usize>
     ensures { result ≡ spec.column_shown (numbered_of expr.now) }
 {

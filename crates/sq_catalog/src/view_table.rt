@@ -228,7 +228,7 @@ fn view_leaf(alloc: Global, check_option: bool, target: Target) -> Result<Shared
 }
 
 /// What is under a view over a table that has this under it, and a condition where the view has one.
-#[tactic(auto, using(crate::proofs::Quiet::sure_with))]
+#[tactic(auto, using(crate::proofs::CreateView::Quiet::sure_with))]
 fn leaf_above(
     alloc: Global,
     below: &Leaf,

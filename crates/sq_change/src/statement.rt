@@ -60,7 +60,7 @@ pub fn insert<N: Names, S: Store>(
 }
 
 /// The new rows of an insert statement, which need as many row numbers (own rule).
-#[tactic(auto, using(crate::proofs::Applied::fewer_inserted))]
+#[tactic(auto, using(crate::proofs::Changes::Applied::fewer_inserted))]
 pub fn find_inserted<N: Names, S: Store>(
     setting: &Setting<'_, N, S>,
     insert: &BoundInsert,

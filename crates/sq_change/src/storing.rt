@@ -41,7 +41,7 @@ pub(crate) fn stored_value<N: Names, S: Store>(
 }
 
 /// A value as a domain stores it, or the status for which it can't be stored. Null and a number take no memory.
-#[tactic(auto, using(crate::proofs::Stored::ok_meets, crate::proofs::Stored::err_meets))]
+#[tactic(auto, using(crate::proofs::NewRows::Stored::ok_meets, crate::proofs::NewRows::Stored::err_meets))]
 pub fn assign_value(alloc: Global, domain: Domain, value: &Value) -> Result<Value, Fault>
     requires domain { IsDomain domain }
     requires kind { FitsKind domain value.now }

@@ -15,7 +15,7 @@ use Rattle.sq_bound.specs.declared.query.BoundQuery.{BoundQuery}
 use Rattle.sq_bound.specs.declared.query.CursorBody.TheVariants as body
 use Rattle.sq_bound.specs.declared.query.SortColumn.{SortColumn}
 use Rattle.sq_binding.specs.Cursor.{cursor_bound}
-use Rattle.sq_binding.proofs.SameParameters.{names_equal}
+use Rattle.sq_binding.proofs.Placing.SameParameters.{names_equal}
 use Rattle.sq_binder.specs.declared.stop.Fault.{Fault as Broken}
 use Rattle.sq_binding.specs.Names.{declared}
 use Rattle.sq_binding.specs.Written.{IsCursorOf}

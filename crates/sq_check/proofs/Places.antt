@@ -3,7 +3,7 @@ use Rattle.std.proofs.Common.{◌≡◌, ◌∙◌, ℕ, suc, ◌+◌, ◌<◌, 
 use Rattle.std.proofs.lemmas.List.{append-nil}
 use Rattle.std.specs.List.{AllZip}
 use Rattle.indexmap.proofs.SetLemmas.{AllZip-push}
-use Rattle.sq_catalog.proofs.Turns.{taken}
+use Rattle.sq_catalog.proofs.OneByOne.Turns.{taken}
 use Rattle.sq_check.specs.Modules.{AllAt}
 use Rattle.sq_check.specs.Schemas.{all_at}
 

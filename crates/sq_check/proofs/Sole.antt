@@ -12,7 +12,7 @@ use Rattle.sq_meaning.proofs.SpelledLevels.{query_of-roll}
 use Rattle.sq_meaning.specs.Spelled.{Named, query_of, query_term_of, union_term_of}
 use Rattle.sq_meaning.specs.Syntax.{Query, union}
 use Rattle.sq_meaning.specs.WellFormedStatement.{only_specification}
-use Rattle.sq_binder.proofs.Queries.{query_alone}
+use Rattle.sq_binder.proofs.WholeQueries.Queries.{query_alone}
 use Rattle.sq_check.specs.Rule.{IsRuleOf, IsSole, cursor_rule}
 use Rattle.sq_check.specs.declared.rule.Rule.{Rule}
 

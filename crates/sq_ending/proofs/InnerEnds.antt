@@ -19,8 +19,8 @@ use Rattle.sq_bound.specs.declared.names.View.{View as BoundView}
 use Rattle.sq_bound.proofs.ConditionLaws.{select_of-out}
 use Rattle.sq_condition.specs.Specification.{items_in}
 use Rattle.sq_query.specs.Needed.{ReadsSelect}
-use Rattle.sq_query.proofs.MeantTables.{StandsBefore}
-use Rattle.sq_query.proofs.NeededViews.{reads_known, stands_before}
+use Rattle.sq_query.proofs.Needs.MeantTables.{StandsBefore}
+use Rattle.sq_query.proofs.Needs.NeededViews.{reads_known, stands_before}
 use Rattle.sq_ending.specs.Ending.{IsClauseEnd, IsFromEnd, IsQueryEnd, Seen, rows_of}
 use Rattle.sq_ending.specs.Inside.{EndsInThere, EndsInside, IsInnerEnd, IsThrough, IsViewOf, OverAll, inside, views_end}
 use Rattle.sq_ending.specs.Read.{Known}

@@ -24,11 +24,11 @@ use Rattle.sq_condition.specs.Specification.{items_in, rows_meant}
 use Rattle.sq_condition.specs.Subquery.{KnowsQuery}
 use Rattle.sq_condition.proofs.Right.{right_same}
 use Rattle.sq_query.specs.Needed.{FindsSelect, specification_tables}
-use Rattle.sq_query.proofs.Fitting.{answers_right}
-use Rattle.sq_query.proofs.KeyNames.{place_there}
-use Rattle.sq_query.proofs.KindsOfTables.{KindsAreOf}
-use Rattle.sq_query.proofs.KnownQueries.{known_of}
-use Rattle.sq_query.proofs.ReadRows.{select_answers}
+use Rattle.sq_query.proofs.Needs.Fitting.{answers_right}
+use Rattle.sq_query.proofs.Keys.KeyNames.{place_there}
+use Rattle.sq_query.proofs.Needs.KindsOfTables.{KindsAreOf}
+use Rattle.sq_query.proofs.Needs.KnownQueries.{known_of}
+use Rattle.sq_query.proofs.Needs.ReadRows.{select_answers}
 use Rattle.sq_ending.specs.Ending.{Ends, EndsThere, HasItems, IsClauseEnd, IsFromEnd, seen_in}
 use Rattle.sq_ending.specs.Read.{AreRight, IsThere, known_by}
 use Rattle.sq_ending.specs.declared.ends.Clause.{Clause}

@@ -19,8 +19,8 @@ use Rattle.sq_condition.specs.Specification.{items_in, where_of}
 use Rattle.sq_expression.specs.Frame.{inputs_of}
 use Rattle.sq_query.specs.Needed.{ReadsClause, ReadsSelect}
 use Rattle.sq_query.specs.Row.{outside}
-use Rattle.sq_query.proofs.AnyTables.{value_over}
-use Rattle.sq_query.proofs.SameTables.{same_clause, same_each, same_rows}
+use Rattle.sq_query.proofs.Needs.AnyTables.{value_over}
+use Rattle.sq_query.proofs.Needs.SameTables.{same_clause, same_each, same_rows}
 use Rattle.sq_ending.specs.Ending.{EndsThere, IsClauseEnd, IsFromEnd, IsListEnd, IsOperandEnd, IsWhereEnd, Seen, is_wanted, list_of, rows_of, value_on}
 use Rattle.sq_ending.specs.Walk.{IsFineOn, IsFirstEnd, IsFirstItem, is_met}
 use Rattle.sq_ending.specs.declared.ends.Clause.{Clause}

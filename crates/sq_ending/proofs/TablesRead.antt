@@ -22,8 +22,8 @@ use Rattle.sq_expression.specs.declared.table.BaseRows.{BaseRows}
 use Rattle.sq_expression.specs.declared.table.ViewRows.{ViewRows}
 use Rattle.sq_query.specs.Needed.{ReadsSelect, specification_tables}
 use Rattle.sq_query.specs.Table.{AreMeant}
-use Rattle.sq_query.proofs.Added.{select_listed, select_read}
-use Rattle.sq_query.proofs.WalkedRows.{there_within}
+use Rattle.sq_query.proofs.Needs.Added.{select_listed, select_read}
+use Rattle.sq_query.proofs.Targets.WalkedRows.{there_within}
 use Rattle.sq_ending.specs.Read.{AreRight, AreShown, AreStored, IsThere, Known}
 use Rattle.sq_ending.specs.declared.read.Tables.{Tables}
 

@@ -14,7 +14,7 @@ use sq_tree::CommaList;
 use std::alloc::Global;
 
 /// Items, each behind a comma.
-#[tactic(auto, using(crate::proofs::Many::loops))]
+#[tactic(auto, using(crate::proofs::Reading::Many::loops))]
 fn more<T: Drop, P: Fn(&mut Reader<'_>) -> Result<T, Stop>>(
     alloc: Global,
     tokens: &mut Reader<'_>,
@@ -57,7 +57,7 @@ pub fn comma_list<T: Drop, P: Fn(&mut Reader<'_>) -> Result<T, Stop>>(
 }
 
 /// Items, one after the other, until no more comes.
-#[tactic(auto, using(crate::proofs::Many::loops))]
+#[tactic(auto, using(crate::proofs::Reading::Many::loops))]
 pub fn items<T: Drop, P: Fn(&mut Reader<'_>) -> Result<Option<T>, Stop>>(
     alloc: Global,
     tokens: &mut Reader<'_>,

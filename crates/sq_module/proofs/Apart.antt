@@ -17,7 +17,7 @@ use Rattle.sq_tree.specs.declared.statement.Statement.TheVariants as tree
 use Rattle.sq_meaning.specs.Environment.{same_name}
 use Rattle.sq_module.specs.Admitted.{AreAdmitted, OpensEachOnce, opened_of, opening_in, openings}
 use Rattle.sq_bound.specs.WellFormed.{kinds_of_parameters}
-use Rattle.sq_binding.proofs.SameParameters.{name_itself, names_equal}
+use Rattle.sq_binding.proofs.Placing.SameParameters.{name_itself, names_equal}
 use Rattle.sq_module.specs.Opened.{AreOfOthers, OpenedBy, is_in}
 use Rattle.sq_module.specs.Refusal.{has_open_count, is_some_name, opened_by, opened_in, opener_count}
 use Rattle.sq_module.specs.Written.{AreApart, IsCursorIn, is_cursor}

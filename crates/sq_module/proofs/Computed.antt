@@ -24,7 +24,7 @@ use Rattle.sq_binding.specs.Cursor.{cursor_bound}
 use Rattle.sq_binding.specs.Outcome.{Outcome}
 use Rattle.sq_binding.specs.Procedure.{module_cursors, procedure_bound}
 use Rattle.sq_binding.specs.Statement.{NumberedStatement, statement_bound}
-use Rattle.sq_binding.proofs.SameParameters.{names_equal}
+use Rattle.sq_binding.proofs.Placing.SameParameters.{names_equal}
 use Rattle.sq_binder.specs.Binds.{Binds}
 use Rattle.sq_binder.specs.declared.stop.Fault.{Fault}
 use Rattle.sq_binder.specs.declared.stop.Stop.{Stop}

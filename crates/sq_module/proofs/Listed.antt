@@ -13,7 +13,7 @@ use Rattle.sq_lex.specs.declared.name.Name.{Name}
 use Rattle.sq_tree.specs.declared.module.Cursor.{Cursor}
 use Rattle.sq_tree.specs.declared.module.ModuleItem.{ModuleItem}
 use Rattle.sq_meaning.specs.Environment.{same_name}
-use Rattle.sq_binding.proofs.SameParameters.{names_equal}
+use Rattle.sq_binding.proofs.Placing.SameParameters.{names_equal}
 use Rattle.sq_module.specs.Admitted.{cursors_written}
 use Rattle.sq_module.specs.Written.{IsCursorIn}
 use Rattle.sq_module.proofs.Written.{take_whole}

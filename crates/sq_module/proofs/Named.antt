@@ -32,7 +32,7 @@ use Rattle.sq_binding.specs.Change.{NamedCursor}
 use Rattle.sq_binding.specs.Changeable.{UserNames}
 use Rattle.sq_binding.specs.Cursor.{cursor_bound}
 use Rattle.sq_binding.specs.Procedure.{cursor_if_sound, module_cursors, numbered}
-use Rattle.sq_binding.proofs.SameParameters.{name_itself, names_equal}
+use Rattle.sq_binding.proofs.Placing.SameParameters.{name_itself, names_equal}
 use Rattle.sq_binder.specs.declared.stop.Fault.{Fault}
 use Rattle.sq_binder.specs.declared.stop.Stop.{Stop}
 use Rattle.sq_binder.specs.declared.stop.Stop.TheVariants as stop

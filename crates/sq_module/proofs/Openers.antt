@@ -10,7 +10,7 @@ use Rattle.indexmap.specs.IndexSet.{insert_key}
 use Rattle.sq_lex.specs.declared.name.Name.{Name}
 use Rattle.sq_tree.specs.declared.module.ModuleItem.{ModuleItem}
 use Rattle.sq_meaning.specs.Environment.{same_name}
-use Rattle.sq_binding.proofs.SameParameters.{names_equal}
+use Rattle.sq_binding.proofs.Placing.SameParameters.{names_equal}
 use Rattle.sq_module.specs.declared.opener.Openers.{Openers}
 use Rattle.sq_module.specs.Refusal.{AreOpeners, is_some_name, opened_in, opener_count}
 

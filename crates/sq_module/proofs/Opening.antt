@@ -19,7 +19,7 @@ use Rattle.sq_bound.specs.declared.statement.BoundStatement.{BoundStatement}
 use Rattle.sq_bound.specs.declared.statement.BoundStatement.TheVariants as statement
 use Rattle.sq_bound.specs.WellFormed.{IsCursor, TableKinds, kinds_of_parameters}
 use Rattle.sq_bound.specs.declared.names.ParameterDesc.{ParameterDesc}
-use Rattle.sq_binding.proofs.SameParameters.{name_itself}
+use Rattle.sq_binding.proofs.Placing.SameParameters.{name_itself}
 use Rattle.sq_binding.specs.Written.{IsStatementOf}
 use Rattle.sq_module.specs.Admitted.{opened_of}
 use Rattle.sq_module.specs.Computed.{as_bound}

@@ -31,11 +31,11 @@ use Rattle.sq_binding.specs.Names.{declared}
 use Rattle.sq_binding.specs.SeenQuery.{BodyHasColumns, cursor_seen, statement_seen, table_named}
 use Rattle.sq_binding.specs.There.{BodyIsThere, StatementIsThere}
 use Rattle.sq_binding.specs.Written.{IsCursorOf, IsStatementOf}
-use Rattle.sq_binding.proofs.Cursors as cursors_law
-use Rattle.sq_binding.proofs.Cursors.{cursor_is_so}
-use Rattle.sq_binding.proofs.Rows.{CursorsMean, IsKnownCursor}
-use Rattle.sq_binding.proofs.Statements as statements_law
-use Rattle.sq_binding.proofs.Statements.{statement_is_so}
+use Rattle.sq_binding.proofs.WellFormed.Cursors as cursors_law
+use Rattle.sq_binding.proofs.WellFormed.Cursors.{cursor_is_so}
+use Rattle.sq_binding.proofs.WellFormed.Rows.{CursorsMean, IsKnownCursor}
+use Rattle.sq_binding.proofs.WellFormed.Statements as statements_law
+use Rattle.sq_binding.proofs.WellFormed.Statements.{statement_is_so}
 use Rattle.sq_binding.specs.Catalog.{may}
 use Rattle.sq_catalog.specs.Catalog.{Catalog, column_kinds, known}
 use Rattle.sq_catalog.specs.Exact.{declared as seen, described}

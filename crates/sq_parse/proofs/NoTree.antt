@@ -3,8 +3,8 @@ use Rattle.std.proofs.Common.{◌≡◌, ℕ, ◌-◌, Bool, true, false, cond, 
 use Rattle.std.proofs.lemmas.Bool.{ltb-false}
 use Rattle.sq_grammar.specs.Reading.{Tokens, Parser, whole}
 use Rattle.sq_grammar.specs.Brackets.{is_too_deep}
-use Rattle.sq_grammar.proofs.Takes.{Takes}
-use Rattle.sq_grammar.proofs.Refused.{refused_deep}
+use Rattle.sq_grammar.proofs.Taken.Takes.{Takes}
+use Rattle.sq_grammar.proofs.Taken.Refused.{refused_deep}
 use Rattle.sq_parse.specs.declared.error.ParseError.TheVariants.{Unexpected, TooDeep, EndOfText}
 use Rattle.sq_grammar.specs.declared.stop.Stop.{Stop}
 use Rattle.sq_grammar.specs.declared.stop.Stop.TheVariants as stop

@@ -194,7 +194,7 @@ fn session_from<S: Store>(
 }
 
 /// A session of modules over a new store.
-#[tactic(auto, using(sq_session::proofs::Holding::no_rows_hold, sq_session::proofs::Holding::no_rows_obey))]
+#[tactic(auto, using(sq_session::proofs::Lasting::Holding::no_rows_hold, sq_session::proofs::Lasting::Holding::no_rows_obey))]
 fn session_over<S: Store>(
     alloc: Global,
     catalog: Catalog,
@@ -221,7 +221,7 @@ fn session_over<S: Store>(
 }
 
 /// A new store for the base tables of a catalog, their keys and references.
-#[tactic(auto, using(sq_session::proofs::Holding::keys_count))]
+#[tactic(auto, using(sq_session::proofs::Lasting::Holding::keys_count))]
 fn store_of<S: Store>(alloc: Global, catalog: &Catalog, limits: Limits) -> Result<S, AllocError>
     requires numbers { limits.row_numbers ≤ MOST_ROW_NUMBERS }
     ensures now { IfOk result (λ store. S.content_now store ≡ no_rows (length catalog.now.bases)) }

@@ -13,7 +13,7 @@ use Rattle.std.specs.Prelude.{nat_eq}
 use Rattle.sq_lex.specs.declared.symbol.Symbol.TheVariants as symbol
 use Rattle.sq_grammar.specs.Reads.{Stops}
 use Rattle.sq_grammar.specs.declared.stop.Stop.TheVariants.{Unfit}
-use Rattle.sq_grammar.proofs.Stops.{stops_here}
+use Rattle.sq_grammar.proofs.Ends.Stops.{stops_here}
 use Rattle.sq_grammar.specs.Expr.{bracketed, column, primary_at, symbol_primary, word_primary}
 
 split : (ts : Tokens) (l : Lexeme) → first_of Some ts ≡ Some l → ts ≡ l ∷ rest ts

@@ -143,7 +143,7 @@ impl<F: Fn(Global, &mut Reader<'_>, usize) -> Result<CondOrExpr<Cond>, Stop>> Gr
     }
 
     /// The tests behind the first, each behind an AND.
-    #[tactic(auto, using(sq_grammar::proofs::Many::loops))]
+    #[tactic(auto, using(sq_grammar::proofs::Reading::Many::loops))]
     fn more_tests(&self, tokens: &mut Reader<'_>) -> Result<Items<Test>, Stop>
         requires { Nests spec.inside self.now.left (F.pre self.now.inner) (F.post self.now.inner) }
         ensures value { Reads
@@ -197,7 +197,7 @@ impl<F: Fn(Global, &mut Reader<'_>, usize) -> Result<CondOrExpr<Cond>, Stop>> Gr
     }
 
     /// The AND lists behind the first, each behind an OR.
-    #[tactic(auto, using(sq_grammar::proofs::Many::loops))]
+    #[tactic(auto, using(sq_grammar::proofs::Reading::Many::loops))]
     fn more_conjs(&self, tokens: &mut Reader<'_>) -> Result<Items<Conj>, Stop>
         requires { Nests spec.inside self.now.left (F.pre self.now.inner) (F.post self.now.inner) }
         ensures value { Reads

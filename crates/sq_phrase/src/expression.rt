@@ -217,7 +217,7 @@ impl<F: Fn(Global, &mut Reader<'_>, usize) -> Result<Expr, Stop>> Grammar<F> {
         Ok(Some(Scaled { sign, factor }))
     }
 
-    #[tactic(auto, using(sq_grammar::proofs::Many::loops))]
+    #[tactic(auto, using(sq_grammar::proofs::Reading::Many::loops))]
     fn all_scaled(&self, tokens: &mut Reader<'_>) -> Result<Items<Scaled>, Stop>
         requires { Nests spec.inside self.now.left (F.pre self.now.inner) (F.post self.now.inner) }
         ensures value { Reads
@@ -263,7 +263,7 @@ impl<F: Fn(Global, &mut Reader<'_>, usize) -> Result<Expr, Stop>> Grammar<F> {
         Ok(Some(Added { sign, term }))
     }
 
-    #[tactic(auto, using(sq_grammar::proofs::Many::loops))]
+    #[tactic(auto, using(sq_grammar::proofs::Reading::Many::loops))]
     fn all_added(&self, tokens: &mut Reader<'_>) -> Result<Items<Added>, Stop>
         requires { Nests spec.inside self.now.left (F.pre self.now.inner) (F.post self.now.inner) }
         ensures value { Reads

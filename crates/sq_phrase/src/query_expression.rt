@@ -96,7 +96,7 @@ impl<F: Fn(Global, &mut Reader<'_>, usize) -> Result<Query, Stop>> Grammar<F> {
     }
 
     /// The query terms behind the first, each behind a UNION.
-    #[tactic(auto, using(sq_grammar::proofs::Many::loops))]
+    #[tactic(auto, using(sq_grammar::proofs::Reading::Many::loops))]
     fn more_terms(&self, tokens: &mut Reader<'_>) -> Result<Items<UnionTerm>, Stop>
         requires nests { Nests spec.inside self.now.left (F.pre self.now.inner) (F.post self.now.inner) }
         requires small { self.now.left ≤ MAX_DEPTH }

@@ -255,7 +255,7 @@ fn is_brought_to(kind: Kind, value: &Value) -> bool
 }
 
 /// Whether a number has a scale.
-#[tactic(auto, using(crate::proofs::BroughtRows::number_stays))]
+#[tactic(auto, using(crate::proofs::ByUnion::BroughtRows::number_stays))]
 fn is_at_scale(number: Decimal, scale: u8) -> bool
     ensures { IsTrue result
         → meaning.brought_to (Num scale) (Value.Num number) ≡ Ok (Value.Num number) }
@@ -288,7 +288,7 @@ fn brought_to(column: ResultColumn, value: Value, alloc: Global) -> Result<Value
     }
 }
 
-#[tactic(auto, using(crate::proofs::Bringable::bounded_scale))]
+#[tactic(auto, using(crate::proofs::ByUnion::Bringable::bounded_scale))]
 fn number_brought_to(column: ResultColumn, number: Decimal) -> Result<Value, Fault>
     ensures { MayBeBrought column.kind (Value.Num number)
         → Meets result (meaning.brought_to column.kind (Value.Num number)) }
@@ -299,7 +299,7 @@ fn number_brought_to(column: ResultColumn, number: Decimal) -> Result<Value, Fau
     }
 }
 
-#[tactic(auto, using(crate::proofs::Bringable::bounded_length))]
+#[tactic(auto, using(crate::proofs::ByUnion::Bringable::bounded_length))]
 fn text_brought_to(column: ResultColumn, text: Text, alloc: Global) -> Result<Value, Fault>
     ensures { Meets result (meaning.brought_to column.kind (Value.Chars text)) }
 {

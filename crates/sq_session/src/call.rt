@@ -64,7 +64,7 @@ pub(crate) fn call<S: Store>(
 }
 
 /// Performs a statement of a procedure.
-#[tactic(auto, using(crate::proofs::Ending::done_right))]
+#[tactic(auto, using(crate::proofs::Calls::Ending::done_right))]
 fn perform_statement<S: Store>(
     alloc: Global,
     catalog: &Catalog,
@@ -102,7 +102,7 @@ fn perform_statement<S: Store>(
 }
 
 /// Stores the values in the parameters, and performs a statement that may read them.
-#[tactic(auto, using(crate::proofs::After::left_whole))]
+#[tactic(auto, using(crate::proofs::Lasting::After::left_whole))]
 fn with_values<S: Store>(
     alloc: Global,
     catalog: &Catalog,

@@ -26,7 +26,7 @@ use sq_store::{Meter, Store};
 
 impl<S: Store> Machine<S> {
     /// INSERT (13.8).
-    #[tactic(auto, using(crate::proofs::Ending::done_right))]
+    #[tactic(auto, using(crate::proofs::Calls::Ending::done_right))]
     pub(crate) fn insert(
         &mut self,
         called: &Called<'_>,
@@ -57,7 +57,7 @@ impl<S: Store> Machine<S> {
     }
 
     /// UPDATE (13.9, 13.10).
-    #[tactic(auto, using(crate::proofs::Ending::done_right, crate::proofs::Ending::invalid_right))]
+    #[tactic(auto, using(crate::proofs::Calls::Ending::done_right, crate::proofs::Calls::Ending::invalid_right))]
     pub(crate) fn update(
         &mut self,
         called: &Called<'_>,
@@ -101,7 +101,7 @@ impl<S: Store> Machine<S> {
     }
 
     /// DELETE (13.6, 13.7). After a positioned DELETE the cursor is before the next row.
-    #[tactic(auto, using(crate::proofs::Ending::done_right, crate::proofs::Ending::invalid_right))]
+    #[tactic(auto, using(crate::proofs::Calls::Ending::done_right, crate::proofs::Calls::Ending::invalid_right))]
     pub(crate) fn delete(
         &mut self,
         called: &Called<'_>,

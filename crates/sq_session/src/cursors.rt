@@ -20,7 +20,7 @@ pub(crate) fn closed_cursors(alloc: Global, count: usize) -> Result<Vec<CursorSt
 }
 
 /// Closes all cursors.
-#[tactic(auto, using(crate::proofs::Closed::closed_none, crate::proofs::Closed::closed_next, crate::proofs::Closed::closed_whole))]
+#[tactic(auto, using(crate::proofs::OpenCursors::Closed::closed_none, crate::proofs::OpenCursors::Closed::closed_next, crate::proofs::OpenCursors::Closed::closed_whole))]
 pub(crate) fn close_all(cursors: &mut [CursorState])
     ensures { cursors.new ≡ all_closed cursors.old }
 {

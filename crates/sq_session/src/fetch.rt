@@ -30,7 +30,7 @@ use sq_value::Row;
 
 /// FETCH of the cursor with this number. Where retrieving ends with a status, the cursor stays on the row that it
 /// reached.
-#[tactic(auto, using(crate::proofs::Put::put_same, crate::proofs::Over::as_many))]
+#[tactic(auto, using(crate::proofs::OpenCursors::Put::put_same, crate::proofs::OpenCursors::Over::as_many))]
 pub(crate) fn fetch_at<S: Store>(
     called: &Called<'_>,
     fetch: &BoundFetch,
@@ -89,7 +89,7 @@ fn fetch_cursor<S: Store>(
 }
 
 /// FETCH of a cursor over rows.
-#[tactic(auto, using(crate::proofs::Ending::no_row_right, crate::proofs::Coming::row_taken))]
+#[tactic(auto, using(crate::proofs::Calls::Ending::no_row_right, crate::proofs::Fetching::Coming::row_taken))]
 fn fetch_row(
     called: &Called<'_>,
     fetch: &BoundFetch,
@@ -117,7 +117,7 @@ fn fetch_row(
 }
 
 /// FETCH of an updatable cursor: the next number under which there is a row now, and that row as it is now.
-#[tactic(auto, using(crate::proofs::Ending::no_row_right, crate::proofs::Over::numbers_updatable, crate::proofs::Over::numbers_there))]
+#[tactic(auto, using(crate::proofs::Calls::Ending::no_row_right, crate::proofs::OpenCursors::Over::numbers_updatable, crate::proofs::OpenCursors::Over::numbers_there))]
 fn fetch_number<S: Store>(
     called: &Called<'_>,
     fetch: &BoundFetch,
@@ -156,7 +156,7 @@ fn fetch_number<S: Store>(
 }
 
 /// FETCH of a cursor that walks.
-#[tactic(auto, using(crate::proofs::Ending::no_row_right, crate::proofs::Over::walk_updatable))]
+#[tactic(auto, using(crate::proofs::Calls::Ending::no_row_right, crate::proofs::OpenCursors::Over::walk_updatable))]
 fn fetch_walk<S: Store>(
     called: &Called<'_>,
     fetch: &BoundFetch,

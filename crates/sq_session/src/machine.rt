@@ -68,7 +68,7 @@ impl<S: Store> Machine<S> {
     }
 
     /// OPEN (13.2).
-    #[tactic(auto, using(crate::proofs::Over::as_many))]
+    #[tactic(auto, using(crate::proofs::OpenCursors::Over::as_many))]
     pub(crate) fn open(
         &mut self,
         called: &Called<'_>,
@@ -149,7 +149,7 @@ impl<S: Store> Machine<S> {
     }
 
     /// CLOSE (13.4).
-    #[tactic(auto, using(crate::proofs::Ending::done_right))]
+    #[tactic(auto, using(crate::proofs::Calls::Ending::done_right))]
     pub(crate) fn close(&mut self, alloc: Global, number: usize) -> Result<Done, Fault>
         requires { number < length self.old.cursors }
         ensures step { IfSome (ending result) (λ d. MayClose number self.old d self.new) }

@@ -27,7 +27,7 @@ use sq_query::{numbers_of, ordered_rows};
 use sq_store::{Meter, Store};
 
 /// OPEN of the cursor with this number, which is closed.
-#[tactic(auto, using(crate::proofs::Ending::done_right, crate::proofs::Over::as_many))]
+#[tactic(auto, using(crate::proofs::Calls::Ending::done_right, crate::proofs::OpenCursors::Over::as_many))]
 pub(crate) fn open_closed<S: Store>(
     called: &Called<'_>,
     number: usize,
@@ -127,7 +127,7 @@ fn opened_over_rows<S: Store>(
 }
 
 /// An updatable cursor: a walk where its conditions are quiet, else the numbers of its rows.
-#[tactic(auto, using(crate::proofs::Opened::target_walked, crate::proofs::Opened::target_listed, crate::proofs::Metering::walk_opened, crate::proofs::Metering::numbers_found))]
+#[tactic(auto, using(crate::proofs::OpenCursors::Opened::target_walked, crate::proofs::OpenCursors::Opened::target_listed, crate::proofs::Calls::Metering::walk_opened, crate::proofs::Calls::Metering::numbers_found))]
 fn opened_over<S: Store>(
     called: &Called<'_>,
     target: &Target,
@@ -156,7 +156,7 @@ fn opened_over<S: Store>(
 }
 
 /// A walk of a base table.
-#[tactic(auto, using(crate::proofs::Opened::over_walk))]
+#[tactic(auto, using(crate::proofs::OpenCursors::Opened::over_walk))]
 fn opened_walk<S: Store>(called: &Called<'_>, table: usize, store: &S) -> Result<CursorState, Fault>
     requires { table < length (S.content_now store.now) }
     ensures opened { HasOpened (Over.walk table) (λ opened. ⊤) called.now.values.now

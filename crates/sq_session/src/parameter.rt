@@ -30,7 +30,7 @@ pub(crate) fn all_fit(alloc: Global, parameters: &[ParameterDesc], values: &[Val
 }
 
 /// Whether the value is null or one that the parameter can store.
-#[tactic(auto, using(crate::proofs::Fitting::text_kept, crate::proofs::Fitting::text_cut))]
+#[tactic(auto, using(crate::proofs::Parameters::Fitting::text_kept, crate::proofs::Parameters::Fitting::text_cut))]
 fn fits(alloc: Global, parameter: ParameterDesc, value: &Value) -> bool
     ensures { result ≡ fits_in parameter.domain value.now }
 {
@@ -47,7 +47,7 @@ fn fits(alloc: Global, parameter: ParameterDesc, value: &Value) -> bool
 }
 
 /// Whether the parameter can store the number.
-#[tactic(auto, using(crate::proofs::Fitting::number_stored, crate::proofs::Fitting::number_unfit))]
+#[tactic(auto, using(crate::proofs::Parameters::Fitting::number_stored, crate::proofs::Parameters::Fitting::number_unfit))]
 fn number_fits(alloc: Global, parameter: ParameterDesc, number: &Value) -> bool
     requires { takes_memory number.now ≡ false }
     ensures { result ≡ fits_in parameter.domain number.now }
@@ -86,7 +86,7 @@ pub fn started_values(
 }
 
 /// What is handed in, stored; null starts a parameter at zero, at blanks or at the empty text (own rule).
-#[tactic(auto, using(crate::proofs::Started::starts_null, crate::proofs::Started::starts_stored, crate::proofs::Fitting::kind_fits, crate::proofs::Fitting::is_stored))]
+#[tactic(auto, using(crate::proofs::Parameters::Started::starts_null, crate::proofs::Parameters::Started::starts_stored, crate::proofs::Parameters::Fitting::kind_fits, crate::proofs::Parameters::Fitting::is_stored))]
 fn started_value(
     alloc: Global,
     parameter: ParameterDesc,

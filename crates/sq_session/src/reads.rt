@@ -13,7 +13,7 @@ use sq_bound::{
 };
 
 /// Whether a condition of the target, or of the views in between, reads a column that is assigned to.
-#[tactic(auto, using(crate::proofs::Assigned::own_reads, crate::proofs::Unread::unread))]
+#[tactic(auto, using(crate::proofs::Walks::Assigned::own_reads, crate::proofs::Walks::Unread::unread))]
 pub(crate) fn target_reads(target: &Target, assignments: &[BoundAssignment]) -> bool
     ensures reads { result ≡ one_reads assignments.now (conditions_of target.now) }
     ensures unread { result ≡ false → AreUnread assignments.now (conditions_of target.now) }
@@ -61,7 +61,7 @@ fn term_reads(term: &BoundConj, assignments: &[BoundAssignment]) -> bool
 
 /// Whether a predicate reads a column that is assigned to; with a subquery it is taken to read every column.
 #[cycle(cond_reads)]
-#[tactic(auto, using(crate::proofs::Assigned::predicate_levels))]
+#[tactic(auto, using(crate::proofs::Walks::Assigned::predicate_levels))]
 fn predicate_reads(predicate: &Predicate, assignments: &[BoundAssignment]) -> bool
     ensures { result ≡ cond_reads assignments.now (predicate_of [] predicate.now) }
 {
@@ -107,7 +107,7 @@ fn escape_reads(escape: &Option<BoundExpr>, assignments: &[BoundAssignment]) -> 
 
 /// Whether an expression reads a column that is assigned to. A condition on rows has no set function.
 #[cycle(expr_reads)]
-#[tactic(auto, using(crate::proofs::Assigned::expr_levels))]
+#[tactic(auto, using(crate::proofs::Walks::Assigned::expr_levels))]
 fn expr_reads(expr: &BoundExpr, assignments: &[BoundAssignment]) -> bool
     ensures { result ≡ expr_reads assignments.now (expr_of [] expr.now) }
 {

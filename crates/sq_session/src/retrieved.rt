@@ -52,7 +52,7 @@ impl<'a> RetrievedRow<'a> {
 }
 
 /// The value in the column at a place of a list.
-#[tactic(auto, using(crate::proofs::Shown::column_there))]
+#[tactic(auto, using(crate::proofs::Fetching::Shown::column_there))]
 fn value_in<'a>(values: &'a [Value], columns: &[usize], place: usize) -> &'a Value
     requires there { place < length columns.now }
     requires columns { are_positions (length values.now) columns.now ≡ true }

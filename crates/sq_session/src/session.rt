@@ -130,7 +130,7 @@ impl<S: Store> Session<S> {
     }
 
     /// A session of bound modules.
-    #[tactic(auto, using(crate::proofs::Over::start_over, crate::proofs::Kept::start_kept, crate::proofs::Holding::wide_where_in))]
+    #[tactic(auto, using(crate::proofs::OpenCursors::Over::start_over, crate::proofs::OpenCursors::Kept::start_kept, crate::proofs::Lasting::Holding::wide_where_in))]
     fn with_program(
         alloc: Global,
         catalog: Catalog,
@@ -196,7 +196,7 @@ impl<S: Store> Session<S> {
     /// Makes one call of the procedure with this number, with these values for its named parameters in the order in
     /// which they are declared. If its statement has a fault, the status is 42000. If memory runs out, the session is
     /// as it was.
-    #[tactic(auto, using(crate::proofs::Failed::kept_by_failure, crate::proofs::Metering::told))]
+    #[tactic(auto, using(crate::proofs::Calls::Failed::kept_by_failure, crate::proofs::Calls::Metering::told))]
     pub fn call(
         &mut self,
         alloc: Global,
@@ -244,7 +244,7 @@ impl<S: Store> Session<S> {
 
     /// The rows of the base table of this owner and name as they are now, with their numbers; `None` if there is no
     /// such base table.
-    #[tactic(auto, using(crate::proofs::Holding::as_many_tables, crate::proofs::Holding::as_many_names))]
+    #[tactic(auto, using(crate::proofs::Lasting::Holding::as_many_tables, crate::proofs::Lasting::Holding::as_many_names))]
     pub fn rows(&self, user: Name, name: Name) -> Option<TableRows<'_, S>>
         ensures { result ≡ rows_named self.now user name }
     {

@@ -38,7 +38,7 @@ struct Assignments {
 }
 
 /// Sets the targets from a row, from left to right. Where one ends with a status, none is set.
-#[tactic(auto, using(crate::proofs::Ending::set_right))]
+#[tactic(auto, using(crate::proofs::Calls::Ending::set_right))]
 pub(crate) fn row_retrieved(
     called: &Called<'_>,
     targets: &[sq_bound::Output],
@@ -149,7 +149,7 @@ fn first_to(assignments: &[Assignment], place: usize) -> Option<usize>
 }
 
 /// The assignments to the targets and their indicators, from left to right.
-#[tactic(auto, using(crate::proofs::Targets::target_there))]
+#[tactic(auto, using(crate::proofs::Parameters::Targets::target_there))]
 fn assignments_of(
     called: &Called<'_>,
     targets: &[sq_bound::Output],
@@ -178,7 +178,7 @@ fn assignments_of(
 
 impl Assignments {
     /// Sets a target and its indicator.
-    #[tactic(auto, using(crate::proofs::Targets::domain_is, crate::proofs::Taken::fits_known))]
+    #[tactic(auto, using(crate::proofs::Parameters::Targets::domain_is, crate::proofs::Parameters::Taken::fits_known))]
     fn set(
         &mut self,
         alloc: Global,

@@ -125,7 +125,7 @@ impl<'a> Walk<'a> {
 
 /// The row with the key that the target names, if its number is in `from..mark` and the target means it. The
 /// target means no other row.
-#[tactic(auto, using(sq_query::proofs::KnownKeys::counted_at_most))]
+#[tactic(auto, using(sq_query::proofs::Keys::KnownKeys::counted_at_most))]
 fn chosen_by_key<'s, S: Store>(
     walk: &Walk<'_>,
     store: &'s S,

@@ -34,7 +34,7 @@ pub(crate) struct ListedCursor {
 }
 
 /// The lists of all walking cursors whose conditions read what an UPDATE changes.
-#[tactic(auto, using(crate::proofs::Over::as_many))]
+#[tactic(auto, using(crate::proofs::OpenCursors::Over::as_many))]
 pub(crate) fn listed_walks<S: Store>(
     called: &Called<'_>,
     statement: &BoundUpdate,

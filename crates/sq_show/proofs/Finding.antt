@@ -18,7 +18,7 @@ use Rattle.sq_bound.specs.declared.statement.ChangeTarget.TheVariants as target
 use Rattle.sq_module.specs.Program.{OpensWellFormed}
 use Rattle.sq_module.specs.declared.program.DeclaredCursor.{DeclaredCursor}
 use Rattle.sq_query.specs.Needed.{FindsCond, FindsConds}
-use Rattle.sq_query.proofs.Finds.{cond_finds, leaf_finds}
+use Rattle.sq_query.proofs.Needs.Finds.{cond_finds, leaf_finds}
 use Rattle.sq_change.specs.Made.{Seen}
 use Rattle.sq_session.specs.Kind.{body_at}
 use Rattle.sq_session.specs.Schemas.{Schemas}

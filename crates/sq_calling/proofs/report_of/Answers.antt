@@ -1,3 +1,4 @@
+-- Left open for report_of: the clauses report and fault; answered without a law.
 -- The report is what the output has taken: nothing before the run, and all of the writer after it.
 use Rattle.std.proofs.Common.{Some, [], Ok, Err, ap, subst, sym, ◌∙◌}
 use Rattle.sq_run.specs.Texts.{texts}

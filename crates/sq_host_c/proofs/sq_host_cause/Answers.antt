@@ -1,3 +1,4 @@
+-- Left open for sq_host_cause: its result; answered by laws of sq_host.
 use Rattle.sq_host.specs.Calls.{machine_of, made_last}
 use Rattle.sq_host.specs.Host.{leads_to}
 use Rattle.sq_host.specs.Told.{CauseTold}

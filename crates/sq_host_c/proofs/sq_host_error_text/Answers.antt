@@ -1,3 +1,4 @@
+-- Left open for sq_host_error_text: the clause answer; answered by laws of std.
 use Rattle.std.proofs.Common.{◌≡◌, ◌∙◌, ap, refl, Bool, true, false, length, nat_lt, of_z, to_z, w32}
 use Rattle.std.proofs.lemmas.Int.{to_z-of_z}
 use Rattle.std.specs.Prelude.{if◌then◌else◌}

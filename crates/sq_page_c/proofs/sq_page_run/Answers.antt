@@ -1,3 +1,4 @@
+-- Left open for sq_page_run: its result; answered by Showing.
 use Rattle.sq_run.specs.Answer.{answered}
 use Rattle.sq_page_c.specs.Outcome.{IsOutcome}
 use Rattle.sq_page_c.specs.Texts.{pieces}

@@ -1,3 +1,4 @@
+-- Left open for sq_page_steps: its result; answered by Showing.
 use Rattle.sq_run.specs.Answer.{answered}
 use Rattle.sq_page_c.specs.Outcome.{IsSteps}
 use Rattle.sq_page_c.specs.Texts.{pieces}

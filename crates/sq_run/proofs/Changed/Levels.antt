@@ -31,7 +31,7 @@ use Rattle.sq_binding.specs.Scope.{item_named}
 use Rattle.sq_binding.specs.Names.{leaf_positions}
 use Rattle.sq_binding.specs.Written.{IsShownAt, leaf_item}
 use Rattle.sq_query.specs.Target.{and_own}
-use Rattle.sq_change.proofs.RowsChanged.{all_unmapped}
+use Rattle.sq_change.proofs.Changes.RowsChanged.{all_unmapped}
 use Rattle.sq_run.proofs.Places.Databases.{in_database}
 use Rattle.sq_run.proofs.Places.Items.{IsFit, names_at_leaf, names_of_columns, names_over, over_in_order}
 use Rattle.sq_run.proofs.Places.Outcomes.{append_zip, known_of, same_length}

@@ -18,7 +18,7 @@ use Rattle.sq_store.specs.declared.table.Numbered.{Numbered}
 use Rattle.sq_meaning.specs.Environment.{Row}
 use Rattle.sq_meaning.specs.Rows.{same_row}
 use Rattle.sq_meaning.specs.Constraints.{has_null}
-use Rattle.sq_binding.proofs.Names.{alike as bool_same}
+use Rattle.sq_binding.proofs.Schemas.Names.{alike as bool_same}
 use Rattle.sq_catalog.specs.References.{are_listed, paired_with}
 
 -- ---- lists

@@ -34,7 +34,7 @@ use Rattle.sq_bound.specs.declared.condition.BoundSpecification.{BoundSpecificat
 use Rattle.sq_bound.specs.declared.names.BaseTable.{BaseTable as BoundTable}
 use Rattle.sq_bound.specs.declared.names.Column.{Column}
 use Rattle.sq_bound.specs.declared.names.Reference.{Reference as BoundReference}
-use Rattle.sq_binding.proofs.Levels.{all_at}
+use Rattle.sq_binding.proofs.Standing.Levels.{all_at}
 use Rattle.sq_run.proofs.Laws.CallLaws.{NamesDiffer}
 use Rattle.sq_run.proofs.Laws.NameLaws.{accepted_names_differ}
 use Rattle.sq_catalog.specs.Catalog.{HaveReferences, declared_definitions, declared_tables, is_table, number_meant}
@@ -43,7 +43,7 @@ use Rattle.sq_catalog.specs.Declares.{Declares}
 use Rattle.sq_catalog.specs.Keys.{names_written}
 use Rattle.sq_catalog.specs.References.{AreListed, HasReferencesOf, IsReferenceOf, ReferentialConstraint, references_written}
 use Rattle.sq_catalog.specs.declared.catalog.FullName.{FullName}
-use Rattle.sq_catalog.proofs.WrittenRules.{columns_are_written, names_are_written, reference_of, references_are_written}
+use Rattle.sq_catalog.proofs.CreateTable.WrittenRules.{columns_are_written, names_are_written, reference_of, references_are_written}
 use Rattle.sq_change.specs.Constraints.{is_met_in, reference_met_in, references_met}
 use Rattle.sq_run.proofs.Places.Items.{names_of_columns}
 use Rattle.sq_run.proofs.Places.Outcomes.{same_length}

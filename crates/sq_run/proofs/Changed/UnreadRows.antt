@@ -31,7 +31,7 @@ use Rattle.sq_session.specs.Kind.{conditions_in}
 use Rattle.sq_session.specs.Reads.{AreAlike, is_assigned, one_reads}
 use Rattle.sq_session.specs.Walk.{is_meant, numbers_meant, rows_between, rows_from}
 use Rattle.sq_session.specs.declared.walk.WalkingCursor.{WalkingCursor}
-use Rattle.sq_session.proofs.Unread.{unread}
+use Rattle.sq_session.proofs.Walks.Unread.{unread}
 use Rattle.sq_run.proofs.Changed.Changes.{base_is_under}
 use Rattle.sq_run.proofs.Places.Outcomes.{each_so, if_any, if_each, if_one, if_then, known_of}
 use Rattle.sq_run.proofs.Changed.RowsAgain.{all_there, all_within, row_among}

@@ -40,7 +40,7 @@ use Rattle.sq_expression.specs.Frame.{inputs_of}
 use Rattle.sq_query.specs.Key.{HaveValues, StandsOn}
 use Rattle.sq_query.specs.Keyed.{AreKnownEqual, IsKeyedBy, IsKnownValue}
 use Rattle.sq_query.specs.Row as row
-use Rattle.sq_query.proofs.KeyValues.{all_contained, first_tests_valued}
+use Rattle.sq_query.proofs.Keys.KeyValues.{all_contained, first_tests_valued}
 use Rattle.sq_run.proofs.Places.Items.{IsInOrder}
 use Rattle.sq_run.proofs.Metering.KeyedTests.{IsPlacedTest, item_names, placed_tests, tests_joined, tests_placed, value_known}
 use Rattle.sq_run.proofs.Places.Outcomes.{known_of, ok_same}

@@ -47,8 +47,8 @@ use Rattle.sq_module.specs.declared.program.DeclaredCursor.{DeclaredCursor}
 use Rattle.sq_module.specs.declared.program.Program.{Program}
 use Rattle.sq_expression.specs.Frame.{inputs_of}
 use Rattle.sq_query.specs.Keyed.{IsKeyedTarget, IsKeyedUnder}
-use Rattle.sq_session.proofs.Over.{over_there}
-use Rattle.sq_session.proofs.QuietWalks.{body_fits}
+use Rattle.sq_session.proofs.OpenCursors.Over.{over_there}
+use Rattle.sq_session.proofs.Walks.QuietWalks.{body_fits}
 use Rattle.sq_session.specs.Cursors.{is_over}
 use Rattle.sq_session.specs.Kind.{Over, fetching, over_of, target_in}
 use Rattle.sq_session.specs.Metered.{FetchReadsFrom}

@@ -22,7 +22,7 @@ use Rattle.sq_bound.specs.declared.names.ParameterDesc.{ParameterDesc}
 use Rattle.sq_binding.specs.Scope.{FromItem}
 use Rattle.sq_catalog.specs.Keys.{StandAt}
 use Rattle.sq_expression.specs.Frame.{inputs_of}
-use Rattle.sq_query.proofs.KnownKeys.{same_some}
+use Rattle.sq_query.proofs.Keys.KnownKeys.{same_some}
 use Rattle.sq_run.proofs.Places.Items.{IsInOrder}
 use Rattle.sq_run.proofs.Metering.KeyedTests.{IsKnownTest, IsPlacedTest, item_names, test_known, test_names}
 use Rattle.sq_run.proofs.Places.Outcomes.{same_length}

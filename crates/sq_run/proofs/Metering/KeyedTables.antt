@@ -32,7 +32,7 @@ use Rattle.sq_catalog.specs.Catalog.{base_meant, itself}
 use Rattle.sq_catalog.specs.Columns.{IsColumnOf}
 use Rattle.sq_catalog.specs.Declares.{Declares}
 use Rattle.sq_catalog.specs.Keys.{KeysStandAt, StandAt, keys_written, names_written}
-use Rattle.sq_catalog.proofs.WrittenRules.{columns_are_written, keys_are_written, names_are_written}
+use Rattle.sq_catalog.proofs.CreateTable.WrittenRules.{columns_are_written, keys_are_written, names_are_written}
 use Rattle.sq_run.proofs.Places.Databases.{table_is}
 use Rattle.sq_run.proofs.Places.Items.{IsInOrder, columns_at_leaf, names_at_leaf, names_of_columns}
 use Rattle.sq_run.proofs.Laws.Accepted.{AreAccepted, IsAccepted, accepted_elements, keys_good}

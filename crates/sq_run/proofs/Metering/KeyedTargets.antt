@@ -40,7 +40,7 @@ use Rattle.sq_run.proofs.Sites.ConditionSites.{ClauseSpellsNoNull}
 use Rattle.sq_catalog.specs.Declares.{Declares}
 use Rattle.sq_expression.specs.Frame.{inputs_of}
 use Rattle.sq_query.specs.Keyed.{IsKeyedTarget}
-use Rattle.sq_query.proofs.KeyValues.{own_stands}
+use Rattle.sq_query.proofs.Keys.KeyValues.{own_stands}
 use Rattle.sq_run.proofs.Places.Items.{IsInOrder}
 use Rattle.sq_run.proofs.Metering.KeyedTests.{item_names}
 use Rattle.sq_run.proofs.Places.Parameters.{SameInputs}

@@ -33,7 +33,7 @@ use Rattle.sq_bound.specs.declared.statement.BoundStatement.TheVariants as bound
 use Rattle.sq_module.specs.Written.{IsDeclaredFrom, IsNumberOf, IsStatementIn}
 use Rattle.sq_module.specs.declared.program.DeclaredCursor.{DeclaredCursor}
 use Rattle.sq_module.specs.declared.program.Program.{Program}
-use Rattle.sq_session.proofs.Over.{as_many, over_there}
+use Rattle.sq_session.proofs.OpenCursors.Over.{as_many, over_there}
 use Rattle.sq_session.specs.Cursors.{is_over}
 use Rattle.sq_session.specs.Fetch.{next_walked, over_walk, shown_fetched, walked_to}
 use Rattle.sq_session.specs.Kind.{Fetching, fetching, kind_of, opening, over_at}

@@ -32,14 +32,14 @@ use Rattle.sq_binding.specs.Written.{HasRowsOf, IsCursorOf, IsSortedBy, IsUpdata
 use Rattle.sq_module.specs.declared.program.DeclaredCursor.{DeclaredCursor}
 use Rattle.sq_query.specs.Table.{AreMeant}
 use Rattle.sq_query.specs.Target.{conditions_of, is_true_of, numbers_chosen}
-use Rattle.sq_query.proofs.KeyedRows.{there_so}
+use Rattle.sq_query.proofs.Keys.KeyedRows.{there_so}
 use Rattle.sq_session.specs.Cursors.{MayKeep, is_over_table}
 use Rattle.sq_session.specs.Kind.{Over, conditions_in, over_of}
 use Rattle.sq_session.specs.Open.{IsMeant, IsOpenOver}
 use Rattle.sq_session.specs.Schemas.{Schemas, columns_of}
 use Rattle.sq_session.specs.Walk.{is_meant}
 use Rattle.sq_session.specs.declared.cursor.CursorState.{CursorState}
-use Rattle.sq_session.proofs.QuietWalks.{are_under, quiet_with}
+use Rattle.sq_session.proofs.Walks.QuietWalks.{are_under, quiet_with}
 use Rattle.sq_run.proofs.Places.Databases.{IsDatabase}
 use Rattle.sq_run.proofs.Places.Parameters.{AreNamed}
 use Rattle.sq_run.proofs.Changed.RowsAgain.{itself}

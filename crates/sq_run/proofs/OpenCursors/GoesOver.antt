@@ -13,7 +13,7 @@ use Rattle.sq_session.specs.Schemas.{Schemas}
 use Rattle.sq_session.specs.State.{State}
 use Rattle.sq_session.specs.Step.{MayStep}
 use Rattle.sq_session.specs.declared.reply.Done.{Done}
-use Rattle.sq_session.proofs.StaysOver.{stays_over}
+use Rattle.sq_session.proofs.Lasting.StaysOver.{stays_over}
 
 module _ (ds : List DeclaredCursor) (row_numbers : ℕ) (keys : List Keys) where
   abbrev pub GoesOver : State → Type 0

@@ -24,9 +24,9 @@ use Rattle.sq_bound.proofs.QuietRows as quiet
 use Rattle.sq_expression.specs.Frame.{inputs_of}
 use Rattle.sq_query.specs.Row.{outside}
 use Rattle.sq_query.specs.Target.{are_true, chosen, conditions_of, is_true_of, numbers_chosen}
-use Rattle.sq_query.proofs.KeyedRows.{both_are, inputs_are}
-use Rattle.sq_query.proofs.QuietTargets.{are_plain}
-use Rattle.sq_query.proofs.TargetSearch.{truth_there}
+use Rattle.sq_query.proofs.Keys.KeyedRows.{both_are, inputs_are}
+use Rattle.sq_query.proofs.Targets.QuietTargets.{are_plain}
+use Rattle.sq_query.proofs.Targets.TargetSearch.{truth_there}
 use Rattle.sq_session.specs.Walk.{AreRowsUnder, IsQuietWith, is_meant, is_yes, no_tables}
 use Rattle.sq_run.proofs.Sites.NoTables.{plain_same}
 use Rattle.sq_run.proofs.OpenCursors.WalkLeft.{all_kept}

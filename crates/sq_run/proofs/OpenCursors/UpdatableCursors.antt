@@ -20,7 +20,7 @@ use Rattle.sq_binding.specs.NumberedCondition.{NumberedSelect}
 use Rattle.sq_binding.specs.Outcome.{and_then}
 use Rattle.sq_binding.specs.Select.{Surroundings}
 use Rattle.sq_binding.specs.Whole.{at_first, permitted, whole}
-use Rattle.sq_binding.proofs.Clean.{steps_of}
+use Rattle.sq_binding.proofs.Faultless.Clean.{steps_of}
 use Rattle.sq_binding.specs.SeenQuery.{rows_seen}
 use Rattle.sq_run.proofs.OpenCursors.CursorOpens.{IsUpdatableAs}
 use Rattle.sq_meaning.specs.Tables.{Declared}

@@ -23,7 +23,7 @@ use Rattle.sq_catalog.specs.Base.{IsBaseOf}
 use Rattle.sq_catalog.specs.Catalog.{base_meant, itself, kinds_at}
 use Rattle.sq_catalog.specs.Columns.{AreBaseColumnsOf, HasColumnsOf, IsBaseColumnOf, IsColumnOf}
 use Rattle.sq_catalog.specs.declared.catalog.FullName.{FullName}
-use Rattle.sq_catalog.proofs.WrittenRules.{columns_are_written}
+use Rattle.sq_catalog.proofs.CreateTable.WrittenRules.{columns_are_written}
 use Rattle.sq_run.proofs.Places.Databases.{IsDeclaredAs}
 use Rattle.sq_run.proofs.Changed.Levels.{width_at}
 use Rattle.sq_run.proofs.Places.Outcomes.{same_length}

@@ -22,7 +22,7 @@ use Rattle.sq_catalog.specs.Base.{IsBaseOf}
 use Rattle.sq_catalog.specs.Columns.{AreBaseColumnsOf, IsBaseColumnOf, IsColumnOf}
 use Rattle.sq_catalog.specs.Keys.{KeysStandAt, StandAt, keys_written, names_written}
 use Rattle.sq_catalog.specs.Written.{is_not_null_constraint}
-use Rattle.sq_catalog.proofs.WrittenRules.{checks_are_written, columns_are_written, keys_are_written, names_are_written}
+use Rattle.sq_catalog.proofs.CreateTable.WrittenRules.{checks_are_written, columns_are_written, keys_are_written, names_are_written}
 use Rattle.sq_run.proofs.Changed.Checks.{IsCondOfRow, IsRowCheckedAs}
 use Rattle.sq_run.proofs.Changed.NotNull.{AreFoundFrom, is_not_null, refuses_null}
 use Rattle.sq_run.proofs.Places.Outcomes.{weaker_zip}

@@ -20,7 +20,7 @@ use Rattle.sq_bound.specs.WellFormed.{base_kinds}
 use Rattle.sq_bound.specs.declared.names.BaseTable.{BaseTable as BoundTable}
 use Rattle.sq_run.proofs.Laws.CallLaws.{NamesDiffer}
 use Rattle.sq_catalog.specs.Columns.{AreBaseColumnsOf}
-use Rattle.sq_catalog.proofs.WrittenRules.{columns_are_written}
+use Rattle.sq_catalog.proofs.CreateTable.WrittenRules.{columns_are_written}
 use Rattle.sq_run.proofs.Schemas.DeclaredColumns.{kinds_held}
 use Rattle.sq_run.proofs.Schemas.DeclaredTables.{IsBaseAs}
 

@@ -16,7 +16,7 @@ use Rattle.sq_bound.specs.Known.{KnownTables}
 use Rattle.sq_bound.specs.declared.condition.BoundSpecification.{BoundSpecification}
 use Rattle.sq_bound.specs.declared.names.BaseTable.{BaseTable as BoundTable}
 use Rattle.sq_bound.specs.declared.names.Column.{Column}
-use Rattle.sq_binding.proofs.Levels.{all_at}
+use Rattle.sq_binding.proofs.Standing.Levels.{all_at}
 use Rattle.sq_catalog.specs.Base.{AreBasesOf, IsBaseOf}
 use Rattle.sq_catalog.specs.Catalog.{SeenView, base_meant, declared_definitions, declared_tables, known_at, known_first, named_by, table_number, view_meant}
 use Rattle.sq_catalog.specs.Columns.{HasColumnsOf}

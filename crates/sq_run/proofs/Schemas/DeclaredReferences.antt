@@ -18,11 +18,11 @@ use Rattle.sq_meaning.specs.Spelled.{listed, listed_if_any}
 use Rattle.sq_meaning.specs.Schema.{has_name_twice, primary_keys, referenced_columns, table_columns}
 use Rattle.sq_meaning.specs.Words.{has_twice}
 use Rattle.sq_bound.specs.declared.names.Reference.{Reference as BoundReference}
-use Rattle.sq_binding.proofs.Levels.{all_at}
+use Rattle.sq_binding.proofs.Standing.Levels.{all_at}
 use Rattle.sq_run.proofs.Sites.SiteLaws.{neither, none_passes}
 use Rattle.sq_catalog.specs.Keys.{KeysStandAt, StandAt, keys_written, names_written, primary_among, primary_columns, primaries}
 use Rattle.sq_catalog.specs.References.{AreListed, IsToKey, are_listed, is_key_of, key_referenced}
-use Rattle.sq_catalog.proofs.WrittenRules.{names_are_written, primaries_are_written}
+use Rattle.sq_catalog.proofs.CreateTable.WrittenRules.{names_are_written, primaries_are_written}
 use Rattle.sq_run.proofs.Steps.Unnamed.{WrittenKey}
 use Rattle.sq_run.proofs.Schemas.DeclaredStatements.{zip_back}
 use Rattle.sq_run.proofs.Changed.PairedColumns.{AreOnce}

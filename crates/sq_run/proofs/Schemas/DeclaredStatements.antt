@@ -28,7 +28,7 @@ use Rattle.sq_bound.specs.declared.condition.BoundSpecification.{BoundSpecificat
 use Rattle.sq_bound.specs.declared.condition.TablePlace.{TablePlace}
 use Rattle.sq_bound.specs.declared.names.BaseTable.{BaseTable as BoundTable}
 use Rattle.sq_bound.specs.declared.names.Leaf.{Leaf}
-use Rattle.sq_binding.proofs.Levels.{all_at}
+use Rattle.sq_binding.proofs.Standing.Levels.{all_at}
 use Rattle.sq_binding.specs.Names.{meant_by}
 use Rattle.sq_run.proofs.Laws.CallLaws.{NamesDiffer}
 use Rattle.sq_run.proofs.Laws.NameLaws.{accepted_names_differ}

@@ -23,7 +23,7 @@ use Rattle.sq_catalog.specs.Catalog.{declared_definitions, declared_tables, defi
 use Rattle.sq_catalog.specs.Columns.{AreBaseColumnsOf}
 use Rattle.sq_catalog.specs.Declares.{Declares}
 use Rattle.sq_catalog.specs.declared.catalog.FullName.{FullName}
-use Rattle.sq_catalog.proofs.WrittenRules.{columns_are_written}
+use Rattle.sq_catalog.proofs.CreateTable.WrittenRules.{columns_are_written}
 use Rattle.sq_run.proofs.Changed.Checks.{IsCondOfRow}
 use Rattle.sq_run.proofs.Sites.ChecksRead.{checks_read_row}
 use Rattle.sq_run.proofs.Changed.Statements.{IsTableAs}

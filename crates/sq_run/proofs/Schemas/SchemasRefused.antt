@@ -13,11 +13,11 @@ use Rattle.sq_meaning.specs.Syntax.{Clause, Cond, Conds, Expr, Select, SelectLis
 use Rattle.sq_meaning.specs.Schema.{checks}
 use Rattle.sq_meaning.specs.SchemaRefusal.{Part, elements_of, first_schema_refusal, schema_parts}
 use Rattle.sq_binding.specs.Declaring.{catalog_of}
-use Rattle.sq_binding.proofs.Refused.{DeclaresAs, IsPlain, IsPlainPart, catalog_told, refusal_in, refused_exactly, users_behind}
-use Rattle.sq_binding.proofs.CondFaults.{ClauseSpellsNoNull, CondSpellsNoNull, CondsSpellNoNull, SelectSpellsNoNull}
-use Rattle.sq_binding.proofs.FoundKinds.{SpellsNoNull}
-use Rattle.sq_binding.proofs.PredicateFaults.{EscapeSpellsNoNull}
-use Rattle.sq_binding.proofs.SelectFaults.{ListSpellsNoNull}
+use Rattle.sq_binding.proofs.Schemas.Refused.{DeclaresAs, IsPlain, IsPlainPart, catalog_told, refusal_in, refused_exactly, users_behind}
+use Rattle.sq_binding.proofs.FaultsFound.CondFaults.{ClauseSpellsNoNull, CondSpellsNoNull, CondsSpellNoNull, SelectSpellsNoNull}
+use Rattle.sq_binding.proofs.FaultsFound.FoundKinds.{SpellsNoNull}
+use Rattle.sq_binding.proofs.FaultsFound.PredicateFaults.{EscapeSpellsNoNull}
+use Rattle.sq_binding.proofs.FaultsFound.SelectFaults.{ListSpellsNoNull}
 use Rattle.sq_run.proofs.Sites.CondLiterals.{cond_spells, select_spells}
 use Rattle.sq_run.proofs.Sites.ConditionSites as laws
 use Rattle.sq_run.proofs.Sites.ExpressionSites as exprs

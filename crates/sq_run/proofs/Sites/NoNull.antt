@@ -19,12 +19,12 @@ use Rattle.sq_run.proofs.Sites.ExprLiterals.{expr_spells}
 use Rattle.sq_run.proofs.Sites.QueryLiterals.{query_spells}
 use Rattle.sq_run.proofs.Sites.QuerySites as laws
 use Rattle.sq_binding.specs.Changeable.{UserNames}
-use Rattle.sq_binding.proofs.RowsTold.{WhereSpellsNoNull}
-use Rattle.sq_binding.proofs.SourceTold.{SourceSpellsNoNull}
-use Rattle.sq_binding.proofs.StatementAccepted.{StatementSpellsNoNull}
-use Rattle.sq_binding.proofs.UnionFaults.{QuerySpellsNoNull}
-use Rattle.sq_binding.proofs.UpdateAccepted.{SetSpellsNoNull}
-use Rattle.sq_binding.proofs.ValuesTold.{ValueSpellsNoNull}
+use Rattle.sq_binding.proofs.Exactly.RowsTold.{WhereSpellsNoNull}
+use Rattle.sq_binding.proofs.Exactly.SourceTold.{SourceSpellsNoNull}
+use Rattle.sq_binding.proofs.Exactly.StatementAccepted.{StatementSpellsNoNull}
+use Rattle.sq_binding.proofs.FaultsFound.UnionFaults.{QuerySpellsNoNull}
+use Rattle.sq_binding.proofs.Exactly.UpdateAccepted.{SetSpellsNoNull}
+use Rattle.sq_binding.proofs.Exactly.ValuesTold.{ValueSpellsNoNull}
 use Rattle.sq_run.proofs.Schemas.SchemasRefused.{cond_too, expr_too, select_too}
 
 query_too : (q : Query Named) → laws.QuerySpellsNoNull q → QuerySpellsNoNull q

@@ -46,7 +46,7 @@ use Rattle.sq_bound.specs.declared.statement.ChangeTarget.{ChangeTarget}
 use Rattle.sq_bound.specs.declared.statement.ChangeTarget.TheVariants as change
 use Rattle.sq_binding.specs.Written.{IsTargetOf, filter_placed}
 use Rattle.sq_bound.specs.Condition.{PlacedClause}
-use Rattle.sq_binding.proofs.Names.{position_at}
+use Rattle.sq_binding.proofs.Schemas.Names.{position_at}
 use Rattle.sq_module.specs.Program.{FitsProcedure, OpensWellFormed, ProcedureOpens}
 use Rattle.sq_module.specs.Written.{IsDeclaredFrom, IsFromTexts, IsNumberOf, IsStatementIn}
 use Rattle.sq_module.specs.declared.program.BoundProcedure.{BoundProcedure}

@@ -25,16 +25,16 @@ use Rattle.sq_binding.specs.Cursor.{cursor_bound}
 use Rattle.sq_binding.specs.Outcome.{Outcome}
 use Rattle.sq_binding.specs.Procedure.{procedure_bound}
 use Rattle.sq_binding.specs.Statement.{NumberedStatement}
-use Rattle.sq_binding.proofs.ChangedTold.{TablesFit}
-use Rattle.sq_binding.proofs.CursorKnown.{cursor_known}
-use Rattle.sq_binding.proofs.InsertAccepted.{HoldsFit}
-use Rattle.sq_binding.proofs.Privileges.{ReadsFit}
-use Rattle.sq_binding.proofs.ProcedureAccepted.{UserKnows, procedure_accepted}
-use Rattle.sq_binding.proofs.UpdatableRule.{ColumnsFit}
+use Rattle.sq_binding.proofs.Exactly.ChangedTold.{TablesFit}
+use Rattle.sq_binding.proofs.OneTable.CursorKnown.{cursor_known}
+use Rattle.sq_binding.proofs.Exactly.InsertAccepted.{HoldsFit}
+use Rattle.sq_binding.proofs.AtSites.Privileges.{ReadsFit}
+use Rattle.sq_binding.proofs.Exactly.ProcedureAccepted.{UserKnows, procedure_accepted}
+use Rattle.sq_binding.proofs.OneTable.UpdatableRule.{ColumnsFit}
 use Rattle.sq_binding.specs.Catalog.{Catalog, names_of}
 use Rattle.sq_binding.specs.Declaring.{catalog_of}
-use Rattle.sq_binding.proofs.Catalogs.{columns_fit_all, holds_fit_all, judged, not_refused, tables_fit_all, user_fits_all}
-use Rattle.sq_binding.proofs.Refused.{IsPlainPart}
+use Rattle.sq_binding.proofs.Schemas.Catalogs.{columns_fit_all, holds_fit_all, judged, not_refused, tables_fit_all, user_fits_all}
+use Rattle.sq_binding.proofs.Schemas.Refused.{IsPlainPart}
 use Rattle.sq_binder.specs.declared.stop.Fault.{Fault}
 use Rattle.sq_binding.specs.SeenQuery.{cursor_seen, over_table}
 use Rattle.sq_catalog.specs.UserTables.{without_conditions, without_conditions_under}

@@ -34,7 +34,7 @@ use Rattle.sq_session.specs.declared.cursor.CursorState.{CursorState}
 use Rattle.sq_session.specs.declared.cursor.CursorState.TheVariants as cursor
 use Rattle.sq_session.specs.declared.cursor.RowsCursor.{RowsCursor}
 use Rattle.sq_session.specs.declared.reply.Done.{Done}
-use Rattle.sq_session.proofs.Over.{as_numbers, over_quiet}
+use Rattle.sq_session.proofs.OpenCursors.Over.{as_numbers, over_quiet}
 use Rattle.sq_run.proofs.Sites.Stars.{QueryStars, SelectStars}
 use Rattle.sq_run.proofs.Changed.TargetsSet.{AreApart}
 use Rattle.sq_run.proofs.Places.BoundTarget.{target_bound}

@@ -20,7 +20,7 @@ use Rattle.sq_meaning.specs.declared.refusal.ModuleFault.{ModuleFault}
 use Rattle.sq_meaning.specs.declared.refusal.ModuleFault.TheVariants as module_fault
 use Rattle.sq_meaning.specs.Schema.{is_among}
 use Rattle.sq_meaning.specs.Words.{first_some, is_some_and}
-use Rattle.sq_change.proofs.RowsChanged.{all_unmapped}
+use Rattle.sq_change.proofs.Changes.RowsChanged.{all_unmapped}
 
 -- ---- lists
 

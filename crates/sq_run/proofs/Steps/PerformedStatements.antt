@@ -56,7 +56,7 @@ use Rattle.sq_module.specs.Program.{OpensWellFormed}
 use Rattle.sq_module.specs.Written.{Declare, IsDeclaredFrom, IsNumberOf, IsStatementIn}
 use Rattle.sq_module.specs.declared.program.DeclaredCursor.{DeclaredCursor}
 use Rattle.sq_module.specs.declared.program.Program.{Program}
-use Rattle.sq_session.proofs.QuietWalks.{body_fits}
+use Rattle.sq_session.proofs.Walks.QuietWalks.{body_fits}
 use Rattle.sq_session.specs.Cursors.{are_over, is_over}
 use Rattle.sq_session.specs.Kind.{Kind, caller_of, delete_kind, kind_of, over_of, read_parameters, update_kind, updating}
 use Rattle.sq_session.specs.Parameter.{started_values}

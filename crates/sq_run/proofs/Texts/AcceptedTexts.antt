@@ -12,10 +12,10 @@ use Rattle.sq_tree.specs.Script.{script_tokens, script_depth}
 use Rattle.sq_tree.specs.declared.«module».ModuleText.{ModuleText}
 use Rattle.sq_tree.specs.declared.schema.SchemaText.{SchemaText}
 use Rattle.sq_tree.specs.declared.script.ScriptText.{ScriptText}
-use Rattle.sq_grammar.proofs.OneModule.{one_module_text}
-use Rattle.sq_grammar.proofs.OneSchema.{one_schema_text}
-use Rattle.sq_grammar.proofs.OneScript.{one_script_text}
-use Rattle.sq_grammar.proofs.Spells.{whole_is}
+use Rattle.sq_grammar.proofs.Unique.OneModule.{one_module_text}
+use Rattle.sq_grammar.proofs.Unique.OneSchema.{one_schema_text}
+use Rattle.sq_grammar.proofs.Unique.OneScript.{one_script_text}
+use Rattle.sq_grammar.proofs.Sound.Spells.{whole_is}
 use Rattle.sq_grammar.specs.Reading.{Outcome, Parser, whole}
 use Rattle.sq_meaning.specs.ModuleRefusal.{first_module_refusal}
 use Rattle.sq_meaning.specs.Schema.{Elements}

@@ -22,7 +22,7 @@ use Rattle.sq_meaning.specs.declared.refusal.ScriptFault.{ScriptFault}
 use Rattle.sq_meaning.specs.declared.refusal.ScriptFault.TheVariants as fault
 use Rattle.sq_binding.specs.Catalog.{Catalog}
 use Rattle.sq_binding.specs.Declaring.{catalog_of}
-use Rattle.sq_binding.proofs.Refused.{refusal_in}
+use Rattle.sq_binding.proofs.Schemas.Refused.{refusal_in}
 use Rattle.sq_run.specs.Answer.{Task, accepted_modules, accepted_schemas, accepted_script, accepted_unless, and_then, answered, asked_of, refused_module, accepted_program, refused_as, refused_text, refused_schema, script_fault_name, refused_script, task_of, trees_of}
 use Rattle.sq_perform.specs.Read.{ReadText, module_rule, read_text, schema_rule, script_rule}
 use Rattle.sq_perform.specs.Refusal.{IsOfModules, IsOfSchema, IsFirstModule, IsTokenOf, Matter, Tokens, Grammar, Depth, Meaning, OneRefused, StandsAt, matter, module_fault, refused_part, refused_start, schema_fault, script_fault}

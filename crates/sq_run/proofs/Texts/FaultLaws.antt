@@ -9,7 +9,7 @@ use Rattle.sq_meaning.specs.Machine.{Call, first_state, replied}
 use Rattle.sq_meaning.specs.Report.{Bytes}
 use Rattle.sq_meaning.specs.Run.{RunItem, after, after_item, program_of}
 use Rattle.sq_bound.specs.Known.{KnownTables}
-use Rattle.sq_binding.proofs.Names.{position_at}
+use Rattle.sq_binding.proofs.Schemas.Names.{position_at}
 use Rattle.sq_module.specs.declared.program.Program.{Program}
 use Rattle.sq_session.specs.Kind.{kind_at}
 use Rattle.sq_session.specs.Schemas.{Schemas}

@@ -6,8 +6,8 @@ use Rattle.sq_tree.specs.Schema.{schema_tokens, schema_depth}
 use Rattle.sq_tree.specs.Module.{module_tokens, module_depth}
 use Rattle.sq_tree.specs.declared.«module».ModuleText.{ModuleText}
 use Rattle.sq_tree.specs.declared.schema.SchemaText.{SchemaText}
-use Rattle.sq_grammar.proofs.OneModule.{one_module_text}
-use Rattle.sq_grammar.proofs.OneSchema.{one_schema_text}
+use Rattle.sq_grammar.proofs.Unique.OneModule.{one_module_text}
+use Rattle.sq_grammar.proofs.Unique.OneSchema.{one_schema_text}
 use Rattle.sq_meaning.specs.Report.{Bytes}
 use Rattle.sq_perform.specs.Texts.{AllSpell, SpellsTree}
 

@@ -11,12 +11,12 @@ use Rattle.sq_tree.specs.Script.{script_tokens, script_depth}
 use Rattle.sq_grammar.specs.Reading.{Outcome, Parser, end_of, whole}
 use Rattle.sq_grammar.specs.Reading as grammar
 use Rattle.sq_grammar.specs.declared.brackets.TheConstants.{MAX_DEPTH}
-use Rattle.sq_grammar.proofs.Takes.{Takes}
-use Rattle.sq_grammar.proofs.TextTakes.{module_taken, schema_taken, script_taken}
-use Rattle.sq_grammar.proofs.Spells.{Sound}
-use Rattle.sq_grammar.proofs.ModuleSound.{module_sound}
-use Rattle.sq_grammar.proofs.SchemaSound.{schema_sound}
-use Rattle.sq_grammar.proofs.ScriptSound.{script_sound}
+use Rattle.sq_grammar.proofs.Taken.Takes.{Takes}
+use Rattle.sq_grammar.proofs.Taken.TextTakes.{module_taken, schema_taken, script_taken}
+use Rattle.sq_grammar.proofs.Sound.Spells.{Sound}
+use Rattle.sq_grammar.proofs.Sound.ModuleSound.{module_sound}
+use Rattle.sq_grammar.proofs.Sound.SchemaSound.{schema_sound}
+use Rattle.sq_grammar.proofs.Sound.ScriptSound.{script_sound}
 use Rattle.sq_meaning.specs.Report.{Bytes}
 use Rattle.sq_run.specs.Answer.{and_then, read_texts, trees_of}
 use Rattle.sq_perform.specs.Read.{ReadText, module_rule, of_outcome, of_tokens, read_text, refusal_at, refusal_of, schema_rule, script_rule, start_of}

@@ -18,7 +18,7 @@ use Rattle.sq_tree.specs.Script.{script_tokens, script_depth}
 use Rattle.sq_tree.specs.declared.«module».ModuleText.{ModuleText}
 use Rattle.sq_tree.specs.declared.schema.SchemaText.{SchemaText}
 use Rattle.sq_tree.specs.declared.script.ScriptText.{ScriptText}
-use Rattle.sq_grammar.proofs.Refused.{Deepens, refused_deep}
+use Rattle.sq_grammar.proofs.Taken.Refused.{Deepens, refused_deep}
 use Rattle.sq_grammar.specs.Brackets.{is_too_deep}
 use Rattle.sq_grammar.specs.Reading.{Outcome, Parser, whole}
 use Rattle.sq_meaning.proofs.AnswerLaws.{all_flat_mapped, all_mapped}

@@ -19,7 +19,7 @@ use Rattle.sq_meaning.specs.Parameter.{Reply as MachineReply}
 use Rattle.sq_meaning.specs.Report.{Bytes, call_line, item_lines, report, shown_table, table_lines}
 use Rattle.sq_meaning.specs.Run.{after_item, program_of}
 use Rattle.sq_bound.specs.Known.{KnownTables}
-use Rattle.sq_binding.proofs.Names.{position_at}
+use Rattle.sq_binding.proofs.Schemas.Names.{position_at}
 use Rattle.sq_catalog.specs.Catalog.{declared_definitions, declared_tables, is_table, table_number}
 use Rattle.sq_catalog.specs.declared.catalog.FullName.{FullName}
 use Rattle.sq_module.specs.declared.program.Program.{Program}

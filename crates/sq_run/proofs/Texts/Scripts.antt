@@ -28,7 +28,7 @@ use Rattle.sq_meaning.specs.Script as rules
 use Rattle.sq_meaning.specs.Words.{first_some}
 use Rattle.sq_meaning.specs.declared.refusal.ScriptFault.{ScriptFault}
 use Rattle.sq_meaning.specs.declared.refusal.ScriptFault.TheVariants as fault
-use Rattle.sq_binding.proofs.Names.{position_at}
+use Rattle.sq_binding.proofs.Schemas.Names.{position_at}
 use Rattle.sq_catalog.specs.Catalog.{declared_definitions, declared_tables, is_table, table_number}
 use Rattle.sq_catalog.specs.declared.catalog.FullName.{FullName}
 use Rattle.sq_module.specs.Program.{declared_procedures, module_procedures}

@@ -4,8 +4,8 @@ use Rattle.std.proofs.Common.{◌≡◌, ℕ, zero, suc, ◌<◌, Bool, true, fa
 use Rattle.std.proofs.lemmas.Bool.{ltb-true, ltb-false}
 use Rattle.sq_lex.specs.declared.lexeme.Lexeme.{Lexeme}
 use Rattle.sq_grammar.specs.Reading.{Tokens, Outcome, Parser, ◌>>=◌, and_then, pure, all, turn, with_front}
-use Rattle.sq_grammar.proofs.Many.{all-none, all-err, all-some, all-turn}
-use Rattle.sq_grammar.proofs.Spells.{ok_pair}
+use Rattle.sq_grammar.proofs.Reading.Many.{all-none, all-err, all-some, all-turn}
+use Rattle.sq_grammar.proofs.Sound.Spells.{ok_pair}
 
 -- Two lists of tokens that a reading which stops before them does not tell apart. It does not where their first two tokens are the same.
 pub record Looks (Same : Tokens → Tokens → Type 0) : Type 0 where

@@ -2,7 +2,7 @@
 use Rattle.std.proofs.Common.{◌≡◌, ℕ, ◌+◌, ◌-◌, [], ◌∷◌, ◌++◌, length, take, Ok, Err, refl, sym, ◌∙◌, ap, arith, append-nil, length-append, inl, inr, ◌⊎◌}
 use Rattle.std.proofs.Math.Seq.{take-append_seam}
 use Rattle.sq_grammar.specs.Reading.{Tokens, Outcome, Parser, and_then, end_of, whole}
-use Rattle.sq_grammar.proofs.Spells.{Sound}
+use Rattle.sq_grammar.proofs.Sound.Spells.{Sound}
 use Rattle.sq_run.proofs.Tokens.Ahead.{err_is}
 use Rattle.sq_run.proofs.Tokens.Viable.{Filled, Inside, Starts, Viable}
 use Rattle.sq_run.proofs.Tokens.ModuleViable.{End}

@@ -21,7 +21,7 @@ use Rattle.sq_grammar.specs.Reading.{Tokens, Parser, ◌>>=◌, ◌>>◌, and_th
 use Rattle.sq_grammar.specs.Expr as expressions
 use Rattle.sq_grammar.specs.Expr.{expr, close}
 use Rattle.sq_grammar.specs.Cond.{comparison_of, compared_if_any, sees_query, only_cond, must_be_cond, null_tail, inner_query, subquery, compared_expr, compared_query, by_compared, comparison_tail, between_tail, in_tail, like_tail, no_tail, by_like, by_in, by_between, negatable_tail, by_is, by_comparison, tail, tailed, predicate_from, by_inner, bracket, by_exists, body, tested, test_at, must_be_test, conjoined, conj, must_be_conj, disjoined, level, inside, cond as condition, query_specification}
-use Rattle.sq_grammar.proofs.Ranks.{is_token-is}
+use Rattle.sq_grammar.proofs.Reading.Ranks.{is_token-is}
 use Rattle.sq_run.proofs.Tokens.Final.{Final, bind, done, never, by_bool, by_option, eaten, opening, or_token, if_comes, if_one, then, must, seeing, alike, rows, commas}
 use Rattle.sq_run.proofs.Tokens.ExprFinal.{closed, scales, adds, inner_exprs, exprs, exprs_from}
 use Rattle.sq_run.proofs.Tokens.SelectFinal.{specifications}

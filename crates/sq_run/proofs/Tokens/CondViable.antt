@@ -14,8 +14,8 @@ use Rattle.sq_grammar.specs.Reading.{Tokens, Outcome, Parser, ◌>>=◌, ◌>>�
 use Rattle.sq_grammar.specs.Expr as expressions
 use Rattle.sq_grammar.specs.Expr.{expr, close}
 use Rattle.sq_grammar.specs.Cond.{must_be_cond, null_tail, inner_query, subquery, compared_expr, by_compared}
-use Rattle.sq_grammar.proofs.Follows.{EndsBare, EndsTable, ends_expr, ends_table}
-use Rattle.sq_grammar.proofs.Ranks.{is_token-is}
+use Rattle.sq_grammar.proofs.Ends.Follows.{EndsBare, EndsTable, ends_expr, ends_table}
+use Rattle.sq_grammar.proofs.Reading.Ranks.{is_token-is}
 use Rattle.sq_run.proofs.Tokens.Ahead.{err_is}
 use Rattle.sq_run.proofs.Tokens.Final.{Final}
 use Rattle.sq_run.proofs.Tokens.CondFinal.{behind_bracket, bracket_opens, by_bracket, first_factor, first_primary, first_sum, first_term, no_bracket}

@@ -17,8 +17,8 @@ use Rattle.sq_grammar.specs.declared.cond_or_expr.CondOrExpr.TheVariants as came
 use Rattle.sq_grammar.specs.Reading.{Tokens, Outcome, Parser, ◌>>=◌, and_then, pure, eat, opening_bracket, expect, sees, one_if_any, all, behind}
 use Rattle.sq_grammar.specs.Expr.{expr, expr_from, close}
 use Rattle.sq_grammar.specs.Cond.{comparison_of, only_cond, must_be_cond, null_tail, subquery, by_like, by_in, by_between, negatable_tail, by_is, by_comparison, tail, tailed, predicate_from, by_inner, bracket, by_open, by_exists, body, tested, test_at, must_be_test, conjoined, conj, must_be_conj, disjoined, level, inside, cond as condition, query_specification}
-use Rattle.sq_grammar.proofs.Follows.{EndsExpr, ends_expr}
-use Rattle.sq_grammar.proofs.Spells.{ok_pair}
+use Rattle.sq_grammar.proofs.Ends.Follows.{EndsExpr, ends_expr}
+use Rattle.sq_grammar.proofs.Sound.Spells.{ok_pair}
 use Rattle.sq_run.proofs.Tokens.Ahead.{err_is}
 use Rattle.sq_run.proofs.Tokens.Final.{Final}
 use Rattle.sq_run.proofs.Tokens.CondFinal.{inner_conds}
@@ -30,8 +30,8 @@ use Rattle.sq_run.proofs.Tokens.CondViable.{AfterCond, close_cond, subqueries, s
 use Rattle.sq_tree.specs.declared.cond.Body.TheVariants as bodies
 use Rattle.sq_tree.specs.declared.cond.Conj.{roll-Conj}
 use Rattle.sq_tree.specs.declared.cond.Cond.{roll-Cond}
-use Rattle.sq_grammar.proofs.Many.{all-none}
-use Rattle.sq_grammar.proofs.Takes.{none_behind}
+use Rattle.sq_grammar.proofs.Reading.Many.{all-none}
+use Rattle.sq_grammar.proofs.Taken.Takes.{none_behind}
 use Rattle.sq_run.proofs.Tokens.Ahead.{bind_ok}
 use Rattle.sq_run.proofs.Tokens.ExprViable.{expr_rests}
 use Rattle.sq_run.proofs.Tokens.Viable.{Filled, Inside, Kept, Next}

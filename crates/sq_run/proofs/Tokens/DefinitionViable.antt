@@ -8,8 +8,8 @@ use Rattle.sq_tree.specs.declared.schema.SchemaElement.{SchemaElement}
 use Rattle.sq_tree.specs.declared.schema.SchemaDefinition.{SchemaDefinition}
 use Rattle.sq_grammar.specs.Reading.{Tokens, Outcome, Parser, ◌>>=◌, ◌>>◌, and_then, pure, eat, expect, sees, rest as without_first, is_token, name, all}
 use Rattle.sq_grammar.specs.Schema.{element, schema_definition}
-use Rattle.sq_grammar.proofs.Ranks.{is_token-is}
-use Rattle.sq_grammar.proofs.Spells.{ok_pair}
+use Rattle.sq_grammar.proofs.Reading.Ranks.{is_token-is}
+use Rattle.sq_grammar.proofs.Sound.Spells.{ok_pair}
 use Rattle.sq_run.proofs.Tokens.Ahead.{bind_ok, err_is}
 use Rattle.sq_run.proofs.Tokens.Final.{SameFirst}
 use Rattle.sq_run.proofs.Tokens.Viable.{Any, Begun, Inside, KeptBy, NextBy, Not, Starts, ViableBy, begun, expected, eats_expect, mapped_starts, must_starts, starts_with, then_part_by, uneaten, whole_first}

@@ -15,8 +15,8 @@ use Rattle.sq_tree.specs.declared.expr.SetFunction.TheVariants as function
 use Rattle.sq_grammar.specs.Reading.{Tokens, Parser, ◌>>=◌, pure, eat, sees, one_if_any, name_of, number_of, text_of, all}
 use Rattle.sq_grammar.specs.Names.{sign_if_any}
 use Rattle.sq_grammar.specs.Expr.{times_if_any, quantifier_if_any, function_of, star_of, close, argument_of, set_function, bracketed, by_function, by_user, by_colon, by_name, by_text, by_number, primary_at, factor, scaled_by, scaled_factor, term, added_by, added_term, level, level_from, inside, expr, expr_from}
-use Rattle.sq_grammar.proofs.Many.{all-none}
-use Rattle.sq_grammar.proofs.Follows.{EndsExpr, ends_expr}
+use Rattle.sq_grammar.proofs.Reading.Many.{all-none}
+use Rattle.sq_grammar.proofs.Ends.Follows.{EndsExpr, ends_expr}
 use Rattle.sq_run.proofs.Tokens.Viable.{Any, Begins, Begun, Blank, Eats, Not, Starts, Viable, begun, blank, blanks, done, done_starts, eats_expect, eats_first, eats_if_comes, eats_if_one, eats_next, from, if_begun, if_comes, if_one, mapped, mapped_starts, must, must_starts, never, never_eats, not_begun, not_starts, one_starts, opening, opening_starts, rows, rows_start, starts_with, then_part, then_some}
 use Rattle.sq_run.proofs.Tokens.NamesViable.{closing, column_blank, column_tails, digit_sign_blank, digit_signs, one_digit, parameter_tail_begun, parameter_tails, signs}
 

@@ -4,7 +4,7 @@ use Rattle.sq_lex.specs.declared.lexeme.Lexeme.{Lexeme}
 use Rattle.sq_lex.specs.declared.lexeme.Lexeme.TheVariants as lexeme
 use Rattle.sq_lex.specs.declared.symbol.Symbol.TheVariants as symbol
 use Rattle.sq_grammar.specs.Reading.{Tokens, Outcome, Parser, ◌>>=◌, pure, stuck, eat, expect, opening_bracket, is_token, token_if_any, one_of, one_if_any, taken, taken_if_any, name_of, number_of, name, number, behind, comma, comma_separated, all, end_of}
-use Rattle.sq_grammar.proofs.Spells.{ok_pair}
+use Rattle.sq_grammar.proofs.Sound.Spells.{ok_pair}
 use Rattle.sq_run.proofs.Tokens.Ahead.{Ahead, Looks, Read, Stuck, again, bound, err_is}
 
 -- both have a first token, and it is the same

@@ -8,8 +8,8 @@ use Rattle.sq_lex.specs.declared.symbol.Symbol.TheVariants as symbol
 use Rattle.sq_grammar.specs.declared.brackets.TheConstants.{MAX_DEPTH}
 use Rattle.sq_grammar.specs.Reading.{Tokens, Parser, sees, whole}
 use Rattle.sq_grammar.specs.Brackets.{open_brackets, is_too_deep}
-use Rattle.sq_grammar.proofs.Takes.{Takes}
-use Rattle.sq_grammar.proofs.Refused.{Deepens, refused_deep}
+use Rattle.sq_grammar.proofs.Taken.Takes.{Takes}
+use Rattle.sq_grammar.proofs.Taken.Refused.{Deepens, refused_deep}
 use Rattle.sq_run.proofs.Tokens.Ahead.{Stuck}
 use Rattle.sq_run.proofs.Tokens.Final.{Final, bind, ended}
 

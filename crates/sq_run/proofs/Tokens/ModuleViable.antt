@@ -9,7 +9,7 @@ use Rattle.sq_grammar.specs.Reading.{Tokens, ◌>>=◌, pure, eat, name, number_
 use Rattle.sq_tree.specs.declared.module.Declaration.TheVariants.{Parameter}
 use Rattle.sq_grammar.specs.DataType.{data_type}
 use Rattle.sq_grammar.specs.Module.{by_sqlstate, by_sqlcode, by_colon, declaration_if_any, declared, declaration, uncommaed, by_comma, bare_declaration, by_open, declarations, procedure, by_number, sort_key, direction_if_any, sort_specification, by_sorts, order_by, ordered_query, cursor, by_procedure, by_declare, item, module_text}
-use Rattle.sq_grammar.proofs.Follows.{ends_expr, ends_table}
+use Rattle.sq_grammar.proofs.Ends.Follows.{ends_expr, ends_table}
 use Rattle.sq_run.proofs.Tokens.Viable.{Any, Begins, Begun, Blank, Not, Starts, Viable, alike, alike_starts, begun, behind_it, blank, blanks, commas, commas_start, comes_starts, done, done_starts, eaten, eats_expect, eats_first, eats_next, eats_one, from, if_comes, if_one, mapped, mapped_starts, must, must_starts, never, not_begun, not_starts, one_starts, rows, rows_start, starts_with, then_part, then_some, uneaten}
 use Rattle.sq_run.proofs.Tokens.NamesViable.{closing, name_starts, names, one_digit}
 use Rattle.sq_run.proofs.Tokens.DataTypeViable.{data_type_begun, data_types}

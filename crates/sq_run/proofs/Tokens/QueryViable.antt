@@ -8,8 +8,8 @@ use Rattle.sq_tree.specs.declared.query.Query.{Query}
 use Rattle.sq_grammar.specs.Reading.{Tokens, Parser, sees, behind}
 use Rattle.sq_grammar.specs.Cond.{query_specification}
 use Rattle.sq_grammar.specs.Query.{bracketed, bracketed_term, query_term, union_term, level, inside, query}
-use Rattle.sq_grammar.proofs.Many.{all-none}
-use Rattle.sq_grammar.proofs.Takes.{none_behind}
+use Rattle.sq_grammar.proofs.Reading.Many.{all-none}
+use Rattle.sq_grammar.proofs.Taken.Takes.{none_behind}
 use Rattle.sq_run.proofs.Tokens.Viable.{Any, Begins, Begun, Eats, Not, Starts, Viable, begun, behind_it, done, done_starts, eaten, eats_expect, eats_first, eats_next, eats_seeing, from, mapped, mapped_starts, must, must_starts, never, never_eats, not_begun, opening, rows, rows_start, seeing, starts_with, then_part, then_some, uneaten}
 use Rattle.sq_run.proofs.Tokens.NamesViable.{closing}
 use Rattle.sq_run.proofs.Tokens.ExprViable.{expr_begun}

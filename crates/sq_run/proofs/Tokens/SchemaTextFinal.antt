@@ -11,9 +11,9 @@ use Rattle.sq_tree.specs.declared.schema.SchemaDefinition.{SchemaDefinition}
 use Rattle.sq_tree.specs.declared.schema.SchemaText.{SchemaText}
 use Rattle.sq_grammar.specs.Reading.{Tokens, Outcome, Parser, ◌>>=◌, ◌>>◌, and_then, pure, eat, expect, sees, rest as without_first, is_token, behind, all, turn, with_front, whole, end_of}
 use Rattle.sq_grammar.specs.Schema.{sees_created, by_table, created, nothing, by_grant, element, schema_definition, next_definition, schema_text}
-use Rattle.sq_grammar.proofs.Many.{all-turn}
-use Rattle.sq_grammar.proofs.Ranks.{is_token-is}
-use Rattle.sq_grammar.proofs.Spells.{ok_pair}
+use Rattle.sq_grammar.proofs.Reading.Many.{all-turn}
+use Rattle.sq_grammar.proofs.Reading.Ranks.{is_token-is}
+use Rattle.sq_grammar.proofs.Sound.Spells.{ok_pair}
 use Rattle.sq_run.proofs.Tokens.Ahead.{Ahead, Clear, ClearOf, Looks, Read, Stuck, again, again_clear, bind_ok, bound, bound_stops, err_is, same_behind, same_stuck}
 use Rattle.sq_run.proofs.Tokens.Final.{Final, SameFirst, looks_at_one, bind, done, either, eaten, expected, ended, a_name, if_comes, must}
 use Rattle.sq_run.proofs.Tokens.SchemaFinal.{table_definitions, view_definitions, grants}

@@ -8,9 +8,9 @@ use Rattle.sq_tree.specs.Schema.{schema_tokens, schema_depth}
 use Rattle.sq_grammar.specs.declared.brackets.TheConstants.{MAX_DEPTH}
 use Rattle.sq_grammar.specs.Reading.{Tokens, Outcome, Parser, ◌>>=◌, and_then, pure, eat, expect, sees, rest as without_first, all, with_front, whole, end_of}
 use Rattle.sq_grammar.specs.Schema.{schema_definition, next_definition, schema_text}
-use Rattle.sq_grammar.proofs.Many.{all-err, all-none, all-some}
-use Rattle.sq_grammar.proofs.SchemaSound.{schema_sound}
-use Rattle.sq_grammar.proofs.Takes.{none_behind}
+use Rattle.sq_grammar.proofs.Reading.Many.{all-err, all-none, all-some}
+use Rattle.sq_grammar.proofs.Sound.SchemaSound.{schema_sound}
+use Rattle.sq_grammar.proofs.Taken.Takes.{none_behind}
 use Rattle.sq_run.proofs.Tokens.Ahead.{err_is}
 use Rattle.sq_run.proofs.Tokens.Final.{SameFirst}
 use Rattle.sq_run.proofs.Tokens.Viable.{Inside, NextBy}

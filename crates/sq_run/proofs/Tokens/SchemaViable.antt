@@ -8,10 +8,10 @@ use Rattle.sq_tree.specs.declared.schema.SchemaElement.{SchemaElement}
 use Rattle.sq_tree.specs.declared.schema.SchemaElement.TheVariants.{Table, View, Grant}
 use Rattle.sq_grammar.specs.Reading.{Tokens, Outcome, Parser, ◌>>=◌, and_then, pure, eat, expect, sees, rest as without_first, is_token, comma, all}
 use Rattle.sq_grammar.specs.Schema.{sees_created, created, nothing, by_grant, element, table_definition, view_definition, grant}
-use Rattle.sq_grammar.proofs.Follows.{ends_expr, ends_table}
-use Rattle.sq_grammar.proofs.Many.{all-none}
-use Rattle.sq_grammar.proofs.Ranks.{is_token-is}
-use Rattle.sq_grammar.proofs.Spells.{ok_pair}
+use Rattle.sq_grammar.proofs.Ends.Follows.{ends_expr, ends_table}
+use Rattle.sq_grammar.proofs.Reading.Many.{all-none}
+use Rattle.sq_grammar.proofs.Reading.Ranks.{is_token-is}
+use Rattle.sq_grammar.proofs.Sound.Spells.{ok_pair}
 use Rattle.sq_run.proofs.Tokens.Final.{SameFirst}
 use Rattle.sq_run.proofs.Tokens.Viable.{Begins, Inside, Kept, KeptBy, NextBy, Not, Starts, Viable, ViableBy, mapped, mapped_starts, rows_by, some_found}
 use Rattle.sq_run.proofs.Tokens.CondViable.{AfterCond, Closes}

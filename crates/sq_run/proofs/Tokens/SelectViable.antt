@@ -8,7 +8,7 @@ use Rattle.sq_tree.specs.declared.cond.Cond.{Cond}
 use Rattle.sq_grammar.specs.Reading.{Tokens, Parser, name_of, comma}
 use Rattle.sq_grammar.specs.Names.{dot}
 use Rattle.sq_grammar.specs.Select.{by_name, by_as, correlation, table_reference, from_clause, by_columns, group_by, by_star, select_list, table_expression, specification}
-use Rattle.sq_grammar.proofs.Follows.{EndsExpr, EndsTable, ends_expr}
+use Rattle.sq_grammar.proofs.Ends.Follows.{EndsExpr, EndsTable, ends_expr}
 use Rattle.sq_run.proofs.Tokens.Viable.{Any, Begins, Begun, Blank, Eats, Not, Starts, Viable, begun, behind_it, blank, blanks, commas, commas_start, done, done_starts, eats_expect, eats_first, eats_if_comes, eats_next, expected, from, if_begun, if_comes, if_one, mapped, mapped_starts, must, must_starts, no_more, not_begun, not_starts, rows, starts_with, then_part, then_some, unmet_starts}
 use Rattle.sq_run.proofs.Tokens.NamesViable.{a_name, column_reference_begun, column_references, name_starts, names, one_digit, tables, tables_begun}
 use Rattle.sq_run.proofs.Tokens.ExprViable.{AfterExpr, quantifier_blank, quantifiers}

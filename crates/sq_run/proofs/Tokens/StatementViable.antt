@@ -15,7 +15,7 @@ use Rattle.sq_grammar.specs.Names.{columns_if_any, parameter, dot}
 use Rattle.sq_grammar.specs.Select.{select_list, table_expression}
 use Rattle.sq_grammar.specs.Expr.{expr, quantifier_if_any}
 use Rattle.sq_grammar.specs.Statement.{by_colon, position, orientation_of, by_relative, by_absolute, by_orientation_word, orientation, by_from, by_orientation, fetch_from, fetch, by_null, new_value, by_current, by_where, target, select, by_values, insert_source, insert, assignment, update, delete, verb_of, by_verb, statement}
-use Rattle.sq_grammar.proofs.Follows.{EndsExpr, ends_expr, ends_table}
+use Rattle.sq_grammar.proofs.Ends.Follows.{EndsExpr, ends_expr, ends_table}
 use Rattle.sq_run.proofs.Tokens.Viable.{Any, Begins, Begun, Blank, Eats, Not, Starts, Viable, begun, blank, blanks, commas, commas_start, comes_starts, done, done_starts, eaten, eats_expect, eats_first, eats_if_comes, eats_next, eats_one, from, if_begun, if_comes, if_one, mapped, mapped_starts, must, must_starts, never, never_eats, not_begun, not_starts, one_starts, starts_with, then_part, then_some, uneaten, unmet_starts}
 use Rattle.sq_run.proofs.Tokens.NamesViable.{a_name, closing, columns_blank, columns_or_none, name_starts, names, one_digit, parameter_begun, parameters, signed_eat, signed_numbers, tables, tables_begun}
 use Rattle.sq_run.proofs.Tokens.ExprViable.{AfterExpr, close_after, expr_begun, exprs, exprs_eat, inner_begun, inner_exprs, inner_exprs_eat, quantifier_blank, quantifiers}

@@ -10,8 +10,8 @@ use Rattle.sq_tree.specs.declared.cond.Cond.{Cond}
 use Rattle.sq_grammar.specs.declared.cond_or_expr.CondOrExpr.{CondOrExpr}
 use Rattle.sq_grammar.specs.Reading.{Tokens, Parser, ◌>>=◌, eat, sees, comma}
 use Rattle.sq_grammar.specs.Cond.{comparison_of, compared_if_any, sees_query, must_be_cond, by_compared, comparison_tail, between_tail, in_list, in_by, in_tail, like_tail, no_tail, by_like, by_in, by_between, negatable_tail, by_is, by_comparison, tail}
-use Rattle.sq_grammar.proofs.Follows.{EndsExpr, ends_expr}
-use Rattle.sq_grammar.proofs.Spells.{ok_pair}
+use Rattle.sq_grammar.proofs.Ends.Follows.{EndsExpr, ends_expr}
+use Rattle.sq_grammar.proofs.Sound.Spells.{ok_pair}
 use Rattle.sq_run.proofs.Tokens.Final.{Final}
 use Rattle.sq_run.proofs.Tokens.CondFinal.{alike_there, query_or_expr}
 use Rattle.sq_run.proofs.Tokens.Viable.{Any, Begins, Begun, Blank, Eats, NeverNone, Not, Silent, Starts, Viable, comes_never, comes_silent, one_silent, some_found, alike, behind_it, blank, blanks, commas, comes_starts, done, done_starts, eats_expect, eats_first, eats_next, eats_seeing, from, if_begun, if_comes, if_one, mapped, mapped_starts, must, must_starts, never, not_begun, not_starts, opening, opening_starts, seeing, starts_with, then_part, then_some}

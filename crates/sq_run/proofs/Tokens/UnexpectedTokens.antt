@@ -26,8 +26,8 @@ use Rattle.sq_perform.specs.declared.refusal.RunFault.TheVariants.{SchemaRefused
 use Rattle.sq_run.specs.Refused.{RefusedText}
 use Rattle.sq_run.specs.Unexpected.{IsFirstWrong, NoTextGoesOn, UnexpectedToken}
 use Rattle.sq_run.proofs.Texts.ReadTexts.{IsExact, modules_exact, schemas_exact, scripts_exact}
-use Rattle.sq_grammar.proofs.ModuleSound.{module_sound}
-use Rattle.sq_grammar.proofs.ScriptSound.{script_sound}
+use Rattle.sq_grammar.proofs.Sound.ModuleSound.{module_sound}
+use Rattle.sq_grammar.proofs.Sound.ScriptSound.{script_sound}
 use Rattle.sq_run.proofs.Tokens.BeginsTree.{BeginsTree, begins_tree}
 use Rattle.sq_run.proofs.Tokens.ModuleViable as viable
 use Rattle.sq_run.proofs.Tokens.ScriptViable as script_parts

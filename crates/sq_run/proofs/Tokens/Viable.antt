@@ -6,9 +6,9 @@ use Rattle.sq_lex.specs.declared.lexeme.Lexeme.{Lexeme}
 use Rattle.sq_lex.specs.declared.lexeme.Lexeme.TheVariants as lexeme
 use Rattle.sq_lex.specs.declared.symbol.Symbol.TheVariants as symbol
 use Rattle.sq_grammar.specs.Reading.{Tokens, Outcome, Parser, ◌>>=◌, pure, stuck, eat, expect, opening_bracket, rest as without_first, is_token, one_of, one_if_any, first_of, taken, behind, comma, comma_separated, all, turn, with_front}
-use Rattle.sq_grammar.proofs.Many.{all-none, all-some, all-turn}
-use Rattle.sq_grammar.proofs.Spells.{ok_pair}
-use Rattle.sq_grammar.proofs.Takes.{none_behind}
+use Rattle.sq_grammar.proofs.Reading.Many.{all-none, all-some, all-turn}
+use Rattle.sq_grammar.proofs.Sound.Spells.{ok_pair}
+use Rattle.sq_grammar.proofs.Taken.Takes.{none_behind}
 use Rattle.sq_run.proofs.Tokens.Ahead.{bind_ok, err_is}
 use Rattle.sq_run.proofs.Tokens.Final.{SameFirst}
 pub use Rattle.sq_run.proofs.Tokens.ViableBasics.{Any, Eats, Filled, Inside, Kept, KeptBy, Nearer, Next, NextBy, Not, Starts, Viable, ViableBy, alike, alike_starts, done, done_starts, expected, expected_reads, expected_starts, never, starts_with, then_part, then_part_by, then_some, whole_first}

@@ -3,7 +3,7 @@
 use Rattle.std.proofs.Common.{◌≡◌, ℕ, ◌<◌, Bool, true, false, cond, [], ◌∷◌, ◌++◌, length, Ok, Err, refl, sym, ◌∙◌, ap, subst, arith, append_assoc, length-append, inl, inr, ◌⊎◌}
 use Rattle.sq_lex.specs.declared.lexeme.Lexeme.{Lexeme}
 use Rattle.sq_grammar.specs.Reading.{Tokens, Outcome, Parser, ◌>>=◌, and_then, pure, stuck, expect, sees, rest as without_first, is_token}
-use Rattle.sq_grammar.proofs.Spells.{ok_pair}
+use Rattle.sq_grammar.proofs.Sound.Spells.{ok_pair}
 use Rattle.sq_run.proofs.Tokens.Ahead.{bind_ok, err_is}
 use Rattle.sq_run.proofs.Tokens.Final.{SameFirst}
 

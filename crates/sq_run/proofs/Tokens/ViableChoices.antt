@@ -2,7 +2,7 @@
 use Rattle.std.proofs.Common.{◌≡◌, ℕ, ◌<◌, Bool, true, false, cond, [], ◌∷◌, ◌++◌, length, Option, Some, None, Ok, Err, refl, sym, ◌∙◌, ap, subst, arith, inl, inr, ◌⊎◌}
 use Rattle.sq_lex.specs.declared.lexeme.Lexeme.{Lexeme}
 use Rattle.sq_grammar.specs.Reading.{Tokens, Outcome, Parser, ◌>>=◌, and_then, pure, eat, expect, sees, rest as without_first, is_token, one_of, one_if_any, first_of, taken, taken_if_any, behind}
-use Rattle.sq_grammar.proofs.Spells.{ok_pair}
+use Rattle.sq_grammar.proofs.Sound.Spells.{ok_pair}
 use Rattle.sq_run.proofs.Tokens.Ahead.{err_is}
 use Rattle.sq_run.proofs.Tokens.ViableBasics.{Any, Eats, Inside, Kept, Next, Not, Starts, Viable, alike, alike_starts, done, done_starts, expected, expected_starts, starts_with, then_part}
 

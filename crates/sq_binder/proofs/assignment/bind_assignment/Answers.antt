@@ -1,9 +1,10 @@
+-- Left open: what the call of object_column asks for, and the clause column; answered by Receivers and There.
 use Rattle.std.proofs.Common.{◌<◌, length, map, sym, ap, subst, ◌∙◌}
 use Rattle.sq_bound.specs.declared.names.BaseTable.{BaseTable}
 use Rattle.sq_bound.specs.declared.names.Leaf.{Leaf}
 use Rattle.sq_binder.specs.Receiver.{receiver_seen}
-use Rattle.sq_binder.proofs.Receivers.{named_within}
-use Rattle.sq_binder.proofs.There.{object_of}
+use Rattle.sq_binder.proofs.Changes.Receivers.{named_within}
+use Rattle.sq_binder.proofs.Statements.There.{object_of}
 use Rattle.sq_binder.proofs.assignment.bind_assignment.Goals as goal
 
 pub object_column-requires : goal.object_column-requires

@@ -1,16 +1,17 @@
+-- Left open: what the call of with_columns asks for, and the clause finds; answered by Finds and others.
 use Rattle.std.proofs.Common.{[], length, map, sym, ap, subst, ◌∙◌}
 use Rattle.sq_tree.specs.declared.statement.Assignment.{Assignment}
 use Rattle.sq_meaning.specs.Spelled.{listed}
 use Rattle.sq_binding.specs.Change.{assignment_bound, each_column, receivers_of}
 use Rattle.sq_binder.specs.Found.{Finds, counts_of}
 use Rattle.sq_binder.specs.Surroundings.{surroundings}
-use Rattle.sq_binder.proofs.Finds.{finds_as}
+use Rattle.sq_binder.proofs.OneByOne.Finds.{finds_as}
 use Rattle.sq_binder.specs.Changeable.{changed_of}
 use Rattle.sq_binder.specs.Names.{names_at}
 use Rattle.sq_binder.specs.Receiver.{AreWithin, columns_made, receiver_seen}
 use Rattle.sq_binding.specs.SeenQuery.{assignment_seen}
-use Rattle.sq_binder.proofs.ColumnsInTurn.{in_turn}
-use Rattle.sq_binder.proofs.Receivers.{table_within}
+use Rattle.sq_binder.proofs.OneByOne.ColumnsInTurn.{in_turn}
+use Rattle.sq_binder.proofs.Changes.Receivers.{table_within}
 use Rattle.sq_binder.proofs.assignment.bind_assignments.Goals as goal
 
 pub returns-clause-finds : goal.returns-clause-finds

@@ -1,12 +1,13 @@
+-- Left open: the clauses finds and columns, and the loop's invariant; answered by ColumnLoops and EachHolds.
 use Rattle.std.proofs.Common.{map}
 use Rattle.sq_tree.specs.declared.statement.Assignment.{Assignment}
 use Rattle.sq_binder.specs.Surroundings.{surroundings}
 use Rattle.sq_binder.specs.Changeable.{table_name}
 use Rattle.sq_binder.specs.Receiver.{receiver_seen}
 use Rattle.sq_binder.specs.Update.{IsAssignmentOf, assignment_in}
-use Rattle.sq_binder.proofs.ColumnLoops.{all_columns, begun_columns, next_column, next_column_stops}
+use Rattle.sq_binder.proofs.OneByOne.ColumnLoops.{all_columns, begun_columns, next_column, next_column_stops}
 use Rattle.sq_binding.specs.SeenQuery.{assignment_seen}
-use Rattle.sq_binder.proofs.EachHolds.{begun_holds, next_holds}
+use Rattle.sq_binder.proofs.OneByOne.EachHolds.{begun_holds, next_holds}
 use Rattle.sq_binder.proofs.assignment.in_turn.Goals as goal
 
 pub loop-number-init : goal.loop-number-init

@@ -3,7 +3,7 @@ use Rattle.sq_binder.specs.Surroundings.{surroundings}
 use Rattle.sq_binder.specs.Changeable.{table_name}
 use Rattle.sq_binder.specs.Receiver.{receiver_seen}
 use Rattle.sq_binder.specs.Update.{AreAssignmentsOf, assignment_in}
-use Rattle.sq_binder.proofs.ColumnLoops.{ColumnsSoFar}
+use Rattle.sq_binder.proofs.OneByOne.ColumnLoops.{ColumnsSoFar}
 use Rattle.sq_binding.specs.SeenQuery.{assignment_seen}
 use Rattle.sq_binder.proofs.assignment.in_turn.Given as goal
 

@@ -1,3 +1,4 @@
+-- Left open for over_item: the clause finds; answered by Inside.
 use Rattle.std.proofs.Common.{List, [], ◌∷◌, None, map, ap, ◌∙◌}
 use Rattle.sq_tree.specs.declared.statement.Assignment.{Assignment}
 use Rattle.sq_meaning.specs.Spelled.{listed}
@@ -5,7 +6,7 @@ use Rattle.sq_binder.specs.Found.{Finds}
 use Rattle.sq_binder.specs.Scope.{scope_over}
 use Rattle.sq_binder.specs.Surroundings.{surroundings}
 use Rattle.sq_binder.specs.declared.scope.FromItem.{FromItem}
-use Rattle.sq_binder.proofs.Inside.{inside_lines}
+use Rattle.sq_binder.proofs.Clauses.Inside.{inside_lines}
 use Rattle.sq_binder.specs.Changeable.{table_name}
 use Rattle.sq_binder.specs.Receiver.{columns_made, receiver_seen}
 use Rattle.sq_binder.specs.Update.{assignment_in}

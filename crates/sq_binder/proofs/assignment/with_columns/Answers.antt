@@ -1,3 +1,4 @@
+-- Left open for with_columns: the clause finds; answered without a law.
 use Rattle.std.proofs.Common.{[], ◌∷◌, map, subst}
 use Rattle.sq_tree.specs.declared.statement.Assignment.{Assignment}
 use Rattle.sq_meaning.specs.Spelled.{listed}

@@ -1,3 +1,4 @@
+-- Left open for columns_at_leaf: its result, and that the loop keeps its invariant; answered by Columns.
 use Rattle.std.proofs.Common.{◌≡◌, [], ◌∷◌, ◌++◌, Some, map, sym, ap, ◌∙◌}
 use Rattle.std.proofs.lemmas.Option.{get_or_from_slice_get, slice_get_within}
 use Rattle.std.specs.List.{slice_get}
@@ -5,7 +6,7 @@ use Rattle.std.proofs.lemmas.List.{map-append}
 use Rattle.sq_binding.specs.From.{column_over}
 use Rattle.sq_binder.specs.Scope.{column_of}
 use Rattle.sq_binder.specs.Surroundings.{descriptor_of}
-use Rattle.sq_binder.proofs.Columns.{all_at_leaf, next_at_leaf, past_end, rest_left_out}
+use Rattle.sq_binder.proofs.Changes.Columns.{all_at_leaf, next_at_leaf, past_end, rest_left_out}
 use Rattle.sq_binder.proofs.changeable.columns_at_leaf.Goals as goal
 
 pub returns-in_default : goal.returns-in_default

@@ -1,3 +1,4 @@
+-- Left open for bind_check: its result; answered by CursorTrees.
 use Rattle.std.proofs.Common.{[], ◌∷◌, false, None, map, subst}
 use Rattle.sq_lex.specs.declared.name.Name.{Name}
 use Rattle.sq_meaning.specs.Environment.{TableName}
@@ -12,7 +13,7 @@ use Rattle.sq_binder.specs.Found.{Finds}
 use Rattle.sq_binder.specs.Scope.{item_of}
 use Rattle.sq_binder.specs.Surroundings.{descriptor_of}
 use Rattle.sq_binder.specs.declared.found.Counts.{Counts}
-use Rattle.sq_binder.proofs.CursorTrees.{in_none}
+use Rattle.sq_binder.proofs.WholeQueries.CursorTrees.{in_none}
 use Rattle.sq_binder.proofs.check.bind_check.Goals as goal
 
 pub returns : goal.returns

@@ -1,10 +1,11 @@
+-- Left open: the result, and that the loop keeps its invariant; answered by Commons and Turns.
 use Rattle.std.proofs.Common.{map, refl}
 use Rattle.std.specs.List.{zip}
 use Rattle.sq_binding.specs.Seen.{column_of}
 use Rattle.sq_binder.specs.InTurn.{in_turn}
 use Rattle.sq_binder.specs.Query.{column_in_common, sides_seen}
-use Rattle.sq_binder.proofs.Commons.{pair_at, pair_within, pairs_past}
-use Rattle.sq_binder.proofs.Turns.{all_grown, next_grown, next_stops, none_grown}
+use Rattle.sq_binder.proofs.WholeQueries.Commons.{pair_at, pair_within, pairs_past}
+use Rattle.sq_binder.proofs.OneByOne.Turns.{all_grown, next_grown, next_stops, none_grown}
 use Rattle.sq_binder.proofs.common.columns_in_turn.Goals as goal
 
 pub loop-position-init : goal.loop-position-init

@@ -3,7 +3,7 @@ use Rattle.std.specs.List.{zip}
 use Rattle.sq_binding.specs.Seen.{column_of}
 use Rattle.sq_binder.specs.InTurn.{in_turn}
 use Rattle.sq_binder.specs.Query.{column_in_common, sides_seen}
-use Rattle.sq_binder.proofs.Turns.{Grown}
+use Rattle.sq_binder.proofs.OneByOne.Turns.{Grown}
 use Rattle.sq_binder.proofs.common.columns_in_turn.Given as goal
 
 abbrev pub invariant-loop-position : goal.invariant-loop-position

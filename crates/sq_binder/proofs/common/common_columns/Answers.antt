@@ -1,13 +1,14 @@
+-- Left open for common_columns: its result; answered by Finds, Commons and Turns.
 use Rattle.std.proofs.Common.{◌≡◌, Ok, arith, length, map, sym, subst}
 use Rattle.std.specs.List.{zip}
 use Rattle.sq_binding.specs.QueryExpression.{common_columns}
 use Rattle.sq_binding.specs.Seen.{column_of}
 use Rattle.sq_binder.specs.Found.{Finds, counts_of}
-use Rattle.sq_binder.proofs.Finds.{stop_found}
+use Rattle.sq_binder.proofs.OneByOne.Finds.{stop_found}
 use Rattle.sq_binder.specs.InTurn.{in_turn}
 use Rattle.sq_binder.specs.Query.{column_in_common, sides_seen}
-use Rattle.sq_binder.proofs.Commons.{common_is}
-use Rattle.sq_binder.proofs.Turns.{found_alone, stops_alone}
+use Rattle.sq_binder.proofs.WholeQueries.Commons.{common_is}
+use Rattle.sq_binder.proofs.OneByOne.Turns.{found_alone, stops_alone}
 use Rattle.sq_binder.proofs.common.common_columns.Goals as goal
 
 pub returns-in_err-columns : goal.returns-in_err-columns

@@ -1,3 +1,4 @@
+-- Left open: the results, and that the loops keep their invariants; answered by Conditions, Finds and others.
 use Rattle.std.proofs.Common.{◌∷◌, Bool, true, false, List, Ok, map, sym, ap, subst, ◌∙◌}
 use Rattle.std.specs.Option.{option_map}
 use Rattle.sq_tree.specs.declared.cond.Cond.{out-Cond}
@@ -23,13 +24,13 @@ use Rattle.sq_binder.specs.SelectList.{list_seen, list_split}
 use Rattle.sq_binder.specs.Specification.{clause_seen, clauses_bound, clauses_seen, first, groups_bound, groups_seen, parts_seen, shown_bound, shown_seen, specification_of, specified}
 use Rattle.sq_binder.specs.Subquery.{among_query, query_compared}
 use Rattle.sq_binder.specs.Surroundings.{surroundings}
-use Rattle.sq_binder.proofs.Conditions.{among_is, compared_is, cond_is, conj_is, parts_of, select_of-out, test_is}
-use Rattle.sq_binder.proofs.Finds.{finds_as, makes_found, makes_stop, pairs_found, pairs_stop, stop_found}
-use Rattle.sq_binder.proofs.InTurn.{all_found, begun_found, begun_stop, next_found, next_stop}
-use Rattle.sq_binder.proofs.Inside.{at, inside_groups, inside_lines}
-use Rattle.sq_binder.proofs.Specifications.{select_is}
-use Rattle.sq_binder.proofs.Steps.{stops_as, stops_here}
-use Rattle.sq_binder.proofs.Subqueries.{among_stops, compared_stops}
+use Rattle.sq_binder.proofs.Clauses.Conditions.{among_is, compared_is, cond_is, conj_is, parts_of, select_of-out, test_is}
+use Rattle.sq_binder.proofs.OneByOne.Finds.{finds_as, makes_found, makes_stop, pairs_found, pairs_stop, stop_found}
+use Rattle.sq_binder.proofs.OneByOne.InTurn.{all_found, begun_found, begun_stop, next_found, next_stop}
+use Rattle.sq_binder.proofs.Clauses.Inside.{at, inside_groups, inside_lines}
+use Rattle.sq_binder.proofs.Clauses.Specifications.{select_is}
+use Rattle.sq_binder.proofs.OneByOne.Steps.{stops_as, stops_here}
+use Rattle.sq_binder.proofs.Clauses.Subqueries.{among_stops, compared_stops}
 use Rattle.sq_binder.proofs.condition.+conditions.Goals as goal
 
 -- ---- conditions

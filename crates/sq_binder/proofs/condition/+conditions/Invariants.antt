@@ -8,7 +8,7 @@ use Rattle.sq_binding.specs.Found.{each}
 use Rattle.sq_binding.specs.Seen.{conj_seen, test_seen}
 use Rattle.sq_binder.specs.Found.{counts_of}
 use Rattle.sq_binder.specs.Surroundings.{surroundings}
-use Rattle.sq_binder.proofs.InTurn.{SoFar}
+use Rattle.sq_binder.proofs.OneByOne.InTurn.{SoFar}
 use Rattle.sq_binder.proofs.condition.+conditions.Given as goal
 
 abbrev pub invariant-bind_cond-loop-conj : goal.invariant-bind_cond-loop-conj

@@ -1,10 +1,11 @@
+-- Left open for bracket_condition: its result; answered by Behind and Finds.
 use Rattle.std.proofs.Common.{ap, subst, refl, ◌∙◌}
 use Rattle.sq_bound.specs.declared.condition.Predicate.TheVariants as predicate
 use Rattle.sq_binding.specs.Seen.{cond_seen, predicate_seen}
-use Rattle.sq_binding.proofs.SeenLevels.{predicate_seen-Bracketed}
+use Rattle.sq_binding.proofs.Standing.SeenLevels.{predicate_seen-Bracketed}
 use Rattle.sq_binder.specs.Found.{Finds}
-use Rattle.sq_binder.proofs.Behind.{itself}
-use Rattle.sq_binder.proofs.Finds.{makes_found, stop_found}
+use Rattle.sq_binder.proofs.OneByOne.Behind.{itself}
+use Rattle.sq_binder.proofs.OneByOne.Finds.{makes_found, stop_found}
 use Rattle.sq_binder.proofs.condition.bracket_condition.Goals as goal
 
 pub returns-in_err-part : goal.returns-in_err-part

@@ -1,10 +1,11 @@
+-- Left open for make_present: its result; answered by Behind and Finds.
 use Rattle.std.proofs.Common.{Some, refl, subst}
 use Rattle.sq_binding.specs.NumberedCondition.{NumberedClause}
 use Rattle.sq_binding.specs.Seen.{cond_seen}
 use Rattle.sq_binder.specs.Found.{Finds}
 use Rattle.sq_binder.specs.Specification.{clause_present, clause_seen}
-use Rattle.sq_binder.proofs.Behind.{made}
-use Rattle.sq_binder.proofs.Finds.{makes_found, makes_stop, stop_found}
+use Rattle.sq_binder.proofs.OneByOne.Behind.{made}
+use Rattle.sq_binder.proofs.OneByOne.Finds.{makes_found, makes_stop, stop_found}
 use Rattle.sq_binder.proofs.condition.make_present.Goals as goal
 
 pub returns-in_err-part : goal.returns-in_err-part

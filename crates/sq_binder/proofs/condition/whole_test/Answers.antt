@@ -1,10 +1,11 @@
+-- Left open for whole_test: its result; answered by Conditions and Finds.
 use Rattle.std.proofs.Common.{subst}
 use Rattle.sq_binding.specs.Condition.{test}
 use Rattle.sq_binding.specs.Seen.{predicate_seen, test_seen}
 use Rattle.sq_binder.specs.Found.{Finds}
 use Rattle.sq_binder.specs.Subquery.{negated_if}
-use Rattle.sq_binder.proofs.Conditions.{test_found, test_stops}
-use Rattle.sq_binder.proofs.Finds.{stop_found}
+use Rattle.sq_binder.proofs.Clauses.Conditions.{test_found, test_stops}
+use Rattle.sq_binder.proofs.OneByOne.Finds.{stop_found}
 use Rattle.sq_binder.proofs.condition.whole_test.Goals as goal
 
 pub returns-in_err-part : goal.returns-in_err-part

@@ -1,10 +1,11 @@
+-- Left open for the functions of +sole: the results; answered by Queries.
 use Rattle.std.proofs.Common.{◌≡◌, true, false, sym, ap, ◌∙◌}
 use Rattle.sq_tree.specs.declared.query.QueryTerm.{QueryTerm}
 use Rattle.sq_tree.specs.declared.query.QueryTerm.TheVariants as term
 use Rattle.sq_meaning.proofs.SpelledLevels.{query_term_of-Bracketed, query_term_of-Specification}
 use Rattle.sq_meaning.specs.Spelled.{query_term_of}
 use Rattle.sq_meaning.specs.WellFormedStatement.{only_specification}
-use Rattle.sq_binder.proofs.Queries.{query_alone, several_none}
+use Rattle.sq_binder.proofs.WholeQueries.Queries.{query_alone, several_none}
 use Rattle.sq_binder.proofs.cursor.+sole.Goals as goal
 
 pub sole_specification-returns-then-is_empty : goal.sole_specification-returns-then-is_empty

@@ -1,3 +1,4 @@
+-- Left open for bind_cursor: the clause binds; answered by CursorTrees.
 use Rattle.std.proofs.Common.{map}
 use Rattle.sq_lex.specs.declared.name.Name.{Name}
 use Rattle.sq_binding.specs.Select.{Surroundings}
@@ -5,7 +6,7 @@ use Rattle.sq_binder.specs.Binds.{Binds}
 use Rattle.sq_binder.specs.Scope.{declared_of}
 use Rattle.sq_binder.specs.Cursor.{cursor_at}
 use Rattle.sq_binder.specs.Names.{user_names}
-use Rattle.sq_binder.proofs.CursorTrees.{in_none}
+use Rattle.sq_binder.proofs.WholeQueries.CursorTrees.{in_none}
 use Rattle.sq_binding.specs.SeenQuery.{cursor_seen}
 use Rattle.sq_binder.proofs.cursor.bind_cursor.Goals as goal
 

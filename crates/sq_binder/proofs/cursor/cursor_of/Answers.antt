@@ -1,3 +1,4 @@
+-- Left open for cursor_of: the clauses binds and under; answered by CursorTrees.
 use Rattle.std.proofs.Common.{Option, Bor, None, sym, ap, subst, ◌∙◌}
 use Rattle.std.proofs.lemmas.Result.{IfOk-weaker}
 use Rattle.std.specs.Option.{option_map}
@@ -10,7 +11,7 @@ use Rattle.sq_binder.specs.Binds.{Binds}
 use Rattle.sq_binder.specs.Surroundings.{surroundings}
 use Rattle.sq_binder.specs.Cursor.{IsOver, IsOverPart}
 use Rattle.sq_binder.specs.Names.{names_at}
-use Rattle.sq_binder.proofs.CursorTrees.{over_as}
+use Rattle.sq_binder.proofs.WholeQueries.CursorTrees.{over_as}
 use Rattle.sq_binding.specs.SeenQuery.{cursor_seen}
 use Rattle.sq_binder.proofs.cursor.cursor_of.Goals as goal
 

@@ -1,3 +1,4 @@
+-- Left open for query_cursor: the clause binds; answered by Steps.
 use Rattle.std.proofs.Common.{None, Ok, subst}
 use Rattle.sq_meaning.specs.Spelled.{listed_if_any, query_of}
 use Rattle.sq_binding.specs.Cursor.{cursor_of, sorted_cursor}
@@ -7,7 +8,7 @@ use Rattle.sq_binder.specs.Binds.{Stops}
 use Rattle.sq_binder.specs.Found.{counts_of}
 use Rattle.sq_binder.specs.Surroundings.{surroundings}
 use Rattle.sq_binder.specs.declared.found.Counts.{Counts}
-use Rattle.sq_binder.proofs.Steps.{handed_on, stops_here}
+use Rattle.sq_binder.proofs.OneByOne.Steps.{handed_on, stops_here}
 use Rattle.sq_binder.specs.Cursor.{in_order}
 use Rattle.sq_binder.specs.Names.{names_at}
 use Rattle.sq_binding.specs.SeenQuery.{cursor_seen}

@@ -1,10 +1,11 @@
+-- Left open: what the call of of_term asks for, and the clause binds; answered by laws of sq_binding.
 use Rattle.std.proofs.Common.{List, Ok, map, ap, subst, ◌∙◌}
 use Rattle.sq_meaning.specs.Rows.{SortColumn}
 use Rattle.sq_binding.specs.Cursor.{sorted_cursor}
 use Rattle.sq_binding.specs.QueryExpression.{NumberedQuery}
 use Rattle.sq_binder.specs.Binds.{Binds}
 use Rattle.sq_binding.specs.SeenQuery.{cursor_seen, sort_seen}
-use Rattle.sq_binding.proofs.SeenQueries.{specification_made, term_seen-Specification}
+use Rattle.sq_binding.proofs.Standing.SeenQueries.{specification_made, term_seen-Specification}
 use Rattle.sq_binder.proofs.cursor.read_cursor.Goals as goal
 
 pub returns-clause-binds : goal.returns-clause-binds

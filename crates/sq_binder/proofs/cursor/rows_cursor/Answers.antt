@@ -1,8 +1,9 @@
+-- Left open for rows_cursor: the clause binds; answered by laws of sq_binding.
 use Rattle.std.proofs.Common.{None, Ok, map, sym, ap, ◌∙◌}
 use Rattle.sq_binding.specs.Cursor.{NumberedRows}
 use Rattle.sq_binding.specs.Seen.{column_of}
 use Rattle.sq_binding.specs.SeenQuery.{query_seen, sort_seen}
-use Rattle.sq_binding.proofs.SeenQueries.{query_itself}
+use Rattle.sq_binding.proofs.Standing.SeenQueries.{query_itself}
 use Rattle.sq_binder.proofs.cursor.rows_cursor.Goals as goal
 
 pub returns-in-Ok-clause-binds : goal.returns-in-Ok-clause-binds

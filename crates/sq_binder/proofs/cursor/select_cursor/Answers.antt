@@ -1,3 +1,4 @@
+-- Left open for select_cursor: the clauses binds and under; answered by Steps and CursorTrees.
 use Rattle.std.proofs.Common.{◌≡◌, Ok, sym, subst, ◌∙◌}
 use Rattle.std.proofs.lemmas.Result.{IfOk-weaker}
 use Rattle.std.specs.Option.{option_map}
@@ -13,11 +14,11 @@ use Rattle.sq_binder.specs.Binds.{Stops}
 use Rattle.sq_binder.specs.Found.{counts_of, found_of}
 use Rattle.sq_binder.specs.Surroundings.{surroundings}
 use Rattle.sq_binder.specs.declared.found.Counts.{Counts}
-use Rattle.sq_binder.proofs.Steps.{stops_here, then_binds}
+use Rattle.sq_binder.proofs.OneByOne.Steps.{stops_here, then_binds}
 use Rattle.sq_binder.specs.Cursor.{IsOver, IsOverPart}
 use Rattle.sq_binder.specs.Names.{names_at}
 use Rattle.sq_binding.specs.SeenQuery.{cursor_seen, updatable_seen}
-use Rattle.sq_binder.proofs.CursorTrees.{over_as, permitted_is}
+use Rattle.sq_binder.proofs.WholeQueries.CursorTrees.{over_as, permitted_is}
 use Rattle.sq_binder.proofs.cursor.select_cursor.Goals as goal
 
 pub returns-in-Ok-clause-binds : goal.returns-in-Ok-clause-binds

@@ -1,3 +1,4 @@
+-- Left open for sort_query: the clause finds; answered by Finds and CursorTrees.
 use Rattle.std.proofs.Common.{List, Option, map, ap, subst, ◌∙◌}
 use Rattle.std.proofs.lemmas.Result.{IfOk-at_ok}
 use Rattle.sq_lex.specs.declared.name.Name.{Name}
@@ -9,11 +10,11 @@ use Rattle.sq_binding.specs.QueryExpression.{NumberedQuery, columns_of_query}
 use Rattle.sq_binding.specs.Seen.{column_of}
 use Rattle.sq_binder.specs.Found.{Finds, both_of, counts_of, pairs}
 use Rattle.sq_binder.specs.declared.found.Found.{Found}
-use Rattle.sq_binder.proofs.Finds.{finds_as, pairs_found}
+use Rattle.sq_binder.proofs.OneByOne.Finds.{finds_as, pairs_found}
 use Rattle.sq_binder.specs.Cursor.{in_order}
 use Rattle.sq_binding.specs.SeenQuery.{HaveTheirColumns, query_seen, sort_seen}
-use Rattle.sq_binder.proofs.CursorTrees.{in_order_as}
-use Rattle.sq_binding.proofs.SeenQueries.{query_itself}
+use Rattle.sq_binder.proofs.WholeQueries.CursorTrees.{in_order_as}
+use Rattle.sq_binding.proofs.Standing.SeenQueries.{query_itself}
 use Rattle.sq_binder.proofs.cursor.sort_query.Goals as goal
 
 pub returns-clause-finds : goal.returns-clause-finds

@@ -1,3 +1,4 @@
+-- Left open for specification_cursor: the clause binds; answered by Conditions and Steps.
 use Rattle.std.proofs.Common.{◌≡◌, Some, Ok, sym, subst}
 use Rattle.sq_meaning.specs.Spelled.{Named, query_of, select_of}
 use Rattle.sq_meaning.specs.Syntax.{Select}
@@ -9,8 +10,8 @@ use Rattle.sq_binder.specs.Binds.{Stops}
 use Rattle.sq_binder.specs.Found.{counts_of, found_of}
 use Rattle.sq_binder.specs.Surroundings.{surroundings}
 use Rattle.sq_binder.specs.declared.found.Counts.{Counts}
-use Rattle.sq_binder.proofs.Conditions.{select_of-out}
-use Rattle.sq_binder.proofs.Steps.{handed_on, stops_here, then_binds}
+use Rattle.sq_binder.proofs.Clauses.Conditions.{select_of-out}
+use Rattle.sq_binder.proofs.OneByOne.Steps.{handed_on, stops_here, then_binds}
 use Rattle.sq_binding.specs.SeenQuery.{cursor_seen}
 use Rattle.sq_binder.specs.Names.{names_at}
 use Rattle.sq_binder.proofs.cursor.specification_cursor.Goals as goal

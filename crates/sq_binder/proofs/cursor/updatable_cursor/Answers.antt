@@ -1,5 +1,6 @@
+-- Left open for updatable_cursor: the clause binds; answered by laws of sq_binding.
 use Rattle.std.proofs.Common.{Some, Ok, map, sym, ap, ◌∙◌}
-use Rattle.sq_binding.proofs.SeenLevels.{columns_seen}
+use Rattle.sq_binding.proofs.Standing.SeenLevels.{columns_seen}
 use Rattle.sq_binding.specs.Cursor.{NumberedRows}
 use Rattle.sq_binding.specs.Seen.{column_of}
 use Rattle.sq_binding.specs.SeenQuery.{table_named, updatable_seen}

@@ -1,12 +1,13 @@
+-- Left open for delete_from: the clause finds; answered by Finds and Deletes.
 use Rattle.std.proofs.Common.{◌∙◌, ap}
 use Rattle.sq_binder.specs.Surroundings.{surroundings}
-use Rattle.sq_binder.proofs.Finds.{stop_found}
+use Rattle.sq_binder.proofs.OneByOne.Finds.{stop_found}
 use Rattle.sq_binder.specs.Changeable.{changed_of}
 use Rattle.sq_binder.specs.Names.{names_at}
 use Rattle.sq_binder.specs.Delete.{delete_over}
 use Rattle.sq_binder.specs.Needed.{requiring}
 use Rattle.sq_binding.specs.SeenQuery.{change_seen}
-use Rattle.sq_binder.proofs.Deletes.{delete_found, delete_stops}
+use Rattle.sq_binder.proofs.Changes.Deletes.{delete_found, delete_stops}
 use Rattle.sq_binder.proofs.delete.delete_from.Goals as goal
 
 pub returns-in_err-part-clause-finds : goal.returns-in_err-part-clause-finds

@@ -1,3 +1,4 @@
+-- Left open: the results, and that the loops keep their invariants; answered by Steps and Sums.
 use Rattle.std.proofs.Common.{Ok, Err, ap, ◌∙◌, sym, subst}
 use Rattle.sq_value.specs.declared.value.Value.TheVariants as value
 use Rattle.sq_tree.specs.declared.expr.Primary.TheVariants as spelled
@@ -7,8 +8,8 @@ use Rattle.sq_meaning.proofs.SpelledLevels.{primary_of-Bracketed, primary_of-Col
 use Rattle.sq_binder.specs.Binds.{Binds}
 use Rattle.sq_binder.specs.Bound.{bound_of}
 use Rattle.sq_binder.specs.Expression.{bound_at, product_step, sum_step}
-use Rattle.sq_binder.proofs.Steps.{all_done, handed_on, step_done, step_stops, stops_as}
-use Rattle.sq_binder.proofs.Sums.{at_primary, factor_behind, factor_stops, primary_stops, product_begun, function_fails, function_there, inside, product_stops, signed_is, sum_begun, sum_stops, term_behind, term_stops, unsigned_is}
+use Rattle.sq_binder.proofs.OneByOne.Steps.{all_done, handed_on, step_done, step_stops, stops_as}
+use Rattle.sq_binder.proofs.Expressions.Sums.{at_primary, factor_behind, factor_stops, primary_stops, product_begun, function_fails, function_there, inside, product_stops, signed_is, sum_begun, sum_stops, term_behind, term_stops, unsigned_is}
 use Rattle.sq_binder.proofs.expression.+exprs.Goals as goal
 
 -- ---- sums

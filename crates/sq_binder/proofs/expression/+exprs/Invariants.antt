@@ -2,7 +2,7 @@ use Rattle.std.proofs.Common.{◌≡◌, drop, map, Ok}
 use Rattle.sq_meaning.specs.Spelled.{added_of, expr_of, scaled_of, term_of}
 use Rattle.sq_binder.specs.Bound.{bound_of}
 use Rattle.sq_binder.specs.Expression.{bound_at, product_step, sum_step}
-use Rattle.sq_binder.proofs.Steps.{stepped}
+use Rattle.sq_binder.proofs.OneByOne.Steps.{stepped}
 use Rattle.sq_binder.proofs.expression.+exprs.Given as goal
 
 abbrev pub invariant-expr_value-loop-added : goal.invariant-expr_value-loop-added

@@ -1,8 +1,9 @@
+-- Left open for exposed_twice: its result; answered by FromItems.
 use Rattle.std.proofs.Common.{Bool, map, sym, ap, ◌∙◌, arith}
 use Rattle.std.specs.Prelude.{◌||◌}
 use Rattle.sq_meaning.specs.Binding.{has_item_twice}
 use Rattle.sq_binder.specs.From.{exposed}
-use Rattle.sq_binder.proofs.FromItems.{later, twice_split}
+use Rattle.sq_binder.proofs.Clauses.FromItems.{later, twice_split}
 use Rattle.sq_binder.proofs.from.+exposed_twice.Goals as goal
 
 pub returns-then-is_exposed : goal.returns-then-is_exposed

@@ -1,9 +1,10 @@
+-- Left open for columns_over: that the loop keeps its invariant; answered by FromItems.
 use Rattle.std.proofs.Common.{[], ◌∷◌, ◌++◌, map, sym, ap, ◌∙◌}
 use Rattle.std.proofs.lemmas.List.{map-append}
 use Rattle.sq_binding.specs.From.{column_over}
 use Rattle.sq_binder.specs.Scope.{column_of}
 use Rattle.sq_binder.specs.Surroundings.{descriptor_of}
-use Rattle.sq_binder.proofs.FromItems.{columns_next}
+use Rattle.sq_binder.proofs.Clauses.FromItems.{columns_next}
 use Rattle.sq_binder.proofs.from.columns_over.Goals as goal
 
 pub loop-position-preserved : goal.loop-position-preserved

@@ -1,12 +1,13 @@
+-- Left open for from_clause: its result; answered by FromClauses, Behind and Steps.
 use Rattle.std.proofs.Common.{Ok, map, refl, sym, ap, ◌∙◌, arith}
 use Rattle.std.specs.Prelude.{is_some}
 use Rattle.sq_meaning.specs.Spelled.{listed, reference_of}
 use Rattle.sq_meaning.specs.Binding.{has_item_twice}
 use Rattle.sq_binder.specs.From.{exposed, from_split, named_item_of}
 use Rattle.sq_binder.specs.Found.{counts_of, found_of}
-use Rattle.sq_binder.proofs.FromClauses.{are_exposed, clause_seen, few_items, from_found, from_twice}
-use Rattle.sq_binder.proofs.Behind.{with_part}
-use Rattle.sq_binder.proofs.Steps.{stops_by}
+use Rattle.sq_binder.proofs.Clauses.FromClauses.{are_exposed, clause_seen, few_items, from_found, from_twice}
+use Rattle.sq_binder.proofs.OneByOne.Behind.{with_part}
+use Rattle.sq_binder.proofs.OneByOne.Steps.{stops_by}
 use Rattle.sq_binder.proofs.from.from_clause.Goals as goal
 
 pub returns-in-Some : goal.returns-in-Some

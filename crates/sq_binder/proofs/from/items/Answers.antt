@@ -1,10 +1,11 @@
+-- Left open for items: its result, and that the loop keeps its invariant; answered by InTurn.
 use Rattle.std.proofs.Common.{map}
 use Rattle.sq_meaning.specs.Spelled.{listed, reference_of}
 use Rattle.sq_binding.specs.Found.{each}
 use Rattle.sq_binding.specs.From.{item_bound}
 use Rattle.sq_binder.specs.Found.{counts_of}
 use Rattle.sq_binder.specs.From.{named_item_of}
-use Rattle.sq_binder.proofs.InTurn.{begun_found, next_found, next_stop}
+use Rattle.sq_binder.proofs.OneByOne.InTurn.{begun_found, next_found, next_stop}
 use Rattle.sq_binder.proofs.from.items.Goals as goal
 
 pub loop-reference-init : goal.loop-reference-init

@@ -4,7 +4,7 @@ use Rattle.sq_binding.specs.Found.{each}
 use Rattle.sq_binding.specs.From.{item_bound}
 use Rattle.sq_binder.specs.Found.{counts_of}
 use Rattle.sq_binder.specs.From.{named_item_of}
-use Rattle.sq_binder.proofs.InTurn.{SoFar}
+use Rattle.sq_binder.proofs.OneByOne.InTurn.{SoFar}
 use Rattle.sq_binder.proofs.from.items.Given as goal
 
 abbrev pub invariant-loop-reference : goal.invariant-loop-reference

@@ -1,3 +1,4 @@
+-- Left open: the result, and that the loop keeps its invariant; answered by Finds, InTurn and Steps.
 use Rattle.std.proofs.Common.{Ok, map, sym, ap}
 use Rattle.sq_tree.specs.declared.names.ColumnReference.{ColumnReference}
 use Rattle.sq_meaning.specs.Spelled.{listed}
@@ -6,9 +7,9 @@ use Rattle.sq_binding.specs.Found.{each}
 use Rattle.sq_binding.specs.Select.{grouping_column}
 use Rattle.sq_binder.specs.Found.{counts_of}
 use Rattle.sq_binder.specs.Surroundings.{surroundings}
-use Rattle.sq_binder.proofs.Finds.{finds_as}
-use Rattle.sq_binder.proofs.InTurn.{all_found, begun_found, itself, next_found, next_stop}
-use Rattle.sq_binder.proofs.Steps.{stops_as}
+use Rattle.sq_binder.proofs.OneByOne.Finds.{finds_as}
+use Rattle.sq_binder.proofs.OneByOne.InTurn.{all_found, begun_found, itself, next_found, next_stop}
+use Rattle.sq_binder.proofs.OneByOne.Steps.{stops_as}
 use Rattle.sq_binder.proofs.group.columns_listed.Goals as goal
 
 pub loop-reference-init : goal.loop-reference-init

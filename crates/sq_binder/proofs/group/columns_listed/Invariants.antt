@@ -6,7 +6,7 @@ use Rattle.sq_binding.specs.Found.{each}
 use Rattle.sq_binding.specs.Select.{grouping_column}
 use Rattle.sq_binder.specs.Found.{counts_of}
 use Rattle.sq_binder.specs.Surroundings.{surroundings}
-use Rattle.sq_binder.proofs.InTurn.{SoFar}
+use Rattle.sq_binder.proofs.OneByOne.InTurn.{SoFar}
 use Rattle.sq_binder.proofs.group.columns_listed.Given as goal
 
 abbrev pub invariant-loop-reference : goal.invariant-loop-reference

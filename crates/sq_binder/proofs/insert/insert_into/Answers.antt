@@ -1,21 +1,22 @@
+-- Left open: the call of make_insert, and the clauses finds and over; answered by Finds, Inserts and others.
 use Rattle.std.proofs.Common.{◌<◌, List, length, map, subst}
 use Rattle.sq_binding.specs.Change as change
 use Rattle.sq_binding.specs.Change.{receivers_bound, source_bound}
 use Rattle.sq_binder.specs.Found.{Finds, counts_of, found_of}
 use Rattle.sq_binder.specs.Surroundings.{surroundings}
-use Rattle.sq_binder.proofs.Finds.{pairs_found, stop_found}
+use Rattle.sq_binder.proofs.OneByOne.Finds.{pairs_found, stop_found}
 use Rattle.sq_binder.specs.Changeable.{changed_of}
 use Rattle.sq_binder.specs.Names.{names_at}
 use Rattle.sq_binder.specs.Insert.{insert_over}
 use Rattle.sq_binder.specs.Receiver.{AreWithin, receiver_seen}
 use Rattle.sq_binder.specs.declared.receiver.Receiver.{Receiver}
 use Rattle.sq_binding.specs.SeenQuery.{insert_seen, source_seen}
-use Rattle.sq_binder.proofs.Inserts.{first_stops, insert_found}
+use Rattle.sq_binder.proofs.Changes.Inserts.{first_stops, insert_found}
 use Rattle.sq_binding.specs.There.{SourceIsPlain}
-use Rattle.sq_binding.proofs.Inserts.{receivers_hold}
-use Rattle.sq_binder.proofs.Parts.{first_holds, second_holds}
-use Rattle.sq_binder.proofs.Receivers.{table_within}
-use Rattle.sq_binder.proofs.There.{insert_is_over}
+use Rattle.sq_binding.proofs.WellFormed.Inserts.{receivers_hold}
+use Rattle.sq_binder.proofs.OneByOne.Parts.{first_holds, second_holds}
+use Rattle.sq_binder.proofs.Changes.Receivers.{table_within}
+use Rattle.sq_binder.proofs.Statements.There.{insert_is_over}
 use Rattle.sq_binder.proofs.insert.insert_into.Goals as goal
 
 pub returns-in_err-receivers-clause-finds : goal.returns-in_err-receivers-clause-finds

@@ -1,3 +1,4 @@
+-- Left open: the call of object_column, the clauses positions and columns, and the loop's invariant; answered by Receivers and There.
 use Rattle.std.proofs.Common.{[], ◌∷◌, ◌++◌, length, map, take, take_all, sym, ap, subst, ◌∙◌, refl}
 use Rattle.std.proofs.lemmas.List.{map-append, take_more}
 use Rattle.std.specs.List.{AllByRecursion}
@@ -5,8 +6,8 @@ use Rattle.sq_meaning.proofs.AnswerLaws.{all_appended}
 use Rattle.sq_bound.specs.Fits.{IsColumnOf}
 use Rattle.sq_bound.specs.declared.names.ObjectColumn.{ObjectColumn}
 use Rattle.sq_binder.specs.declared.receiver.Receiver.{Receiver}
-use Rattle.sq_binder.proofs.Receivers.{one_within}
-use Rattle.sq_binder.proofs.There.{object_of}
+use Rattle.sq_binder.proofs.Changes.Receivers.{one_within}
+use Rattle.sq_binder.proofs.Statements.There.{object_of}
 use Rattle.sq_binder.proofs.insert.object_columns.Goals as goal
 
 pub object_column-requires : goal.object_column-requires

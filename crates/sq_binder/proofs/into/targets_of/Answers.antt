@@ -1,12 +1,13 @@
+-- Left open: the result, and that the loop keeps its invariant; answered by Steps and IntoTargets.
 use Rattle.std.proofs.Common.{◌≡◌, [], length, map, Ok, sym, ap, subst, arith}
 use Rattle.std.specs.List.{zip}
 use Rattle.sq_meaning.specs.Spelled.{listed}
 use Rattle.sq_binding.specs.Targets.{targets_bound}
 use Rattle.sq_binder.specs.Binds.{Stops}
 use Rattle.sq_binder.specs.Scope.{declared_of}
-use Rattle.sq_binder.proofs.Steps.{all_done, handed_on, step_done, step_stops}
+use Rattle.sq_binder.proofs.OneByOne.Steps.{all_done, handed_on, step_done, step_stops}
 use Rattle.sq_binder.specs.Target.{kinds_shown, target_step}
-use Rattle.sq_binder.proofs.IntoTargets.{begun_stops, begun_targets, beside, pair_at, pair_within, pairs_past, step_once}
+use Rattle.sq_binder.proofs.Statements.IntoTargets.{begun_stops, begun_targets, beside, pair_at, pair_within, pairs_past, step_once}
 use Rattle.sq_binding.specs.SeenQuery.{output_seen}
 use Rattle.sq_binder.proofs.into.targets_of.Goals as goal
 

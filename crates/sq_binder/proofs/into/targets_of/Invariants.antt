@@ -5,9 +5,9 @@ use Rattle.sq_meaning.specs.Spelled.{listed}
 use Rattle.sq_meaning.specs.Words.{has_twice}
 use Rattle.sq_binding.specs.Targets.{targets_bound}
 use Rattle.sq_binder.specs.Scope.{declared_of}
-use Rattle.sq_binder.proofs.Steps.{stepped}
+use Rattle.sq_binder.proofs.OneByOne.Steps.{stepped}
 use Rattle.sq_binder.specs.Target.{all_set, kinds_shown, target_step}
-use Rattle.sq_binder.proofs.IntoTargets.{beside}
+use Rattle.sq_binder.proofs.Statements.IntoTargets.{beside}
 use Rattle.sq_binding.specs.SeenQuery.{output_seen}
 use Rattle.sq_binder.proofs.into.targets_of.Given as goal
 

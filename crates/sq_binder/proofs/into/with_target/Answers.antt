@@ -1,10 +1,11 @@
+-- Left open for with_target: its result; answered by Steps and IntoTargets.
 use Rattle.std.proofs.Common.{map, ap, subst, ◌∙◌}
 use Rattle.sq_binding.specs.Targets.{target_bound}
 use Rattle.sq_binder.specs.Binds.{Binds}
 use Rattle.sq_binder.specs.Scope.{declared_of}
-use Rattle.sq_binder.proofs.Steps.{then_binds}
+use Rattle.sq_binder.proofs.OneByOne.Steps.{then_binds}
 use Rattle.sq_binder.specs.Target.{is_set_again, set_once, set_unless}
-use Rattle.sq_binder.proofs.IntoTargets.{again_is}
+use Rattle.sq_binder.proofs.Statements.IntoTargets.{again_is}
 use Rattle.sq_binding.specs.SeenQuery.{output_seen}
 use Rattle.sq_binder.proofs.into.with_target.Goals as goal
 

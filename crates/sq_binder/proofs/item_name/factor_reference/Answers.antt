@@ -1,4 +1,5 @@
-use Rattle.sq_binder.proofs.ItemNames as names
+-- Left open for factor_reference: its result; answered by ItemNames.
+use Rattle.sq_binder.proofs.Expressions.ItemNames as names
 use Rattle.std.proofs.Common.{sym, ◌∙◌}
 use Rattle.sq_binder.proofs.item_name.factor_reference.Goals as goal
 

@@ -1,4 +1,5 @@
-use Rattle.sq_binder.proofs.ItemNames as names
+-- Left open for term_reference: its result; answered by ItemNames.
+use Rattle.sq_binder.proofs.Expressions.ItemNames as names
 use Rattle.std.proofs.Common.{◌≡◌, true, false, ap, sym, ◌∙◌}
 use Rattle.sq_meaning.specs.SortKeys.{item_name}
 use Rattle.sq_binder.proofs.item_name.term_reference.Goals as goal

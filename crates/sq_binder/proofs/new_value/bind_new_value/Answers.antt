@@ -1,3 +1,4 @@
+-- Left open for bind_new_value: the clauses finds and plain; answered by Images, NewValues and Turned.
 use Rattle.std.proofs.Common.{Ok, sym, ap, subst, ◌∙◌}
 use Rattle.sq_value.specs.declared.value.Value.TheVariants as value
 use Rattle.sq_binding.specs.Change.{new_value_bound}
@@ -5,9 +6,9 @@ use Rattle.sq_binding.specs.Numbered.{Numbered}
 use Rattle.sq_binding.specs.Seen.{numbered_of}
 use Rattle.sq_binder.specs.Found.{Finds}
 use Rattle.sq_binder.specs.Surroundings.{surroundings}
-use Rattle.sq_binder.proofs.Images.{numbered_of-Literal}
-use Rattle.sq_binder.proofs.NewValues.{value_is, value_plain}
-use Rattle.sq_binder.proofs.Turned.{alone_seen}
+use Rattle.sq_binder.proofs.Expressions.Images.{numbered_of-Literal}
+use Rattle.sq_binder.proofs.Expressions.NewValues.{value_is, value_plain}
+use Rattle.sq_binder.proofs.OneByOne.Turned.{alone_seen}
 use Rattle.sq_binder.proofs.new_value.bind_new_value.Goals as goal
 
 pub returns-in-Expr-clause-finds : goal.returns-in-Expr-clause-finds

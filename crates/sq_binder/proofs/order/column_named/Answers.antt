@@ -1,8 +1,9 @@
+-- Left open for column_named: its result, and that the loop keeps its invariant; answered by Orders.
 use Rattle.std.proofs.Common.{◌≡◌, ◌+◌, sym, subst, take, ◌∙◌}
 use Rattle.std.specs.Prelude.{option_to_list}
 use Rattle.sq_meaning.specs.SortKeys.{columns_named}
 use Rattle.sq_binder.specs.Order.{names_seen}
-use Rattle.sq_binder.proofs.Orders.{another, is_none, the_first, the_second}
+use Rattle.sq_binder.proofs.WholeQueries.Orders.{another, is_none, the_first, the_second}
 use Rattle.sq_binder.proofs.order.column_named.Goals as goal
 use Rattle.sq_binder.proofs.order.column_named.Goals.{then-is_named+else-is_some, else-is_named}
 

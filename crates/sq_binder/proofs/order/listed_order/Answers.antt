@@ -1,12 +1,13 @@
+-- Left open: the result, and that the loop starts with its invariant; answered by InTurn, Orders and Turns.
 use Rattle.std.proofs.Common.{List, sym, ap, subst, ◌∙◌}
 use Rattle.sq_tree.specs.declared.«module».SortSpecification.{SortSpecification}
 use Rattle.sq_meaning.specs.Spelled.{listed}
 use Rattle.sq_binding.specs.Order.{order_bound, sort_column_bound}
-use Rattle.sq_binder.proofs.InTurn.{itself}
+use Rattle.sq_binder.proofs.OneByOne.InTurn.{itself}
 use Rattle.sq_binder.specs.InTurn.{in_turn}
 use Rattle.sq_binder.specs.Order.{names_seen}
-use Rattle.sq_binder.proofs.Orders.{orders_in_turn}
-use Rattle.sq_binder.proofs.Turns.{Grown, first_grown, next_stops}
+use Rattle.sq_binder.proofs.WholeQueries.Orders.{orders_in_turn}
+use Rattle.sq_binder.proofs.OneByOne.Turns.{Grown, first_grown, next_stops}
 use Rattle.sq_binding.specs.SeenQuery.{sort_seen}
 use Rattle.sq_binder.proofs.order.listed_order.Goals as goal
 

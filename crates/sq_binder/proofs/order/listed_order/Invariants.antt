@@ -3,7 +3,7 @@ use Rattle.sq_tree.specs.declared.«module».SortSpecification.{SortSpecificatio
 use Rattle.sq_meaning.specs.Spelled.{listed}
 use Rattle.sq_binding.specs.Order.{order_bound, sort_column_bound}
 use Rattle.sq_binder.specs.Order.{names_seen}
-use Rattle.sq_binder.proofs.Turns.{Grown}
+use Rattle.sq_binder.proofs.OneByOne.Turns.{Grown}
 use Rattle.sq_binding.specs.SeenQuery.{sort_seen}
 use Rattle.sq_binder.proofs.order.listed_order.Given as goal
 

@@ -1,3 +1,4 @@
+-- Left open for bind_between: its result; answered by Finds and Predicates.
 use Rattle.std.proofs.Common.{refl}
 use Rattle.sq_bound.specs.declared.condition.Predicate.TheVariants as predicate
 use Rattle.sq_meaning.specs.Spelled.{expr_of}
@@ -7,11 +8,11 @@ use Rattle.sq_binding.specs.Condition.{agreeing, cond_bound}
 use Rattle.sq_binding.specs.NumberedCondition.{NumberedCond}
 use Rattle.sq_binding.specs.Seen.{not_if, numbered_of, predicate_seen}
 use Rattle.sq_binding.specs.Select.{value}
-use Rattle.sq_binding.proofs.SeenLevels.{predicate_seen-Between}
+use Rattle.sq_binding.proofs.Standing.SeenLevels.{predicate_seen-Between}
 use Rattle.sq_binder.specs.Found.{both_of, pairs}
 use Rattle.sq_binder.specs.Surroundings.{surroundings, typed_of}
-use Rattle.sq_binder.proofs.Finds.{made_found, made_stop}
-use Rattle.sq_binder.proofs.Predicates.{between_made}
+use Rattle.sq_binder.proofs.OneByOne.Finds.{made_found, made_stop}
+use Rattle.sq_binder.proofs.Clauses.Predicates.{between_made}
 use Rattle.sq_binder.proofs.predicate.bind_between.Goals as goal
 
 pub returns-in_err-part : goal.returns-in_err-part

@@ -1,3 +1,4 @@
+-- Left open for bind_in_list: its result; answered by Finds and Predicates.
 use Rattle.std.proofs.Common.{map, refl}
 use Rattle.sq_bound.specs.declared.condition.Predicate.TheVariants as predicate
 use Rattle.sq_meaning.specs.Spelled.{expr_of, listed}
@@ -8,10 +9,10 @@ use Rattle.sq_binding.specs.Found.{each}
 use Rattle.sq_binding.specs.NumberedCondition.{NumberedCond}
 use Rattle.sq_binding.specs.Seen.{not_if, numbered_of, predicate_seen}
 use Rattle.sq_binding.specs.Select.{value}
-use Rattle.sq_binding.proofs.SeenLevels.{predicate_seen-InList}
+use Rattle.sq_binding.proofs.Standing.SeenLevels.{predicate_seen-InList}
 use Rattle.sq_binder.specs.Surroundings.{surroundings, typed_of}
-use Rattle.sq_binder.proofs.Finds.{made_found, made_stop}
-use Rattle.sq_binder.proofs.Predicates.{in_list_made}
+use Rattle.sq_binder.proofs.OneByOne.Finds.{made_found, made_stop}
+use Rattle.sq_binder.proofs.Clauses.Predicates.{in_list_made}
 use Rattle.sq_binder.proofs.predicate.bind_in_list.Goals as goal
 
 pub returns-in_err-part : goal.returns-in_err-part

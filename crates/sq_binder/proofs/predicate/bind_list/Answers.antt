@@ -1,3 +1,4 @@
+-- Left open for bind_list: its result, and that the loop keeps its invariant; answered by InTurn.
 use Rattle.std.proofs.Common.{map}
 use Rattle.sq_meaning.specs.Spelled.{expr_of, listed}
 use Rattle.sq_binding.specs.Condition.{agreeing}
@@ -5,7 +6,7 @@ use Rattle.sq_binding.specs.Found.{each}
 use Rattle.sq_binding.specs.Seen.{numbered_of}
 use Rattle.sq_binder.specs.Found.{counts_of}
 use Rattle.sq_binder.specs.Surroundings.{surroundings}
-use Rattle.sq_binder.proofs.InTurn.{begun_found, next_found, next_stop}
+use Rattle.sq_binder.proofs.OneByOne.InTurn.{begun_found, next_found, next_stop}
 use Rattle.sq_binder.proofs.predicate.bind_list.Goals as goal
 
 pub loop-expr-init : goal.loop-expr-init

@@ -5,7 +5,7 @@ use Rattle.sq_binding.specs.Found.{each}
 use Rattle.sq_binding.specs.Seen.{numbered_of}
 use Rattle.sq_binder.specs.Found.{counts_of}
 use Rattle.sq_binder.specs.Surroundings.{surroundings}
-use Rattle.sq_binder.proofs.InTurn.{SoFar}
+use Rattle.sq_binder.proofs.OneByOne.InTurn.{SoFar}
 use Rattle.sq_binder.proofs.predicate.bind_list.Given as goal
 
 abbrev pub invariant-loop-expr : goal.invariant-loop-expr

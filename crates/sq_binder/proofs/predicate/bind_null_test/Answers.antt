@@ -1,3 +1,4 @@
+-- Left open for bind_null_test: its result; answered by Finds and Predicates.
 use Rattle.std.proofs.Common.{refl}
 use Rattle.sq_bound.specs.declared.condition.Predicate.TheVariants as predicate
 use Rattle.sq_meaning.specs.Spelled.{expr_of}
@@ -7,10 +8,10 @@ use Rattle.sq_binding.specs.Condition.{cond_bound}
 use Rattle.sq_binding.specs.NumberedCondition.{NumberedCond}
 use Rattle.sq_binding.specs.Seen.{not_if, predicate_seen}
 use Rattle.sq_binding.specs.Select.{value}
-use Rattle.sq_binding.proofs.SeenLevels.{predicate_seen-Null}
+use Rattle.sq_binding.proofs.Standing.SeenLevels.{predicate_seen-Null}
 use Rattle.sq_binder.specs.Surroundings.{surroundings, typed_of}
-use Rattle.sq_binder.proofs.Finds.{makes_found}
-use Rattle.sq_binder.proofs.Predicates.{null_made}
+use Rattle.sq_binder.proofs.OneByOne.Finds.{makes_found}
+use Rattle.sq_binder.proofs.Clauses.Predicates.{null_made}
 use Rattle.sq_binder.proofs.predicate.bind_null_test.Goals as goal
 
 pub returns : goal.returns

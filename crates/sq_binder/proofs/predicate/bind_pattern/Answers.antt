@@ -1,9 +1,10 @@
+-- Left open for bind_pattern: its result; answered by Finds.
 use Rattle.std.specs.Option.{option_map}
 use Rattle.sq_meaning.specs.Spelled.{expr_of}
 use Rattle.sq_binding.specs.Condition.{escape_bound, text}
 use Rattle.sq_binding.specs.Seen.{numbered_of}
 use Rattle.sq_binder.specs.Surroundings.{surroundings}
-use Rattle.sq_binder.proofs.Finds.{pairs_found}
+use Rattle.sq_binder.proofs.OneByOne.Finds.{pairs_found}
 use Rattle.sq_binder.proofs.predicate.bind_pattern.Goals as goal
 
 pub returns : goal.returns

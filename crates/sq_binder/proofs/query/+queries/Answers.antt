@@ -1,3 +1,4 @@
+-- Left open: the clause finds, and that the loop keeps its invariant; answered by Conditions and others.
 use Rattle.std.proofs.Common.{◌+◌, Ok, take, refl, sym, ap, subst, ◌∙◌}
 use Rattle.sq_tree.specs.declared.query.Query.{out-Query}
 use Rattle.sq_tree.specs.declared.query.QueryTerm.TheVariants as term
@@ -10,10 +11,10 @@ use Rattle.sq_binding.specs.Seen.{select_seen}
 use Rattle.sq_binder.specs.Binds.{Stops}
 use Rattle.sq_binder.specs.Found.{Finds, counts_of}
 use Rattle.sq_binder.specs.Surroundings.{surroundings}
-use Rattle.sq_binder.proofs.Conditions.{select_of-out}
-use Rattle.sq_binder.proofs.Finds.{stop_found}
+use Rattle.sq_binder.proofs.Clauses.Conditions.{select_of-out}
+use Rattle.sq_binder.proofs.OneByOne.Finds.{stop_found}
 use Rattle.sq_binding.specs.SeenQuery.{query_seen, term_seen}
-use Rattle.sq_binder.proofs.Queries.{query_begun, query_next, query_whole, so_far, stops_later}
+use Rattle.sq_binder.proofs.WholeQueries.Queries.{query_begun, query_next, query_whole, so_far, stops_later}
 use Rattle.sq_binder.proofs.query.+queries.Goals as goal
 
 pub bind_query-returns-in_err-joined-clause-finds : goal.bind_query-returns-in_err-joined-clause-finds

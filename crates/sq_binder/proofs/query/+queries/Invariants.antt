@@ -3,7 +3,7 @@ use Rattle.sq_binding.specs.QueryExpression.{query_bound}
 use Rattle.sq_binder.specs.Found.{Finds}
 use Rattle.sq_binder.specs.Surroundings.{surroundings}
 use Rattle.sq_binding.specs.SeenQuery.{HaveTheirColumns, query_seen}
-use Rattle.sq_binder.proofs.Queries.{so_far}
+use Rattle.sq_binder.proofs.WholeQueries.Queries.{so_far}
 use Rattle.sq_binder.proofs.query.+queries.Given as goal
 
 abbrev pub invariant-bind_query-loop-union : goal.invariant-bind_query-loop-union

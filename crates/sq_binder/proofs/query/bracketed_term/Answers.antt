@@ -1,13 +1,14 @@
+-- Left open for bracketed_term: the clauses finds and columns; answered by Behind and Finds.
 use Rattle.std.proofs.Common.{refl, sym, ap, subst, ◌∙◌}
 use Rattle.std.proofs.lemmas.Result.{IfOk-at_ok}
 use Rattle.sq_bound.specs.declared.query.BoundQuery.{BoundQuery}
 use Rattle.sq_bound.specs.declared.query.BoundTerm.TheVariants as bound
 use Rattle.sq_binder.specs.Found.{Finds}
 use Rattle.sq_binder.specs.declared.found.Found.{Found}
-use Rattle.sq_binder.proofs.Behind.{itself}
-use Rattle.sq_binder.proofs.Finds.{makes_found}
+use Rattle.sq_binder.proofs.OneByOne.Behind.{itself}
+use Rattle.sq_binder.proofs.OneByOne.Finds.{makes_found}
 use Rattle.sq_binding.specs.SeenQuery.{HaveTheirColumns, query_seen, term_seen}
-use Rattle.sq_binding.proofs.SeenQueries.{bracketed_made, term_seen-Bracketed}
+use Rattle.sq_binding.proofs.Standing.SeenQueries.{bracketed_made, term_seen-Bracketed}
 use Rattle.sq_binder.proofs.query.bracketed_term.Goals as goal
 
 pub returns-in-Ok-clause-finds : goal.returns-in-Ok-clause-finds

@@ -1,11 +1,12 @@
+-- Left open for columns_of: its result; answered by Queries.
 use Rattle.std.proofs.Common.{map, sym, ap, subst, ◌∙◌}
 use Rattle.sq_bound.specs.declared.query.BoundTerm.{BoundTerm}
 use Rattle.sq_bound.specs.declared.query.BoundTerm.TheVariants as bound
 use Rattle.sq_binding.specs.QueryExpression.{columns_of_query}
 use Rattle.sq_binding.specs.Seen.{column_of}
 use Rattle.sq_binding.specs.SeenQuery.{TermHasColumns, term_seen}
-use Rattle.sq_binding.proofs.SeenQueries.{bracketed_has}
-use Rattle.sq_binder.proofs.Queries.{bracketed_columns, specification_columns}
+use Rattle.sq_binding.proofs.Standing.SeenQueries.{bracketed_has}
+use Rattle.sq_binder.proofs.WholeQueries.Queries.{bracketed_columns, specification_columns}
 use Rattle.sq_binder.proofs.query.columns_of.Goals as goal
 
 pub returns-in-Specification : goal.returns-in-Specification

@@ -1,10 +1,11 @@
+-- Left open for of_term: its result; answered by Queries.
 use Rattle.std.proofs.Common.{◌≡◌, map, sym, ap, subst, ◌∙◌}
 use Rattle.std.specs.List.{AllByRecursion}
 use Rattle.sq_bound.specs.declared.query.BoundQuery.{roll-BoundQuery}
 use Rattle.sq_binding.specs.QueryExpression.{columns_of_query}
 use Rattle.sq_binding.specs.Seen.{column_of}
 use Rattle.sq_binding.specs.SeenQuery.{UnionHasColumns, query_seen, term_seen}
-use Rattle.sq_binder.proofs.Queries.{alone_seen, made_has}
+use Rattle.sq_binder.proofs.WholeQueries.Queries.{alone_seen, made_has}
 use Rattle.sq_binder.proofs.query.of_term.Goals as goal
 
 pub returns-in-Ok : goal.returns-in-Ok

@@ -1,13 +1,14 @@
+-- Left open for specification_term: the clauses finds and columns; answered by Behind and Finds.
 use Rattle.std.proofs.Common.{refl, subst}
 use Rattle.sq_bound.specs.declared.query.BoundTerm.TheVariants as bound
 use Rattle.sq_binding.specs.QueryExpression.{NumberedQuery}
 use Rattle.sq_binding.specs.Seen.{select_seen}
 use Rattle.sq_binder.specs.Found.{Finds}
-use Rattle.sq_binder.proofs.Behind.{made}
-use Rattle.sq_binder.proofs.Finds.{makes_found}
+use Rattle.sq_binder.proofs.OneByOne.Behind.{made}
+use Rattle.sq_binder.proofs.OneByOne.Finds.{makes_found}
 use Rattle.sq_binder.specs.Query.{as_query}
 use Rattle.sq_binding.specs.SeenQuery.{term_seen}
-use Rattle.sq_binding.proofs.SeenQueries.{specification_made, term_seen-Specification}
+use Rattle.sq_binding.proofs.Standing.SeenQueries.{specification_made, term_seen-Specification}
 use Rattle.sq_binder.proofs.query.specification_term.Goals as goal
 
 pub returns-clause-finds : goal.returns-clause-finds

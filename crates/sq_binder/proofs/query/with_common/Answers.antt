@@ -1,3 +1,4 @@
+-- Left open for with_common: the clauses finds and columns; answered by Finds and Parts.
 use Rattle.std.proofs.Common.{List, map, subst}
 use Rattle.std.proofs.lemmas.Result.{IfOk-at_ok}
 use Rattle.sq_binding.specs.NumberedCondition.{ResultColumn}
@@ -6,9 +7,9 @@ use Rattle.sq_binding.specs.Seen.{column_of}
 use Rattle.sq_bound.specs.declared.query.BoundTerm.{BoundTerm}
 use Rattle.sq_binder.specs.Found.{Finds}
 use Rattle.sq_binder.specs.declared.found.Found.{Found}
-use Rattle.sq_binder.proofs.Finds.{pairs_found}
+use Rattle.sq_binder.proofs.OneByOne.Finds.{pairs_found}
 use Rattle.sq_binding.specs.SeenQuery.{TermHasColumns, term_seen}
-use Rattle.sq_binder.proofs.Parts.{first_holds}
+use Rattle.sq_binder.proofs.OneByOne.Parts.{first_holds}
 use Rattle.sq_binder.proofs.query.with_common.Goals as goal
 
 pub returns-clause-finds : goal.returns-clause-finds

@@ -1,3 +1,4 @@
+-- Left open for with_term: its result; answered by Queries.
 use Rattle.std.proofs.Common.{◌≡◌, List, map, sym, ap, ◌∙◌}
 use Rattle.sq_bound.specs.declared.condition.ResultColumn.{ResultColumn}
 use Rattle.sq_bound.specs.declared.query.BoundQuery.{out-BoundQuery, roll-BoundQuery}
@@ -5,8 +6,8 @@ use Rattle.sq_bound.specs.declared.query.BoundUnion.{BoundUnion}
 use Rattle.sq_binding.specs.QueryExpression.{NumberedQuery, columns_of_query}
 use Rattle.sq_binding.specs.Seen.{column_of}
 use Rattle.sq_binding.specs.SeenQuery.{query_seen, term_seen}
-use Rattle.sq_binding.proofs.SeenQueries.{query_parts}
-use Rattle.sq_binder.proofs.Queries.{further_have, further_seen, made_has}
+use Rattle.sq_binding.proofs.Standing.SeenQueries.{query_parts}
+use Rattle.sq_binder.proofs.WholeQueries.Queries.{further_have, further_seen, made_has}
 use Rattle.sq_binder.proofs.query.with_term.Goals as goal
 
 pub returns-in-Ok : goal.returns-in-Ok

@@ -1,3 +1,4 @@
+-- Left open: what the call of joined_sides asks for, and the clause finds; answered by Parts and Unions.
 use Rattle.std.proofs.Common.{List, map, ap, subst, ◌∙◌}
 use Rattle.std.proofs.lemmas.Result.{IfOk-at_ok}
 use Rattle.sq_binding.specs.NumberedCondition.{ResultColumn}
@@ -9,9 +10,9 @@ use Rattle.sq_bound.specs.declared.query.BoundTerm.{BoundTerm}
 use Rattle.sq_binder.specs.Found.{Finds, Pairs, both_of, pairs}
 use Rattle.sq_binder.specs.declared.found.Found.{Found}
 use Rattle.sq_binding.specs.SeenQuery.{HaveTheirColumns, TermHasColumns, term_seen}
-use Rattle.sq_binding.proofs.SeenQueries.{query_itself}
-use Rattle.sq_binder.proofs.Parts.{first_holds, second_holds}
-use Rattle.sq_binder.proofs.Unions.{joins_found, joins_stop}
+use Rattle.sq_binding.proofs.Standing.SeenQueries.{query_itself}
+use Rattle.sq_binder.proofs.OneByOne.Parts.{first_holds, second_holds}
+use Rattle.sq_binder.proofs.WholeQueries.Unions.{joins_found, joins_stop}
 use Rattle.sq_binder.proofs.query.with_union.Goals as goal
 
 pub returns-in-Ok-clause-finds : goal.returns-in-Ok-clause-finds

@@ -1,11 +1,12 @@
+-- Left open for insert_receivers: its result; answered by Finds and ColumnsInTurn.
 use Rattle.std.proofs.Common.{[], map, sym, ap, subst, ◌∙◌}
 use Rattle.sq_meaning.specs.Spelled.{listed}
 use Rattle.sq_binding.specs.Change.{each_column, itself, receivers_bound, receivers_of}
 use Rattle.sq_binder.specs.Found.{Finds, counts_of}
-use Rattle.sq_binder.proofs.Finds.{finds_as}
+use Rattle.sq_binder.proofs.OneByOne.Finds.{finds_as}
 use Rattle.sq_binder.specs.Changeable.{changed_of}
 use Rattle.sq_binder.specs.Receiver.{columns_made, receiver_seen}
-use Rattle.sq_binder.proofs.ColumnsInTurn.{in_turn}
+use Rattle.sq_binder.proofs.OneByOne.ColumnsInTurn.{in_turn}
 use Rattle.sq_binder.proofs.receiver.insert_receivers.Goals as goal
 
 pub returns-in-Some : goal.returns-in-Some

@@ -1,8 +1,9 @@
+-- Left open for listed_receivers: its result, and that the loop keeps its invariant; answered by ColumnLoops.
 use Rattle.std.proofs.Common.{map}
 use Rattle.sq_lex.specs.declared.name.Name.{Name}
 use Rattle.sq_binding.specs.Change.{itself}
 use Rattle.sq_binder.specs.Receiver.{receiver_seen}
-use Rattle.sq_binder.proofs.ColumnLoops.{all_columns, begun_columns, next_column, next_column_stops}
+use Rattle.sq_binder.proofs.OneByOne.ColumnLoops.{all_columns, begun_columns, next_column, next_column_stops}
 use Rattle.sq_binder.proofs.receiver.listed_receivers.Goals as goal
 
 pub loop-number-init : goal.loop-number-init

@@ -1,7 +1,7 @@
 use Rattle.std.proofs.Common.{map}
 use Rattle.sq_binding.specs.Change.{itself}
 use Rattle.sq_binder.specs.Receiver.{receiver_seen}
-use Rattle.sq_binder.proofs.ColumnLoops.{ColumnsSoFar}
+use Rattle.sq_binder.proofs.OneByOne.ColumnLoops.{ColumnsSoFar}
 use Rattle.sq_binder.proofs.receiver.listed_receivers.Given as goal
 
 abbrev pub invariant-loop-number : goal.invariant-loop-number

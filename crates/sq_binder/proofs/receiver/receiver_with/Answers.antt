@@ -1,5 +1,6 @@
+-- Left open for receiver_with: its result, and that the loop keeps its invariant; answered by Receivers.
 use Rattle.std.proofs.Common.{sym, ◌∙◌}
-use Rattle.sq_binder.proofs.Receivers.{found_next, none_left, passed_next}
+use Rattle.sq_binder.proofs.Changes.Receivers.{found_next, none_left, passed_next}
 use Rattle.sq_binder.proofs.receiver.receiver_with.Goals as goal
 
 pub returns-then-eq : goal.returns-then-eq

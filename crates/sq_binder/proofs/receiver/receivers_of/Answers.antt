@@ -1,9 +1,10 @@
+-- Left open for receivers_of: its result; answered by Receivers.
 use Rattle.std.proofs.Common.{◌≡◌, map, ap, subst, ◌∙◌}
 use Rattle.std.specs.Prelude.{IfOk}
 use Rattle.sq_binder.specs.Scope.{column_of}
 use Rattle.sq_binder.specs.Changeable.{changed_of}
 use Rattle.sq_binder.specs.Receiver.{receiver_seen}
-use Rattle.sq_binder.proofs.Receivers.{all_seen}
+use Rattle.sq_binder.proofs.Changes.Receivers.{all_seen}
 use Rattle.sq_binder.proofs.receiver.receivers_of.Goals as goal
 
 pub returns : goal.returns

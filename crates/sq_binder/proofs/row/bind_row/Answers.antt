@@ -1,15 +1,16 @@
+-- Left open for bind_row: its result; answered by SelectRows.
 use Rattle.std.proofs.Common.{map, sym, ap, subst, ◌∙◌}
 use Rattle.sq_meaning.specs.Spelled.{listed}
 use Rattle.sq_binding.specs.Seen.{column_of}
 use Rattle.sq_binding.specs.Targets.{targets_bound}
-use Rattle.sq_binding.proofs.SeenLevels.{columns_seen}
+use Rattle.sq_binding.proofs.Standing.SeenLevels.{columns_seen}
 use Rattle.sq_binder.specs.Binds.{Binds}
 use Rattle.sq_binder.specs.Found.{Finds}
 use Rattle.sq_binder.specs.Scope.{parameters_in}
 use Rattle.sq_binder.specs.Surroundings.{surroundings}
 use Rattle.sq_binder.specs.Row.{row_in}
 use Rattle.sq_binding.specs.SeenQuery.{output_seen, row_seen}
-use Rattle.sq_binder.proofs.SelectRows.{row_found}
+use Rattle.sq_binder.proofs.Statements.SelectRows.{row_found}
 use Rattle.sq_binder.proofs.row.bind_row.Goals as goal
 
 pub returns : goal.returns

@@ -1,16 +1,17 @@
+-- Left open for bind_positioned: the clauses finds and leaf; answered by Finds, Steps and others.
 use Rattle.std.proofs.Common.{sym, ap, ◌∙◌, Ok}
 use Rattle.sq_bound.specs.Fits.{under}
 use Rattle.sq_bound.specs.Known.{under_of}
 use Rattle.sq_binding.specs.Change.{NumberedChange, positioned_bound}
 use Rattle.sq_binding.specs.Found.{pure}
 use Rattle.sq_binder.specs.Found.{counts_of}
-use Rattle.sq_binder.proofs.Finds.{finds_as}
-use Rattle.sq_binder.proofs.Steps.{stops_by}
+use Rattle.sq_binder.proofs.OneByOne.Finds.{finds_as}
+use Rattle.sq_binder.proofs.OneByOne.Steps.{stops_by}
 use Rattle.sq_binder.specs.Changeable.{changed_of}
 use Rattle.sq_binder.specs.Cursors.{named_cursor_of}
 use Rattle.sq_binding.specs.SeenQuery.{change_seen}
-use Rattle.sq_binder.proofs.ChangedRows.{row_elsewhere, row_there}
-use Rattle.sq_binder.proofs.Turned.{alone_seen}
+use Rattle.sq_binder.proofs.Changes.ChangedRows.{row_elsewhere, row_there}
+use Rattle.sq_binder.proofs.OneByOne.Turned.{alone_seen}
 use Rattle.sq_binder.proofs.rows.bind_positioned.Goals as goal
 
 pub returns-then-not-is_over-clause-finds : goal.returns-then-not-is_over-clause-finds

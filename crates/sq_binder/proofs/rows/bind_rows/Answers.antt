@@ -1,3 +1,4 @@
+-- Left open for bind_rows: the clauses finds and leaf; answered by There.
 use Rattle.std.proofs.Common.{◌≡◌, sym, subst}
 use Rattle.std.specs.Prelude.{Result, IfOk}
 use Rattle.sq_bound.specs.Fits.{under}
@@ -10,7 +11,7 @@ use Rattle.sq_binder.specs.Surroundings.{surroundings}
 use Rattle.sq_binder.specs.Changeable.{changed_of}
 use Rattle.sq_binder.specs.Names.{names_at}
 use Rattle.sq_binding.specs.SeenQuery.{change_seen}
-use Rattle.sq_binder.proofs.There.{searched_under}
+use Rattle.sq_binder.proofs.Statements.There.{searched_under}
 use Rattle.sq_binder.proofs.rows.bind_rows.Goals as goal
 
 pub returns-in-Some-clause-finds : goal.returns-in-Some-clause-finds

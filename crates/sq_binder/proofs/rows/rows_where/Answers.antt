@@ -1,3 +1,4 @@
+-- Left open for rows_where: the clauses finds and leaf; answered by ChangedRows and There.
 use Rattle.std.proofs.Common.{◌≡◌, Some, sym, subst}
 use Rattle.std.specs.Prelude.{Result, IfOk}
 use Rattle.sq_tree.specs.declared.statement.Where.TheVariants as rows_where
@@ -13,8 +14,8 @@ use Rattle.sq_binder.specs.Surroundings.{surroundings}
 use Rattle.sq_binder.specs.Changeable.{changed_of, target_bound}
 use Rattle.sq_binder.specs.Names.{names_at}
 use Rattle.sq_binding.specs.SeenQuery.{change_seen}
-use Rattle.sq_binder.proofs.ChangedRows.{condition_made, searched_found}
-use Rattle.sq_binder.proofs.There.{searched_under}
+use Rattle.sq_binder.proofs.Changes.ChangedRows.{condition_made, searched_found}
+use Rattle.sq_binder.proofs.Statements.There.{searched_under}
 use Rattle.sq_binder.proofs.rows.rows_where.Goals as goal
 
 pub returns-in-CurrentOf-clause-finds : goal.returns-in-CurrentOf-clause-finds

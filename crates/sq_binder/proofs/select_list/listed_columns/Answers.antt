@@ -1,3 +1,4 @@
+-- Left open: the result, and that the loop keeps its invariant; answered by Behind, Finds and others.
 use Rattle.std.proofs.Common.{[], Ok, map, arith}
 use Rattle.sq_meaning.specs.Spelled.{expr_of, listed}
 use Rattle.sq_meaning.specs.Syntax.{expressions}
@@ -6,10 +7,10 @@ use Rattle.sq_binding.specs.Select.{shown_column}
 use Rattle.sq_binder.specs.Found.{counts_of}
 use Rattle.sq_binder.specs.SelectList.{list_seen, list_split, split}
 use Rattle.sq_binder.specs.Surroundings.{surroundings}
-use Rattle.sq_binder.proofs.Behind.{made_of}
-use Rattle.sq_binder.proofs.Finds.{finds_as}
-use Rattle.sq_binder.proofs.SelectLists.{all_shown, begun_shown, few_columns, few_listed, next_shown, next_shown_stop}
-use Rattle.sq_binder.proofs.Steps.{stops_as}
+use Rattle.sq_binder.proofs.OneByOne.Behind.{made_of}
+use Rattle.sq_binder.proofs.OneByOne.Finds.{finds_as}
+use Rattle.sq_binder.proofs.Clauses.SelectLists.{all_shown, begun_shown, few_columns, few_listed, next_shown, next_shown_stop}
+use Rattle.sq_binder.proofs.OneByOne.Steps.{stops_as}
 use Rattle.sq_binder.proofs.select_list.listed_columns.Goals as goal
 
 pub loop-expr-init : goal.loop-expr-init

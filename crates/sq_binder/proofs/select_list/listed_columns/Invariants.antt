@@ -5,8 +5,8 @@ use Rattle.sq_binding.specs.Select.{shown_column}
 use Rattle.sq_binder.specs.Found.{counts_of}
 use Rattle.sq_binder.specs.SelectList.{split}
 use Rattle.sq_binder.specs.Surroundings.{surroundings}
-use Rattle.sq_binder.proofs.Behind.{made_of}
-use Rattle.sq_binder.proofs.SelectLists.{SoFarShown}
+use Rattle.sq_binder.proofs.OneByOne.Behind.{made_of}
+use Rattle.sq_binder.proofs.Clauses.SelectLists.{SoFarShown}
 use Rattle.sq_binder.proofs.select_list.listed_columns.Given as goal
 
 abbrev pub invariant-loop-expr : goal.invariant-loop-expr

@@ -1,3 +1,4 @@
+-- Left open for select_list: its result; answered without a law.
 use Rattle.std.proofs.Common.{map, sym, subst}
 use Rattle.sq_meaning.specs.Spelled.{list_of}
 use Rattle.sq_binder.specs.Found.{Finds}

@@ -1,6 +1,7 @@
+-- Left open for with_item: that the loop keeps its invariant; answered by AllColumns.
 use Rattle.std.proofs.Common.{◌∙◌}
 use Rattle.sq_binder.specs.SelectList.{list_seen, with_shown}
-use Rattle.sq_binder.proofs.AllColumns.{column_next}
+use Rattle.sq_binder.proofs.Clauses.AllColumns.{column_next}
 use Rattle.sq_binder.proofs.select_list.with_item.Goals as goal
 
 pub loop-column-preserved : goal.loop-column-preserved

@@ -1,6 +1,6 @@
 use Rattle.std.proofs.Common.{◌≡◌, take}
 use Rattle.sq_binder.specs.SelectList.{behind, list_seen}
-use Rattle.sq_binder.proofs.AllColumns.{columns_so_far}
+use Rattle.sq_binder.proofs.Clauses.AllColumns.{columns_so_far}
 use Rattle.sq_binder.proofs.select_list.with_item.Given as goal
 
 abbrev pub invariant-loop-column : goal.invariant-loop-column

@@ -1,6 +1,7 @@
+-- Left open for are_storable: its result, and that the loop keeps its invariant; answered by Sources.
 use Rattle.std.proofs.Common.{sym, ◌∙◌}
 use Rattle.sq_meaning.specs.WellFormed.{is_comparable}
-use Rattle.sq_binder.proofs.Sources.{none_left, one_agrees, one_apart}
+use Rattle.sq_binder.proofs.Changes.Sources.{none_left, one_agrees, one_apart}
 use Rattle.sq_binder.proofs.source.are_storable.Goals as goal
 
 pub returns-then-not-are_comparable : goal.returns-then-not-are_comparable

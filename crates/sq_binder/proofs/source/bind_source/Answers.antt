@@ -1,15 +1,16 @@
+-- Left open for bind_source: the clauses finds and plain; answered by Conditions, Sources and There.
 use Rattle.std.proofs.Common.{map, sym, subst}
 use Rattle.sq_binding.specs.Change.{source_bound}
 use Rattle.sq_binding.specs.Condition.{select_bound}
 use Rattle.sq_binding.specs.Seen.{select_seen}
 use Rattle.sq_binder.specs.Found.{Finds}
 use Rattle.sq_binder.specs.Surroundings.{surroundings}
-use Rattle.sq_binder.proofs.Conditions.{select_of-out}
+use Rattle.sq_binder.proofs.Clauses.Conditions.{select_of-out}
 use Rattle.sq_binder.specs.Names.{names_at}
 use Rattle.sq_binder.specs.Receiver.{receiver_seen}
 use Rattle.sq_binding.specs.SeenQuery.{source_seen}
-use Rattle.sq_binder.proofs.Sources.{query_found}
-use Rattle.sq_binder.proofs.There.{query_is_plain}
+use Rattle.sq_binder.proofs.Changes.Sources.{query_found}
+use Rattle.sq_binder.proofs.Statements.There.{query_is_plain}
 use Rattle.sq_binder.proofs.source.bind_source.Goals as goal
 
 pub returns-in-Query-clause-finds : goal.returns-in-Query-clause-finds

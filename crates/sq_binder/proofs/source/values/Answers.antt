@@ -1,3 +1,4 @@
+-- Left open for values: the clause finds; answered by Finds, Sources and IntoTargets.
 use Rattle.std.proofs.Common.{◌≡◌, ◌∷◌, suc, true, length, map, Ok, refl, sym, ap, subst, arith, ◌∙◌}
 use Rattle.std.proofs.lemmas.List.{length-map}
 use Rattle.std.specs.List.{zip}
@@ -10,12 +11,12 @@ use Rattle.sq_binding.specs.Found.{each}
 use Rattle.sq_binding.specs.Seen.{numbered_of}
 use Rattle.sq_binder.specs.Found.{Finds}
 use Rattle.sq_binder.specs.Surroundings.{surroundings}
-use Rattle.sq_binder.proofs.Finds.{makes_found, makes_stop, stop_found}
+use Rattle.sq_binder.proofs.OneByOne.Finds.{makes_found, makes_stop, stop_found}
 use Rattle.sq_binder.specs.Names.{names_at}
 use Rattle.sq_binder.specs.Receiver.{receiver_seen}
 use Rattle.sq_binding.specs.SeenQuery.{source_seen}
-use Rattle.sq_binder.proofs.Sources.{values_made}
-use Rattle.sq_binder.proofs.IntoTargets.{equal_tested}
+use Rattle.sq_binder.proofs.Changes.Sources.{values_made}
+use Rattle.sq_binder.proofs.Statements.IntoTargets.{equal_tested}
 use Rattle.sq_binder.proofs.source.values.Goals as goal
 
 pub returns-in_err-part-clause-finds : goal.returns-in_err-part-clause-finds

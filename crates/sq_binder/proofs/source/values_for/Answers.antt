@@ -1,3 +1,4 @@
+-- Left open: the clauses finds and plain, and the loop's invariant; answered by Finds, InTurn and others.
 use Rattle.std.proofs.Common.{◌∷◌, map, Ok, refl, sym, ap, subst}
 use Rattle.std.specs.List.{zip}
 use Rattle.sq_meaning.specs.Spelled.{listed}
@@ -6,13 +7,13 @@ use Rattle.sq_binding.specs.Found.{each}
 use Rattle.sq_binding.specs.Seen.{numbered_of}
 use Rattle.sq_binder.specs.Found.{Finds, counts_of}
 use Rattle.sq_binder.specs.Surroundings.{surroundings}
-use Rattle.sq_binder.proofs.Finds.{finds_as}
-use Rattle.sq_binder.proofs.InTurn.{all_found, begun_found, next_found, next_stop}
-use Rattle.sq_binder.proofs.Steps.{stops_as}
+use Rattle.sq_binder.proofs.OneByOne.Finds.{finds_as}
+use Rattle.sq_binder.proofs.OneByOne.InTurn.{all_found, begun_found, next_found, next_stop}
+use Rattle.sq_binder.proofs.OneByOne.Steps.{stops_as}
 use Rattle.sq_binder.specs.Receiver.{receiver_seen}
-use Rattle.sq_binder.proofs.Sources.{pair_seen, pairs_seen, value_at, value_within, values_past}
+use Rattle.sq_binder.proofs.Changes.Sources.{pair_seen, pairs_seen, value_at, value_within, values_past}
 use Rattle.sq_binding.specs.There.{IsPlain}
-use Rattle.sq_binder.proofs.EachHolds.{begun_holds, next_holds}
+use Rattle.sq_binder.proofs.OneByOne.EachHolds.{begun_holds, next_holds}
 use Rattle.sq_binder.proofs.source.values_for.Goals as goal
 
 pub loop-number-init : goal.loop-number-init

@@ -5,9 +5,9 @@ use Rattle.sq_binding.specs.Found.{each}
 use Rattle.sq_binding.specs.Seen.{numbered_of}
 use Rattle.sq_binder.specs.Found.{counts_of}
 use Rattle.sq_binder.specs.Surroundings.{surroundings}
-use Rattle.sq_binder.proofs.InTurn.{SoFar}
+use Rattle.sq_binder.proofs.OneByOne.InTurn.{SoFar}
 use Rattle.sq_binding.specs.There.{IsPlain}
-use Rattle.sq_binder.proofs.Sources.{pair_seen}
+use Rattle.sq_binder.proofs.Changes.Sources.{pair_seen}
 use Rattle.sq_binder.proofs.source.values_for.Given as goal
 
 abbrev pub invariant-loop-number : goal.invariant-loop-number

@@ -1,10 +1,11 @@
+-- Left open for grouping_of: its result; answered by Specified.
 use Rattle.std.proofs.Common.{map, sym, ◌∙◌}
 use Rattle.sq_bound.specs.Expression.{place_meant}
 use Rattle.sq_binding.specs.Seen.{call_of}
 use Rattle.sq_binding.specs.Select.{groups_by}
-use Rattle.sq_binding.proofs.SeenLevels.{grouping_seen-roll}
+use Rattle.sq_binding.proofs.Standing.SeenLevels.{grouping_seen-roll}
 use Rattle.sq_binder.specs.Specification.{clause_seen, is_grouped}
-use Rattle.sq_binder.proofs.Specified.{grouped_by}
+use Rattle.sq_binder.proofs.Clauses.Specified.{grouped_by}
 use Rattle.sq_binder.proofs.specification.grouping_of.Goals as goal
 
 pub returns : goal.returns

@@ -1,7 +1,8 @@
+-- Left open for make_specification: its result; answered by laws of sq_binding.
 use Rattle.std.proofs.Common.{None, map, refl, ap, ◌∙◌, false}
 use Rattle.sq_binding.specs.NumberedCondition.{NumberedSelect}
 use Rattle.sq_binding.specs.Seen.{call_of, column_of, numbered_of}
-use Rattle.sq_binding.proofs.SeenLevels.{select_seen-roll}
+use Rattle.sq_binding.proofs.Standing.SeenLevels.{select_seen-roll}
 use Rattle.sq_binder.specs.Found.{query_findings_of, with_can_fail}
 use Rattle.sq_binder.specs.Specification.{clause_seen}
 use Rattle.sq_binder.proofs.specification.make_specification.Goals as goal

@@ -1,9 +1,10 @@
+-- Left open for specification: its result; answered by Specified and Steps.
 use Rattle.std.proofs.Common.{Ok, add-zero, sym, subst, ap, ◌∙◌}
 use Rattle.sq_binding.specs.Found.{after}
 use Rattle.sq_binder.specs.Found.{Finds, counts_of, found_of}
 use Rattle.sq_binder.specs.Specification.{first, parts_seen, specification_of}
-use Rattle.sq_binder.proofs.Specified.{specified_fault, specified_found}
-use Rattle.sq_binder.proofs.Steps.{stops_by}
+use Rattle.sq_binder.proofs.Clauses.Specified.{specified_fault, specified_found}
+use Rattle.sq_binder.proofs.OneByOne.Steps.{stops_by}
 use Rattle.sq_binder.proofs.specification.specification.Goals as goal
 
 pub returns-in-Some : goal.returns-in-Some

@@ -1,11 +1,12 @@
+-- Left open for bind_statement: the clause binds; answered by Steps and WholeStatements.
 use Rattle.std.proofs.Common.{map, sym}
 use Rattle.sq_binding.specs.Changeable.{outside}
 use Rattle.sq_binding.specs.Statement.{statement_bound}
 use Rattle.sq_binder.specs.Scope.{declared_of}
-use Rattle.sq_binder.proofs.Steps.{binds_as}
+use Rattle.sq_binder.proofs.OneByOne.Steps.{binds_as}
 use Rattle.sq_binder.specs.Names.{user_names}
 use Rattle.sq_binder.specs.Statement.{statement_in}
-use Rattle.sq_binder.proofs.WholeStatements.{outside_all}
+use Rattle.sq_binder.proofs.Statements.WholeStatements.{outside_all}
 use Rattle.sq_binding.specs.SeenQuery.{statement_seen}
 use Rattle.sq_binder.proofs.statement.bind_statement.Goals as goal
 

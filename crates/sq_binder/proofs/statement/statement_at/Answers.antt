@@ -1,3 +1,4 @@
+-- Left open for statement_at: the clauses binds and there; answered by Steps, WholeStatements and There.
 use Rattle.std.proofs.Common.{Ok, Err, ap, subst, ◌∙◌}
 use Rattle.sq_tree.specs.declared.statement.Statement.TheVariants as written
 use Rattle.sq_bound.specs.declared.statement.BoundInsert.{BoundInsert}
@@ -9,16 +10,16 @@ use Rattle.sq_binding.specs.Statement.{NumberedStatement}
 use Rattle.sq_binding.specs.Whole.{whole}
 use Rattle.sq_binder.specs.Found.{Finds}
 use Rattle.sq_binder.specs.Surroundings.{surroundings}
-use Rattle.sq_binder.proofs.Steps.{handed_on, stops_as, stops_here}
+use Rattle.sq_binder.proofs.OneByOne.Steps.{handed_on, stops_as, stops_here}
 use Rattle.sq_binder.specs.Names.{names_at}
 use Rattle.sq_binder.specs.Delete.{delete_in}
 use Rattle.sq_binder.specs.Insert.{insert_in}
 use Rattle.sq_binding.specs.SeenQuery.{change_seen, insert_seen, statement_seen, update_seen}
 use Rattle.sq_binder.specs.Statement.{statement_in}
 use Rattle.sq_binder.specs.Update.{update_in}
-use Rattle.sq_binder.proofs.WholeStatements.{whole_binds}
+use Rattle.sq_binder.proofs.Statements.WholeStatements.{whole_binds}
 use Rattle.sq_binding.specs.There.{StatementIsThere}
-use Rattle.sq_binder.proofs.There.{whole_holds}
+use Rattle.sq_binder.proofs.Statements.There.{whole_holds}
 use Rattle.sq_binder.proofs.statement.statement_at.Goals as goal
 
 pub returns-in_ok-take_whole-in-Insert-clause-binds : goal.returns-in_ok-take_whole-in-Insert-clause-binds

@@ -1,12 +1,13 @@
+-- Left open for bind_compared_query: its result; answered by Finds and Subqueries.
 use Rattle.std.proofs.Common.{◌∙◌, refl}
 use Rattle.sq_bound.specs.declared.condition.Predicate.TheVariants as predicate
 use Rattle.sq_binding.specs.NumberedCondition.{NumberedCond}
 use Rattle.sq_binding.specs.Seen.{numbered_of, predicate_seen, select_seen}
-use Rattle.sq_binding.proofs.SeenLevels.{predicate_seen-CompareQuery}
+use Rattle.sq_binding.proofs.Standing.SeenLevels.{predicate_seen-CompareQuery}
 use Rattle.sq_binder.specs.Subquery.{compared_as, compared_side, query_compared}
 use Rattle.sq_binder.specs.Surroundings.{typed_of}
-use Rattle.sq_binder.proofs.Finds.{made_found, made_stop}
-use Rattle.sq_binder.proofs.Subqueries.{compared_made}
+use Rattle.sq_binder.proofs.OneByOne.Finds.{made_found, made_stop}
+use Rattle.sq_binder.proofs.Clauses.Subqueries.{compared_made}
 use Rattle.sq_binder.proofs.subquery.bind_compared_query.Goals as goal
 
 pub returns-in_err-part : goal.returns-in_err-part

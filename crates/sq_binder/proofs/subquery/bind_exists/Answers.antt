@@ -1,12 +1,13 @@
+-- Left open for bind_exists: its result; answered by Finds and Subqueries.
 use Rattle.std.proofs.Common.{◌∙◌, ap, refl}
 use Rattle.sq_bound.specs.declared.condition.Predicate.TheVariants as predicate
 use Rattle.sq_binding.specs.Condition.{subquery}
 use Rattle.sq_binding.specs.NumberedCondition.{NumberedCond}
 use Rattle.sq_binding.specs.Seen.{predicate_seen, select_seen}
-use Rattle.sq_binding.proofs.SeenLevels.{predicate_seen-Exists}
+use Rattle.sq_binding.proofs.Standing.SeenLevels.{predicate_seen-Exists}
 use Rattle.sq_binder.specs.Subquery.{query_exists}
-use Rattle.sq_binder.proofs.Finds.{makes_found, makes_stop, stop_found}
-use Rattle.sq_binder.proofs.Subqueries.{exists_made}
+use Rattle.sq_binder.proofs.OneByOne.Finds.{makes_found, makes_stop, stop_found}
+use Rattle.sq_binder.proofs.Clauses.Subqueries.{exists_made}
 use Rattle.sq_binder.proofs.subquery.bind_exists.Goals as goal
 
 pub returns-in_err-part : goal.returns-in_err-part

@@ -1,13 +1,14 @@
+-- Left open for bind_in_query: its result; answered by Finds and Subqueries.
 use Rattle.std.proofs.Common.{◌∙◌, refl}
 use Rattle.sq_bound.specs.declared.condition.Predicate.TheVariants as predicate
 use Rattle.sq_binding.specs.Condition.{beside}
 use Rattle.sq_binding.specs.NumberedCondition.{NumberedCond}
 use Rattle.sq_binding.specs.Seen.{not_if, numbered_of, predicate_seen, select_seen}
-use Rattle.sq_binding.proofs.SeenLevels.{predicate_seen-InQuery}
+use Rattle.sq_binding.proofs.Standing.SeenLevels.{predicate_seen-InQuery}
 use Rattle.sq_binder.specs.Subquery.{among_query}
 use Rattle.sq_binder.specs.Surroundings.{typed_of}
-use Rattle.sq_binder.proofs.Finds.{made_found, made_stop}
-use Rattle.sq_binder.proofs.Subqueries.{among_made}
+use Rattle.sq_binder.proofs.OneByOne.Finds.{made_found, made_stop}
+use Rattle.sq_binder.proofs.Clauses.Subqueries.{among_made}
 use Rattle.sq_binder.proofs.subquery.bind_in_query.Goals as goal
 
 pub returns-in_err-part : goal.returns-in_err-part

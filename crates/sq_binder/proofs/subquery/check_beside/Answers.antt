@@ -1,14 +1,15 @@
+-- Left open for check_beside: its result; answered by Finds, Steps and Subqueries.
 use Rattle.std.proofs.Common.{sym, ap, ◌∙◌, map}
 use Rattle.sq_binding.specs.Condition.{beside, subquery}
 use Rattle.sq_binding.specs.Found.{◌>>=◌, after, pure, then_joined}
 use Rattle.sq_binding.specs.Condition.{must_be_beside}
 use Rattle.sq_binding.specs.NumberedCondition.{columns_of}
 use Rattle.sq_binding.specs.Seen.{column_of, select_seen}
-use Rattle.sq_binding.proofs.SeenLevels.{columns_seen}
+use Rattle.sq_binding.proofs.Standing.SeenLevels.{columns_seen}
 use Rattle.sq_binder.specs.Found.{counts_of, found_of}
-use Rattle.sq_binder.proofs.Finds.{stop_found}
-use Rattle.sq_binder.proofs.Steps.{stops_by, stops_here}
-use Rattle.sq_binder.proofs.Subqueries.{beside_fails, beside_found}
+use Rattle.sq_binder.proofs.OneByOne.Finds.{stop_found}
+use Rattle.sq_binder.proofs.OneByOne.Steps.{stops_by, stops_here}
+use Rattle.sq_binder.proofs.Clauses.Subqueries.{beside_fails, beside_found}
 use Rattle.sq_binder.proofs.subquery.check_beside.Goals as goal
 
 pub returns-in_err-query : goal.returns-in_err-query

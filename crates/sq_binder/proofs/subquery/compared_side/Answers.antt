@@ -1,3 +1,4 @@
+-- Left open for compared_side: its result; answered without a law.
 use Rattle.std.proofs.Common.{sym, subst}
 use Rattle.sq_binding.specs.Seen.{select_seen}
 use Rattle.sq_binder.specs.Found.{Finds}

@@ -1,12 +1,13 @@
+-- Left open for make_scalar: its result; answered by Finds, Steps and Subqueries.
 use Rattle.std.proofs.Common.{Ok, sym, ap, ◌∙◌}
 use Rattle.sq_binding.specs.Condition.{beside, scalar}
 use Rattle.sq_binding.specs.Found.{◌>>=◌, after, has_found, pure, then_joined}
 use Rattle.sq_binding.specs.QueryFindings.{a_status}
 use Rattle.sq_binding.specs.Seen.{select_seen}
 use Rattle.sq_binder.specs.Found.{counts_of, found_of}
-use Rattle.sq_binder.proofs.Finds.{stop_found}
-use Rattle.sq_binder.proofs.Steps.{stops_here}
-use Rattle.sq_binder.proofs.Subqueries.{failing_seen, scalar_found}
+use Rattle.sq_binder.proofs.OneByOne.Finds.{stop_found}
+use Rattle.sq_binder.proofs.OneByOne.Steps.{stops_here}
+use Rattle.sq_binder.proofs.Clauses.Subqueries.{failing_seen, scalar_found}
 use Rattle.sq_binder.proofs.subquery.make_scalar.Goals as goal
 
 pub returns-in_err-part : goal.returns-in_err-part

@@ -1,7 +1,8 @@
+-- Left open for number_query: its result; answered by Subqueries.
 use Rattle.std.proofs.Common.{Some, ap}
-use Rattle.sq_binding.proofs.SeenLevels.{renumbered_seen}
+use Rattle.sq_binding.proofs.Standing.SeenLevels.{renumbered_seen}
 use Rattle.sq_binder.specs.declared.found.Counts.{Counts}
-use Rattle.sq_binder.proofs.Subqueries.{numbered_is}
+use Rattle.sq_binder.proofs.Clauses.Subqueries.{numbered_is}
 use Rattle.sq_binder.proofs.subquery.number_query.Goals as goal
 
 pub returns : goal.returns

@@ -1,3 +1,4 @@
+-- Left open for bind_target: the clause finds; answered without a law.
 use Rattle.std.proofs.Common.{[], ◌∷◌, Bor, subst}
 use Rattle.std.specs.Option.{option_map}
 use Rattle.sq_tree.specs.declared.cond.Cond.{Cond}

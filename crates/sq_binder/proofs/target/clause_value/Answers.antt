@@ -1,3 +1,4 @@
+-- Left open for clause_value: its result; answered without a law.
 use Rattle.std.proofs.Common.{Option, Bor, subst, sym}
 use Rattle.std.specs.Option.{option_map}
 use Rattle.sq_tree.specs.declared.cond.Cond.{Cond}

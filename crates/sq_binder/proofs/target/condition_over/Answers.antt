@@ -1,3 +1,4 @@
+-- Left open for condition_over: its result; answered by Inside.
 use Rattle.std.proofs.Common.{List, [], ◌∷◌, Bor, None, false, subst, ap, ◌∙◌}
 use Rattle.std.specs.Option.{option_map}
 use Rattle.sq_lex.specs.declared.name.Name.{Name}
@@ -11,7 +12,7 @@ use Rattle.sq_binder.specs.Scope.{item_of, scope_over}
 use Rattle.sq_binder.specs.Specification.{clause_seen, first}
 use Rattle.sq_binder.specs.Surroundings.{surroundings}
 use Rattle.sq_binder.specs.declared.scope.FromItem.{FromItem}
-use Rattle.sq_binder.proofs.Inside.{at, inside_lines}
+use Rattle.sq_binder.proofs.Clauses.Inside.{at, inside_lines}
 use Rattle.sq_binder.proofs.target.condition_over.Goals as goal
 
 pub returns : goal.returns

@@ -1,8 +1,9 @@
+-- Left open for target_over: the invariant of its result; answered by Targets.
 use Rattle.std.proofs.Common.{◌≡◌, true, subst, sym}
 use Rattle.sq_bound.specs.Keyed.{is_named_by, is_shortest_of}
 use Rattle.sq_bound.specs.Names.{option_all}
 use Rattle.sq_bound.specs.declared.names.Leaf.{Leaf}
-use Rattle.sq_binder.proofs.Targets.{noted_named, noted_shortest}
+use Rattle.sq_binder.proofs.Changes.Targets.{noted_named, noted_shortest}
 use Rattle.sq_binder.proofs.target.target_over.Goals as goal
 
 pub invariant_of-result-clause-keyed : goal.invariant_of-result-clause-keyed

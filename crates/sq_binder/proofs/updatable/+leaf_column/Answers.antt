@@ -1,10 +1,11 @@
+-- Left open for leaf_column: its result; answered by Images and Updatables.
 use Rattle.std.proofs.Common.{◌≡◌, true, false, sym, ap, ◌∙◌}
 use Rattle.sq_bound.specs.declared.expression.BoundExpr.{BoundExpr}
 use Rattle.sq_binding.specs.Changeable.{leaf_column}
 use Rattle.sq_binding.specs.Seen.{numbered_of}
-use Rattle.sq_binder.proofs.Images.{numbered_of-Column}
+use Rattle.sq_binder.proofs.Expressions.Images.{numbered_of-Column}
 use Rattle.sq_binder.specs.Names.{beneath_of, under_table}
-use Rattle.sq_binder.proofs.Updatables.{operation_none, operations_alone}
+use Rattle.sq_binder.proofs.Changes.Updatables.{operation_none, operations_alone}
 use Rattle.sq_binder.proofs.updatable.+leaf_column.Goals as goal
 
 pub returns-in-Column : goal.returns-in-Column

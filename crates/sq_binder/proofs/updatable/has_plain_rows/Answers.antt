@@ -1,4 +1,5 @@
-use Rattle.sq_binder.proofs.Updatables.{grouped_plain, ungrouped_plain}
+-- Left open for has_plain_rows: its result; answered by Updatables.
+use Rattle.sq_binder.proofs.Changes.Updatables.{grouped_plain, ungrouped_plain}
 use Rattle.sq_binder.proofs.updatable.has_plain_rows.Goals as goal
 
 pub returns-in-None : goal.returns-in-None

@@ -1,3 +1,4 @@
+-- Left open for is_of_references: its result; answered by laws of std.
 use Rattle.std.proofs.Common.{Bool, map, sym, ap, ◌∙◌}
 use Rattle.std.proofs.lemmas.List.Folds.{list_all-map}
 use Rattle.std.specs.List.{list_all}

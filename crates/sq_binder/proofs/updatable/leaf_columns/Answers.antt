@@ -1,5 +1,6 @@
+-- Left open for leaf_columns: that the loop starts with its invariant; answered by Updatables.
 use Rattle.sq_binder.specs.Names.{beneath_of, under_table}
-use Rattle.sq_binder.proofs.Updatables.{leaf_begun}
+use Rattle.sq_binder.proofs.Changes.Updatables.{leaf_begun}
 use Rattle.sq_binder.proofs.updatable.leaf_columns.Goals as goal
 
 pub loop-expr-init : goal.loop-expr-init

@@ -2,7 +2,7 @@ use Rattle.std.proofs.Common.{◌≡◌, drop, map}
 use Rattle.sq_binding.specs.Changeable.{leaf_columns}
 use Rattle.sq_binding.specs.Seen.{numbered_of}
 use Rattle.sq_binder.specs.Names.{beneath_of, under_table}
-use Rattle.sq_binder.proofs.Updatables.{behind}
+use Rattle.sq_binder.proofs.Changes.Updatables.{behind}
 use Rattle.sq_binder.proofs.updatable.leaf_columns.Given as goal
 
 abbrev pub invariant-loop-expr : goal.invariant-loop-expr

@@ -1,9 +1,10 @@
+-- Left open for make_updatable: the clause finds; answered by Targets.
 use Rattle.std.proofs.Common.{subst}
 use Rattle.std.specs.Option.{option_map}
 use Rattle.sq_binder.specs.Found.{Finds}
 use Rattle.sq_binder.specs.Changeable.{changed_of, target_made}
 use Rattle.sq_binding.specs.SeenQuery.{target_seen, updatable_seen}
-use Rattle.sq_binder.proofs.Targets.{updatable_found}
+use Rattle.sq_binder.proofs.Changes.Targets.{updatable_found}
 use Rattle.sq_binder.proofs.updatable.make_updatable.Goals as goal
 
 pub returns-in-Ok-clause-finds : goal.returns-in-Ok-clause-finds

@@ -1,6 +1,7 @@
+-- Left open for only_one: its result; answered by Updatables.
 use Rattle.std.proofs.Common.{◌≡◌, true, false, sym, ◌∙◌}
 use Rattle.sq_meaning.specs.Spelled.{reference_of}
-use Rattle.sq_binder.proofs.Updatables.{one_alone, one_of_several}
+use Rattle.sq_binder.proofs.Changes.Updatables.{one_alone, one_of_several}
 use Rattle.sq_binder.proofs.updatable.only_one.Goals as goal
 
 pub returns-then-is_empty : goal.returns-then-is_empty

@@ -1,3 +1,4 @@
+-- Left open for only_table: the clause table; answered by Updatables.
 use Rattle.std.proofs.Common.{Bool, Bor, List, None, sym, ap, ◌∙◌}
 use Rattle.std.specs.Option.{option_and_then, option_map}
 use Rattle.std.specs.Prelude.{if◌then◌else◌}
@@ -6,7 +7,7 @@ use Rattle.sq_meaning.specs.Environment.{TableReference}
 use Rattle.sq_meaning.specs.Spelled.{reference_of, select_of}
 use Rattle.sq_binding.specs.Changeable.{from_of, may_be_changed, only_one}
 use Rattle.sq_binder.specs.Names.{user_names}
-use Rattle.sq_binder.proofs.Updatables.{from_is}
+use Rattle.sq_binder.proofs.Changes.Updatables.{from_is}
 use Rattle.sq_binder.proofs.updatable.only_table.Goals as goal
 
 pub returns-in-Some-clause-table : goal.returns-in-Some-clause-table

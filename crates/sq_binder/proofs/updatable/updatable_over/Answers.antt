@@ -1,3 +1,4 @@
+-- Left open for updatable_over: the clause finds; answered by Updatables.
 use Rattle.std.proofs.Common.{ℕ, List, Option, Bor, map, sym, ap, subst, ◌∙◌}
 use Rattle.std.specs.Option.{option_map}
 use Rattle.sq_tree.specs.declared.cond.QuerySpecification.{out-QuerySpecification}
@@ -12,7 +13,7 @@ use Rattle.sq_binder.specs.Surroundings.{surroundings}
 use Rattle.sq_binder.specs.Changeable.{changed_of}
 use Rattle.sq_binder.specs.Names.{beneath_of, under_table}
 use Rattle.sq_binder.specs.Updatable.{updatable_made}
-use Rattle.sq_binder.proofs.Updatables.{clause_lent, filter_is, list_is, shown_is}
+use Rattle.sq_binder.proofs.Changes.Updatables.{clause_lent, filter_is, list_is, shown_is}
 use Rattle.sq_binding.specs.SeenQuery.{updatable_seen}
 use Rattle.sq_binder.proofs.updatable.updatable_over.Goals as goal
 

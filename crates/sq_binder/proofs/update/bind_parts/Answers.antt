@@ -1,3 +1,4 @@
+-- Left open for bind_parts: the clauses finds and over; answered by Finds, Deletes, Parts and There.
 use Rattle.std.proofs.Common.{◌≡◌, sym, subst}
 use Rattle.std.specs.Prelude.{Result, IfOk}
 use Rattle.sq_bound.specs.Fits.{under}
@@ -7,14 +8,14 @@ use Rattle.sq_binding.specs.Change.{update_parts}
 use Rattle.sq_binder.specs.Surroundings.{surroundings}
 use Rattle.sq_binder.specs.declared.found.Found.{Found}
 use Rattle.sq_binder.specs.declared.stop.Stop.{Stop}
-use Rattle.sq_binder.proofs.Finds.{stop_found}
+use Rattle.sq_binder.proofs.OneByOne.Finds.{stop_found}
 use Rattle.sq_binder.specs.Changeable.{changed_of}
 use Rattle.sq_binder.specs.Names.{names_at}
 use Rattle.sq_binding.specs.SeenQuery.{update_seen}
-use Rattle.sq_binder.proofs.Deletes.{parts_found, parts_stop}
-use Rattle.sq_binder.proofs.Parts.{first_holds, second_holds}
+use Rattle.sq_binder.proofs.Changes.Deletes.{parts_found, parts_stop}
+use Rattle.sq_binder.proofs.OneByOne.Parts.{first_holds, second_holds}
 use Rattle.sq_binder.specs.Update.{AreAssignmentsOf, IsUpdateOver}
-use Rattle.sq_binder.proofs.There.{update_is_over}
+use Rattle.sq_binder.proofs.Statements.There.{update_is_over}
 use Rattle.sq_binder.proofs.update.bind_parts.Goals as goal
 
 pub returns-in_err-assignments-clause-finds : goal.returns-in_err-assignments-clause-finds

@@ -1,3 +1,4 @@
+-- Left open for bind_update: the clauses finds and there; answered by Bases, Turned and There.
 use Rattle.std.proofs.lemmas.Result.{IfOk-weaker}
 use Rattle.sq_meaning.specs.Spelled.{table_of}
 use Rattle.sq_bound.specs.declared.statement.BoundStatement.TheVariants as bound
@@ -7,13 +8,13 @@ use Rattle.sq_binder.specs.Found.{counts_of}
 use Rattle.sq_binder.specs.Surroundings.{surroundings}
 use Rattle.sq_binder.specs.declared.found.Found.{Found}
 use Rattle.sq_binder.specs.Changeable.{changed_of, table_name}
-use Rattle.sq_binder.proofs.Bases.{base_there}
+use Rattle.sq_binder.proofs.Changes.Bases.{base_there}
 use Rattle.sq_binding.specs.There.{StatementIsThere}
 use Rattle.sq_binder.specs.Names.{names_at}
 use Rattle.sq_binder.specs.Update.{IsUpdateOver, update_over}
-use Rattle.sq_binder.proofs.Turned.{outcome_stops, outcome_then}
+use Rattle.sq_binder.proofs.OneByOne.Turned.{outcome_stops, outcome_then}
 use Rattle.sq_binding.specs.SeenQuery.{update_seen}
-use Rattle.sq_binder.proofs.There.{update_there}
+use Rattle.sq_binder.proofs.Statements.There.{update_there}
 use Rattle.sq_binder.proofs.update.bind_update.Goals as goal
 
 pub returns-in-Ok-clause-finds : goal.returns-in-Ok-clause-finds

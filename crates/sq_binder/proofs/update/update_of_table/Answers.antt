@@ -1,9 +1,10 @@
+-- Left open for update_of_table: the clause finds; answered by Finds and Deletes.
 use Rattle.sq_binder.specs.Surroundings.{surroundings}
-use Rattle.sq_binder.proofs.Finds.{stop_found}
+use Rattle.sq_binder.proofs.OneByOne.Finds.{stop_found}
 use Rattle.sq_binder.specs.Changeable.{changed_of}
 use Rattle.sq_binder.specs.Names.{names_at}
 use Rattle.sq_binder.specs.Update.{update_over}
-use Rattle.sq_binder.proofs.Deletes.{update_found, update_stops}
+use Rattle.sq_binder.proofs.Changes.Deletes.{update_found, update_stops}
 use Rattle.sq_binding.specs.SeenQuery.{update_seen}
 use Rattle.sq_binder.proofs.update.update_of_table.Goals as goal
 

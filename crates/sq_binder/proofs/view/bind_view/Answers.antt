@@ -1,3 +1,4 @@
+-- Left open for bind_view: the clause binds; answered by CursorTrees.
 use Rattle.std.proofs.Common.{[]}
 use Rattle.sq_lex.specs.declared.name.Name.{Name}
 use Rattle.sq_meaning.specs.Spelled.{select_of}
@@ -6,7 +7,7 @@ use Rattle.sq_binding.specs.View.{view_over}
 use Rattle.sq_binder.specs.Binds.{Binds}
 use Rattle.sq_binder.specs.Names.{user_names}
 use Rattle.sq_binder.specs.View.{view_seen}
-use Rattle.sq_binder.proofs.CursorTrees.{in_none}
+use Rattle.sq_binder.proofs.WholeQueries.CursorTrees.{in_none}
 use Rattle.sq_binder.proofs.view.bind_view.Goals as goal
 
 pub returns-clause-binds : goal.returns-clause-binds

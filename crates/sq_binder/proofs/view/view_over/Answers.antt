@@ -1,3 +1,4 @@
+-- Left open for view_over: the clause binds; answered by Conditions and Steps.
 use Rattle.std.proofs.Common.{◌≡◌, Ok, sym, ap, subst, ◌∙◌}
 use Rattle.std.specs.Option.{option_map}
 use Rattle.sq_meaning.specs.Spelled.{Named, select_of}
@@ -13,8 +14,8 @@ use Rattle.sq_binder.specs.Binds.{Stops}
 use Rattle.sq_binder.specs.Found.{counts_of, found_of}
 use Rattle.sq_binder.specs.Surroundings.{surroundings}
 use Rattle.sq_binder.specs.declared.found.Counts.{Counts}
-use Rattle.sq_binder.proofs.Conditions.{select_of-out}
-use Rattle.sq_binder.proofs.Steps.{handed_on, stops_here}
+use Rattle.sq_binder.proofs.Clauses.Conditions.{select_of-out}
+use Rattle.sq_binder.proofs.OneByOne.Steps.{handed_on, stops_here}
 use Rattle.sq_binder.specs.Names.{names_at}
 use Rattle.sq_binding.specs.SeenQuery.{updatable_seen}
 use Rattle.sq_binder.specs.View.{view_seen}

@@ -1,3 +1,4 @@
+-- Left open for ends_with_any: its result; answered by Listed.
 use Rattle.std.proofs.Common.{◌∙◌}
 use Rattle.std.specs.List.{ends_with}
 use Rattle.std.specs.Prelude.{nat_eq}

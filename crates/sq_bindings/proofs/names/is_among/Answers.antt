@@ -1,3 +1,4 @@
+-- Left open for is_among: its result; answered by Listed.
 use Rattle.std.proofs.Common.{◌∙◌}
 use Rattle.std.specs.Str.{bytes_eq}
 use Rattle.sq_bindings.proofs.Listed.{any_listed}

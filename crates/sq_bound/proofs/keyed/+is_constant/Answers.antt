@@ -1,3 +1,4 @@
+-- Left open for is_constant: its result; answered by ColumnTests.
 use Rattle.std.proofs.Common.{sym, ap, ◌∙◌}
 use Rattle.sq_bound.proofs.ColumnTests.{constant_signed, constant_of, constant_so, literal_of, no_constant, operand_alone, operated_constant}
 use Rattle.sq_bound.specs.Keyed.{is_constant}

@@ -1,3 +1,4 @@
+-- Left open for is_literal: its result; answered by ColumnTests.
 use Rattle.std.proofs.Common.{sym, ap, ◌∙◌}
 use Rattle.sq_bound.proofs.ColumnTests.{literal_of, literal_so, no_literal, operand_alone, operated_literal, signed_no_literal}
 use Rattle.sq_bound.specs.Keyed.{is_literal}

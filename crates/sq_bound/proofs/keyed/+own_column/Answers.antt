@@ -1,3 +1,4 @@
+-- Left open for own_column: its result; answered by ColumnTests.
 use Rattle.std.proofs.Common.{sym, ap, ◌∙◌}
 use Rattle.sq_bound.proofs.ColumnTests.{column_here, column_further, column_of, operand_alone, operated_column, other_column}
 use Rattle.sq_bound.specs.Keyed.{own_column}

@@ -1,3 +1,4 @@
+-- Left open for column_named: its result; answered by ColumnTests.
 use Rattle.std.proofs.Common.{sym, true, false, ◌∙◌}
 use Rattle.sq_bound.proofs.ColumnTests.{sides_named}
 use Rattle.sq_bound.proofs.keyed.column_named.Goals as goal

@@ -1,3 +1,4 @@
+-- Left open for equal_sides: its result; answered by ColumnTests.
 use Rattle.sq_bound.proofs.ColumnTests.{negated_names, other_names, unequal_names}
 use Rattle.sq_bound.proofs.keyed.equal_sides.Goals.{then-test-via-then-test, then-test-via-else-test+then-not-is_equality}
 use Rattle.sq_bound.proofs.keyed.equal_sides.Goals as goal

@@ -1,3 +1,4 @@
+-- Left open for shortest_key: its result; answered by Keys.
 use Rattle.std.proofs.Common.{◌≡◌, List, ap, arith, length, sym, ◌∙◌}
 use Rattle.std.specs.List.{list_any}
 use Rattle.sq_bound.specs.Keyed.{names_key}

@@ -1,3 +1,4 @@
+-- Left open: the call of is_better, the result, and the loop's invariant; answered by Keys.
 use Rattle.std.proofs.Common.{◌≡◌, ◌+◌, ◌&&◌, ℕ, Bool, List, [], false, get_or, length, map, nat_lt, subst, sym, ap, take, true, ◌∙◌}
 use Rattle.sq_bound.specs.Condition.{test_of}
 use Rattle.sq_bound.specs.Keyed.{IsShortest, start_with_key}

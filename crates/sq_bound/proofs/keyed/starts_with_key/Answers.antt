@@ -1,3 +1,4 @@
+-- Left open for starts_with_key: its result; answered by Keys.
 use Rattle.std.proofs.Common.{sym, ◌∙◌}
 use Rattle.sq_bound.proofs.Keys.{starts_named, starts_unnamed}
 use Rattle.sq_bound.proofs.keyed.starts_with_key.Goals as goal

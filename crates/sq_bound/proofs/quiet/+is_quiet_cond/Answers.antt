@@ -1,3 +1,4 @@
+-- Left open for the functions of +is_quiet_cond: the results; answered by QuietLaws.
 use Rattle.std.proofs.Common.{◌≡◌, ◌∙◌, ◌&&◌, Bool, List, [], false, refl, sym, ap}
 use Rattle.std.proofs.lemmas.List.Folds.{list_all_at}
 use Rattle.std.specs.List.{list_all}

@@ -1,3 +1,4 @@
+-- Left open for is_quiet_expr: its result; answered by QuietLaws.
 use Rattle.std.proofs.Common.{◌∙◌, Bool, [], sym, ap}
 use Rattle.sq_meaning.specs.Quiet.{is_quiet_expr}
 use Rattle.sq_bound.specs.Expression.{expr_of}

@@ -1,3 +1,4 @@
+-- Left open for base_parts: the clause exact; answered by Turns.
 use Rattle.std.proofs.Common.{List, map, subst}
 use Rattle.std.specs.Borrow.{Bor}
 use Rattle.sq_tree.specs.declared.cond.Cond.{Cond}
@@ -11,7 +12,7 @@ use Rattle.sq_catalog.specs.Fault.{Makes}
 use Rattle.sq_catalog.specs.Table.{held_declared, typed_seen}
 use Rattle.sq_catalog.specs.Written.{conditions_lent}
 use Rattle.sq_catalog.specs.declared.typed.TypedColumn.{TypedColumn}
-use Rattle.sq_catalog.proofs.Turns.{both_made, both_stop, handed_on}
+use Rattle.sq_catalog.proofs.OneByOne.Turns.{both_made, both_stop, handed_on}
 use Rattle.sq_catalog.proofs.base.base_parts.Goals as goal
 
 pub returns-in_err-checks-clause-exact : goal.returns-in_err-checks-clause-exact

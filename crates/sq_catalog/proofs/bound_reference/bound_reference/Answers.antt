@@ -1,9 +1,10 @@
+-- Left open for bound_reference: the clause exact; answered by ReferencesBound.
 use Rattle.std.proofs.Common.{◌≡◌, ℕ, false, List, subst, sym, ◌∙◌}
 use Rattle.sq_bound.specs.WellFormed.{kinds_of_columns}
 use Rattle.sq_binding.specs.Reference.{paired_reference}
 use Rattle.sq_catalog.specs.Fault.{Makes}
 use Rattle.sq_catalog.specs.Reference.{key_seen, target_seen}
-use Rattle.sq_catalog.proofs.ReferencesBound.{badly_paired, pair_well, well_paired}
+use Rattle.sq_catalog.proofs.CreateTable.ReferencesBound.{badly_paired, pair_well, well_paired}
 use Rattle.sq_catalog.proofs.bound_reference.bound_reference.Goals as goal
 
 pub returns-then-not-pair_well-clause-exact : goal.returns-then-not-pair_well-clause-exact

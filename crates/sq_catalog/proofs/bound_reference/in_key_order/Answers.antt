@@ -1,8 +1,9 @@
+-- Left open: the call of push_paired, and the loop's invariant; answered by Listed and References.
 use Rattle.std.proofs.Common.{◌+◌, nat_eq, ap, ◌∙◌}
 use Rattle.std.specs.List.{list_any}
 use Rattle.sq_catalog.specs.References.{paired_with}
-use Rattle.sq_catalog.proofs.Listed.{all_read_at}
-use Rattle.sq_catalog.proofs.References.{pairs_next}
+use Rattle.sq_catalog.proofs.OneByOne.Listed.{all_read_at}
+use Rattle.sq_catalog.proofs.CreateTable.References.{pairs_next}
 use Rattle.sq_catalog.proofs.bound_reference.in_key_order.Goals as goal
 
 pub push_paired-requires-clause-listed : goal.push_paired-requires-clause-listed

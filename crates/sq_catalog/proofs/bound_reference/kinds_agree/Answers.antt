@@ -1,7 +1,8 @@
+-- Left open for kinds_agree: its result, and that the loop keeps its invariant; answered by ReferencesBound.
 use Rattle.std.proofs.Common.{sym, ◌∙◌}
 use Rattle.sq_bound.specs.WellFormed.{kinds_of_columns}
 use Rattle.sq_binding.specs.Reference.{are_of_one_sort}
-use Rattle.sq_catalog.proofs.ReferencesBound.{pairs_end, pairs_step}
+use Rattle.sq_catalog.proofs.CreateTable.ReferencesBound.{pairs_end, pairs_step}
 use Rattle.sq_catalog.proofs.bound_reference.kinds_agree.Goals as goal
 
 pub returns-then-not-are_of_one_sort : goal.returns-then-not-are_of_one_sort

@@ -1,10 +1,11 @@
+-- Left open for may_reference: its result; answered by ReferencesBound.
 use Rattle.std.proofs.Common.{◌≡◌, [], Option, subst, sym, ◌∙◌}
 use Rattle.std.specs.Borrow.{Bor}
 use Rattle.sq_bound.specs.declared.names.TableDesc.{TableDesc}
 use Rattle.sq_binding.specs.Reference as definition
 use Rattle.sq_catalog.specs.Exact.{declared}
 use Rattle.sq_catalog.specs.Reference.{entries_seen, names_in}
-use Rattle.sq_catalog.proofs.ReferencesBound.{may_reference_all}
+use Rattle.sq_catalog.proofs.CreateTable.ReferencesBound.{may_reference_all}
 use Rattle.sq_catalog.proofs.bound_reference.may_reference.Goals as goal
 
 pub returns-in-Some : goal.returns-in-Some

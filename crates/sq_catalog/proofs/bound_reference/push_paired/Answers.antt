@@ -1,5 +1,6 @@
+-- Left open for push_paired: the clause pair; answered by References.
 use Rattle.std.proofs.Common.{◌<◌, ◌++◌, ◌∷◌, [], length, get_or, ap, arith, ◌∙◌}
-use Rattle.sq_catalog.proofs.References.{pair_added}
+use Rattle.sq_catalog.proofs.CreateTable.References.{pair_added}
 use Rattle.sq_catalog.proofs.bound_reference.push_paired.Goals as goal
 
 pub returns-then-other-key_column-clause-pair : goal.returns-then-other-key_column-clause-pair

@@ -1,3 +1,4 @@
+-- Left open for value_at: the clause there; answered without a law.
 use Rattle.std.proofs.Common.{sym}
 use Rattle.sq_catalog.proofs.catalog.value_at.Goals as goal
 

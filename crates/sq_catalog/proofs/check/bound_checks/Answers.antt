@@ -1,3 +1,4 @@
+-- Left open for bound_checks: its result, and that the loop keeps its invariant; answered by Turns.
 use Rattle.std.proofs.Common.{map}
 use Rattle.std.specs.Borrow.{Bor}
 use Rattle.sq_tree.specs.declared.cond.Cond.{Cond}
@@ -5,7 +6,7 @@ use Rattle.sq_binding.specs.Seen.{cond_seen}
 use Rattle.sq_binding.specs.Names.{descriptor_of}
 use Rattle.sq_catalog.specs.Checks.{check_over}
 use Rattle.sq_catalog.specs.Exact.{name_in}
-use Rattle.sq_catalog.proofs.Turns.{made_stops, seen_next}
+use Rattle.sq_catalog.proofs.OneByOne.Turns.{made_stops, seen_next}
 use Rattle.sq_catalog.proofs.check.bound_checks.Goals as goal
 
 pub returns-in-Err : goal.returns-in-Err

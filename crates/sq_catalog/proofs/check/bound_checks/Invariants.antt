@@ -3,7 +3,7 @@ use Rattle.sq_binding.specs.Seen.{cond_seen}
 use Rattle.sq_binding.specs.Names.{descriptor_of}
 use Rattle.sq_catalog.specs.Checks.{check_over}
 use Rattle.sq_catalog.specs.Exact.{name_in}
-use Rattle.sq_catalog.proofs.Turns.{IsSeenTo}
+use Rattle.sq_catalog.proofs.OneByOne.Turns.{IsSeenTo}
 use Rattle.sq_catalog.proofs.check.bound_checks.Given as goal
 
 abbrev pub invariant-loop-check : goal.invariant-loop-check

@@ -1,3 +1,4 @@
+-- Left open: the clause exact, and that the loop keeps its invariant; answered by Columns, Listed and Turns.
 use Rattle.std.proofs.Common.{◌≡◌, ◌+◌, [], ◌∷◌, ◌++◌, length, length-append, map, ap, take, ◌∙◌}
 use Rattle.sq_value.specs.Domain.{kind_of}
 use Rattle.sq_bound.specs.declared.names.BaseColumn.{BaseColumn}
@@ -5,9 +6,9 @@ use Rattle.sq_binding.specs.Column.{declared_column}
 use Rattle.sq_catalog.specs.Exact.{column_declared}
 use Rattle.sq_catalog.specs.Table.{held_declared, typed_seen}
 use Rattle.sq_catalog.specs.Written.{is_written_not_null}
-use Rattle.sq_catalog.proofs.Columns.{base_column_made, held_last}
-use Rattle.sq_catalog.proofs.Listed.{copied_next}
-use Rattle.sq_catalog.proofs.Turns.{handed_on, made_next, made_stops}
+use Rattle.sq_catalog.proofs.CreateTable.Columns.{base_column_made, held_last}
+use Rattle.sq_catalog.proofs.OneByOne.Listed.{copied_next}
+use Rattle.sq_catalog.proofs.OneByOne.Turns.{handed_on, made_next, made_stops}
 use Rattle.sq_catalog.proofs.column.base_columns.Goals as goal
 
 pub returns-in_err-held-clause-exact : goal.returns-in_err-held-clause-exact

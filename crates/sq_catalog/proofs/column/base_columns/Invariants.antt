@@ -3,7 +3,7 @@ use Rattle.sq_value.specs.Domain.{kind_of}
 use Rattle.sq_binding.specs.Column.{declared_column}
 use Rattle.sq_catalog.specs.Columns.{AreBaseColumnsOf}
 use Rattle.sq_catalog.specs.Table.{held_declared, typed_definitions, typed_kinds, typed_seen, written_not_null}
-use Rattle.sq_catalog.proofs.Turns.{IsMadeTo}
+use Rattle.sq_catalog.proofs.OneByOne.Turns.{IsMadeTo}
 use Rattle.sq_catalog.proofs.column.base_columns.Given as goal
 
 abbrev pub invariant-loop-column : goal.invariant-loop-column

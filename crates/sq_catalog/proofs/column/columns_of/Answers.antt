@@ -1,3 +1,4 @@
+-- Left open: the clause places, and that the loop keeps its invariant; answered by Columns and others.
 use Rattle.std.proofs.Common.{◌≡◌, ap, length, map, refl, sym, ◌∙◌}
 use Rattle.std.proofs.lemmas.List.{length-map, take_all}
 use Rattle.sq_value.specs.Domain.{kind_of}
@@ -5,10 +6,10 @@ use Rattle.sq_meaning.specs.Target.{places_of}
 use Rattle.sq_binding.specs.Table.{typed_descriptor}
 use Rattle.sq_binding.specs.Names.{descriptor_of}
 use Rattle.sq_catalog.specs.Table.{typed_kinds, typed_seen}
-use Rattle.sq_catalog.proofs.Columns.{column_made, place_next}
-use Rattle.sq_catalog.proofs.Listed.{copied_next}
-use Rattle.sq_catalog.proofs.Seen.{column_next, own_kind}
-use Rattle.sq_catalog.proofs.Stored.{places_counted}
+use Rattle.sq_catalog.proofs.CreateTable.Columns.{column_made, place_next}
+use Rattle.sq_catalog.proofs.OneByOne.Listed.{copied_next}
+use Rattle.sq_catalog.proofs.Meaning.Seen.{column_next, own_kind}
+use Rattle.sq_catalog.proofs.Growth.Stored.{places_counted}
 use Rattle.sq_catalog.proofs.column.columns_of.Goals as goal
 
 pub loop-position-preserved : goal.loop-position-preserved

@@ -1,10 +1,11 @@
+-- Left open for are_unknown: its result; answered by Found.
 use Rattle.std.proofs.Common.{ap, not, sym, ◌∙◌}
 use Rattle.std.specs.List.{list_any}
 use Rattle.sq_tree.specs.declared.schema.Action.{Action}
 use Rattle.sq_meaning.specs.Spelled.{listed}
 use Rattle.sq_meaning.specs.Schema.{is_among}
 use Rattle.sq_meaning.specs.SchemaRefusal.{action_columns, has_unknown}
-use Rattle.sq_catalog.proofs.Found.{any_flat, first_found, second_found}
+use Rattle.sq_catalog.proofs.OneByOne.Found.{any_flat, first_found, second_found}
 use Rattle.sq_catalog.proofs.grant.are_unknown.Goals as goal
 
 pub returns-then-names_unknown : goal.returns-then-names_unknown

@@ -1,8 +1,9 @@
+-- Left open for push_for_each: that the loop keeps its invariant; answered by Pushed.
 use Rattle.std.proofs.Common.{map}
 use Rattle.sq_binding.specs.Grant.{grants_to}
 use Rattle.sq_catalog.specs.Exact.{name_in}
 use Rattle.sq_catalog.specs.Held.{grant_seen, privilege_of}
-use Rattle.sq_catalog.proofs.Pushed.{joined_behind}
+use Rattle.sq_catalog.proofs.OneByOne.Pushed.{joined_behind}
 use Rattle.sq_catalog.proofs.grant.push_for_each.Goals as goal
 
 pub loop-grantee-preserved : goal.loop-grantee-preserved

@@ -1,6 +1,7 @@
+-- Left open for insert_table: the clauses names and added; answered by Gains.
 use Rattle.std.proofs.Common.{ap, ◌∙◌}
 use Rattle.std.specs.Map.{keys_of}
-use Rattle.sq_catalog.proofs.Gains.{entry_last, key_last}
+use Rattle.sq_catalog.proofs.Growth.Gains.{entry_last, key_last}
 use Rattle.sq_catalog.proofs.insert.insert_table.Goals as goal
 
 pub returns-in-Ok-clause-names : goal.returns-in-Ok-clause-names

@@ -1,7 +1,8 @@
+-- Left open for push_actions: that the loop keeps its invariant; answered by Pushed.
 use Rattle.std.proofs.Common.{map}
 use Rattle.sq_meaning.specs.SchemaRefusal.{action_privileges}
 use Rattle.sq_catalog.specs.Held.{privilege_of}
-use Rattle.sq_catalog.proofs.Pushed.{joined_behind}
+use Rattle.sq_catalog.proofs.OneByOne.Pushed.{joined_behind}
 use Rattle.sq_catalog.proofs.privilege.push_actions.Goals as goal
 
 pub loop-action-preserved : goal.loop-action-preserved

@@ -1,6 +1,7 @@
+-- Left open for push_columns: that the loop keeps its invariant; answered by Pushed.
 use Rattle.std.proofs.Common.{map}
 use Rattle.sq_catalog.specs.Held.{privilege_of, privilege_on}
-use Rattle.sq_catalog.proofs.Pushed.{pushed_behind}
+use Rattle.sq_catalog.proofs.OneByOne.Pushed.{pushed_behind}
 use Rattle.sq_catalog.proofs.privilege.push_columns.Goals as goal
 
 pub loop-column-preserved : goal.loop-column-preserved

@@ -1,3 +1,4 @@
+-- Left open: the clause exact, and that the loop keeps its invariant; answered by Listed, Turns and others.
 use Rattle.std.proofs.Common.{◌≡◌, ◌∷◌, ◌++◌, [], List, if◌then◌else◌, ap, map, subst, sym, ◌∙◌}
 use Rattle.std.specs.List.{All}
 use Rattle.sq_binding.specs.Reference.{found_reference}
@@ -6,9 +7,9 @@ use Rattle.sq_catalog.specs.Reference.{IsFound, IsFoundAs, constraint_lent, foun
 use Rattle.sq_catalog.specs.Written.{column_count, names_at}
 use Rattle.sq_catalog.specs.declared.reference.FoundReference.{FoundReference}
 use Rattle.sq_catalog.specs.declared.written.WrittenReference.{WrittenReference}
-use Rattle.sq_catalog.proofs.Listed.{all_with}
-use Rattle.sq_catalog.proofs.Turns.{handed_on, made_stops, no_memory, seen_next}
-use Rattle.sq_catalog.proofs.WrittenParts.{zip_read}
+use Rattle.sq_catalog.proofs.OneByOne.Listed.{all_with}
+use Rattle.sq_catalog.proofs.OneByOne.Turns.{handed_on, made_stops, no_memory, seen_next}
+use Rattle.sq_catalog.proofs.CreateTable.WrittenParts.{zip_read}
 use Rattle.sq_catalog.proofs.reference.add_found.Goals as goal
 
 pub returns-in_err-found-clause-exact : goal.returns-in_err-found-clause-exact

@@ -4,7 +4,7 @@ use Rattle.sq_binding.specs.Reference.{found_reference}
 use Rattle.sq_catalog.specs.Exact.{declared, name_in}
 use Rattle.sq_catalog.specs.Reference.{IsFound, IsFoundAs, constraint_lent, found_seen, reference_seen}
 use Rattle.sq_catalog.specs.Written.{column_count, names_at}
-use Rattle.sq_catalog.proofs.Turns.{IsSeenTo}
+use Rattle.sq_catalog.proofs.OneByOne.Turns.{IsSeenTo}
 use Rattle.sq_catalog.proofs.reference.add_found.Given as goal
 
 abbrev pub invariant-loop-reference : goal.invariant-loop-reference

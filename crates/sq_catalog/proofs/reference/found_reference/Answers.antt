@@ -1,11 +1,12 @@
+-- Left open for found_reference: the clause exact; answered by ReferencesBound and Turns.
 use Rattle.std.proofs.Common.{ℕ, List, subst}
 use Rattle.sq_lex.specs.declared.name.Name.{Name}
 use Rattle.sq_binding.specs.Position.{positions_of}
 use Rattle.sq_catalog.specs.Exact.{declared, name_in}
 use Rattle.sq_catalog.specs.Fault.{Makes}
 use Rattle.sq_catalog.specs.Written.{names_at}
-use Rattle.sq_catalog.proofs.ReferencesBound.{columns_stop, earlier_stops, reference_found}
-use Rattle.sq_catalog.proofs.Turns.{handed_on}
+use Rattle.sq_catalog.proofs.CreateTable.ReferencesBound.{columns_stop, earlier_stops, reference_found}
+use Rattle.sq_catalog.proofs.OneByOne.Turns.{handed_on}
 use Rattle.sq_catalog.proofs.reference.found_reference.Goals as goal
 
 pub returns-in_err-earlier-clause-exact : goal.returns-in_err-earlier-clause-exact

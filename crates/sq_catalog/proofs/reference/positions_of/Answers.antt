@@ -1,3 +1,4 @@
+-- Left open: the clause exact, and that the loop keeps its invariant; answered by Listed and others.
 use Rattle.std.proofs.Common.{◌≡◌, Some, None, ap, length, nat_lt, position, sym, ◌∙◌}
 use Rattle.sq_lex.specs.declared.name.Name.{Name}
 use Rattle.sq_meaning.specs.Environment.{same_name}
@@ -8,10 +9,10 @@ use Rattle.sq_binding.specs.ElementOutcome.{or_fault}
 use Rattle.sq_binding.specs.Position.{position_of}
 use Rattle.sq_catalog.specs.Exact.{names_in}
 use Rattle.sq_catalog.specs.declared.fault.ElementFault.TheVariants.{Refused}
-use Rattle.sq_catalog.proofs.Listed.{all_push, below}
-use Rattle.sq_catalog.proofs.References.{position_map}
-use Rattle.sq_catalog.proofs.Turns.{done_next, done_stops}
-use Rattle.sq_catalog.proofs.WrittenParts.{zip_read}
+use Rattle.sq_catalog.proofs.OneByOne.Listed.{all_push, below}
+use Rattle.sq_catalog.proofs.CreateTable.References.{position_map}
+use Rattle.sq_catalog.proofs.OneByOne.Turns.{done_next, done_stops}
+use Rattle.sq_catalog.proofs.CreateTable.WrittenParts.{zip_read}
 use Rattle.sq_catalog.proofs.reference.positions_of.Goals as goal
 
 pub returns-in-None-clause-exact : goal.returns-in-None-clause-exact

@@ -3,7 +3,7 @@ use Rattle.sq_bound.specs.Names.{are_positions}
 use Rattle.sq_binding.specs.Position.{position_of}
 use Rattle.sq_catalog.specs.Exact.{names_in}
 use Rattle.sq_catalog.specs.Keys.{StandAt}
-use Rattle.sq_catalog.proofs.Turns.{IsDoneTo}
+use Rattle.sq_catalog.proofs.OneByOne.Turns.{IsDoneTo}
 use Rattle.sq_catalog.proofs.reference.positions_of.Given as goal
 
 abbrev pub invariant-loop-name : goal.invariant-loop-name

@@ -1,6 +1,7 @@
+-- Left open for references_of: the clause named; answered by References.
 use Rattle.sq_catalog.specs.Reference.{IsFoundAs, constraint_lent}
 use Rattle.sq_catalog.specs.Written.{names_at}
-use Rattle.sq_catalog.proofs.References.{zip_map}
+use Rattle.sq_catalog.proofs.CreateTable.References.{zip_map}
 use Rattle.sq_catalog.proofs.reference.references_of.Goals as goal
 
 pub returns-in-Ok-clause-named : goal.returns-in-Ok-clause-named

@@ -1,3 +1,4 @@
+-- Left open for base_target: the clause exact; answered by ReferencesBound.
 use Rattle.std.proofs.Common.{◌≡◌, Some, Ok, subst, sym, ◌∙◌}
 use Rattle.sq_bound.specs.WellFormed.{kinds_of_columns}
 use Rattle.sq_bound.specs.declared.names.TableBody.{TableBody}
@@ -5,7 +6,7 @@ use Rattle.sq_binding.specs.Reference.{referenced_table}
 use Rattle.sq_catalog.specs.Exact.{entry_with}
 use Rattle.sq_catalog.specs.Reference.{HasKinds, own_seen, target_seen}
 use Rattle.sq_catalog.specs.declared.catalog.FullName.{FullName}
-use Rattle.sq_catalog.proofs.ReferencesBound.{base_seen}
+use Rattle.sq_catalog.proofs.CreateTable.ReferencesBound.{base_seen}
 use Rattle.sq_catalog.proofs.referenced.base_target.Goals as goal
 
 pub returns-in-Base-clause-exact : goal.returns-in-Base-clause-exact

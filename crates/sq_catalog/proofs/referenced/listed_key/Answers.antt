@@ -1,3 +1,4 @@
+-- Left open: the clauses key and exact, and the loop's invariant; answered by References and ReferencesBound.
 use Rattle.std.proofs.Common.{◌||◌, Some, Ok, ap, refl, sym, ◌∙◌}
 use Rattle.std.proofs.lemmas.List.Folds.{list_any_more}
 use Rattle.std.proofs.lemmas.Option.{slice_get-get_or}
@@ -6,8 +7,8 @@ use Rattle.sq_meaning.specs.declared.refusal.SchemaFault.TheVariants as refusal
 use Rattle.sq_binding.specs.ElementOutcome.{or_fault}
 use Rattle.sq_binding.specs.Reference.{key_at}
 use Rattle.sq_catalog.specs.References.{is_key_of}
-use Rattle.sq_catalog.proofs.References.{position_first}
-use Rattle.sq_catalog.proofs.ReferencesBound.{key_here, key_past}
+use Rattle.sq_catalog.proofs.CreateTable.References.{position_first}
+use Rattle.sq_catalog.proofs.CreateTable.ReferencesBound.{key_here, key_past}
 use Rattle.sq_catalog.proofs.referenced.listed_key.Goals as goal
 
 pub returns-then-are_the_same-clause-key : goal.returns-then-are_the_same-clause-key

@@ -1,8 +1,9 @@
+-- Left open for column_shown: its result; answered by ViewHeld.
 use Rattle.std.proofs.Common.{◌≡◌, true, false, sym, ap, ◌∙◌}
 use Rattle.sq_bound.specs.declared.expression.BoundExpr.{BoundExpr}
 use Rattle.sq_binding.specs.Seen.{numbered_of}
 use Rattle.sq_binding.specs.CreateView.{column_shown}
-use Rattle.sq_catalog.proofs.ViewHeld.{operation_none, operations_alone}
+use Rattle.sq_catalog.proofs.CreateView.ViewHeld.{operation_none, operations_alone}
 use Rattle.sq_catalog.proofs.view_grants.+column_shown.Goals as goal
 
 pub returns-then-is_empty : goal.returns-then-is_empty

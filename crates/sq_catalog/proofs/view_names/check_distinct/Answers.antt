@@ -1,8 +1,9 @@
+-- Left open: the result, and that the loop keeps its invariant; answered by Distinct and NamesAdded.
 use Rattle.std.proofs.Common.{ap}
 use Rattle.sq_meaning.specs.declared.refusal.SchemaFault.TheVariants.{NameTwice}
 use Rattle.sq_binding.specs.ElementOutcome.{refused_if}
-use Rattle.sq_catalog.proofs.Distinct.{begun, seen_again, seen_all, seen_once}
-use Rattle.sq_catalog.proofs.NamesAdded.{once_added, twice_added}
+use Rattle.sq_catalog.proofs.OneByOne.Distinct.{begun, seen_again, seen_all, seen_once}
+use Rattle.sq_catalog.proofs.OneByOne.NamesAdded.{once_added, twice_added}
 use Rattle.sq_catalog.proofs.view_names.check_distinct.Goals as goal
 
 pub loop-name-init : goal.loop-name-init

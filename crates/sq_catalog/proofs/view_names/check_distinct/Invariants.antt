@@ -1,6 +1,6 @@
 use Rattle.std.proofs.Common.{◌≡◌, drop}
 use Rattle.sq_meaning.specs.Schema.{has_name_twice}
-use Rattle.sq_catalog.proofs.Distinct.{twice_behind}
+use Rattle.sq_catalog.proofs.OneByOne.Distinct.{twice_behind}
 use Rattle.sq_catalog.proofs.view_names.check_distinct.Given as goal
 
 abbrev pub invariant-loop-name : goal.invariant-loop-name

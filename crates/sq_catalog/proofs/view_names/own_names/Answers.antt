@@ -1,7 +1,8 @@
+-- Left open for own_names: that the loop keeps its invariant; answered by ViewNames.
 use Rattle.std.proofs.Common.{◌≡◌, ◌+◌, sym, subst, take, ◌∙◌}
 use Rattle.std.specs.List.{filter_map}
 use Rattle.sq_bound.specs.declared.condition.ResultColumn.{ResultColumn}
-use Rattle.sq_catalog.proofs.ViewNames.{none_found, one_found}
+use Rattle.sq_catalog.proofs.CreateView.ViewNames.{none_found, one_found}
 use Rattle.sq_catalog.proofs.view_names.own_names.Goals as goal
 use Rattle.sq_catalog.proofs.view_names.own_names.Goals.{in-Some+in_ok-push, in_default}
 

@@ -1,10 +1,11 @@
+-- Left open for query_names: the clauses names and exact; answered by ViewNames.
 use Rattle.std.proofs.Common.{◌≡◌, List, Ok, sym, subst, ◌∙◌}
 use Rattle.sq_lex.specs.declared.name.Name.{Name}
 use Rattle.sq_meaning.specs.Schema.{has_name_twice}
 use Rattle.sq_meaning.specs.declared.refusal.SchemaFault.TheVariants.{NameTwice}
 use Rattle.sq_binding.specs.ElementOutcome.{refused_if}
 use Rattle.sq_bound.specs.declared.condition.ResultColumn.{ResultColumn}
-use Rattle.sq_catalog.proofs.ViewNames.{all_named, query_named, query_unnamed}
+use Rattle.sq_catalog.proofs.CreateView.ViewNames.{all_named, query_named, query_unnamed}
 use Rattle.sq_catalog.proofs.view_names.query_names.Goals as goal
 
 pub returns-in-Ok-clause-names : goal.returns-in-Ok-clause-names

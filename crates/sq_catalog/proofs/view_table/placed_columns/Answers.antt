@@ -1,7 +1,8 @@
+-- Left open for placed_columns: that the loop keeps its invariant; answered by Listed and Seen.
 use Rattle.std.proofs.Common.{◌<◌, map, refl, ap, subst, sym, ◌∙◌}
 use Rattle.sq_bound.specs.declared.names.Column.{Column}
-use Rattle.sq_catalog.proofs.Listed.{copied_next}
-use Rattle.sq_catalog.proofs.Seen.{column_next, kind_read, kinds_zipped, places_next}
+use Rattle.sq_catalog.proofs.OneByOne.Listed.{copied_next}
+use Rattle.sq_catalog.proofs.Meaning.Seen.{column_next, kind_read, kinds_zipped, places_next}
 use Rattle.sq_catalog.proofs.view_table.placed_columns.Goals as goal
 
 pub loop-position-preserved : goal.loop-position-preserved

@@ -1,7 +1,8 @@
+-- Left open for view_columns: that the loop keeps its invariant; answered by Listed.
 use Rattle.std.proofs.Common.{◌<◌, length, map, refl, ap, sym, subst, ◌∙◌}
 use Rattle.sq_bound.specs.WellFormed.{kinds_of_columns}
 use Rattle.sq_bound.specs.declared.names.Column.{Column}
-use Rattle.sq_catalog.proofs.Listed.{copied_next, items_next}
+use Rattle.sq_catalog.proofs.OneByOne.Listed.{copied_next, items_next}
 use Rattle.sq_catalog.proofs.view_table.view_columns.Goals as goal
 
 pub loop-position-preserved : goal.loop-position-preserved

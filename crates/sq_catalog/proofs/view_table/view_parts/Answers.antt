@@ -1,7 +1,8 @@
+-- Left open: what the call of placed_columns asks for, and the clauses columns and over; answered by Seen.
 use Rattle.std.proofs.Common.{◌≡◌, ℕ, List, Some, ap, length, sym, subst, ◌∙◌}
 use Rattle.std.specs.List.{AllZip, slice_get}
 use Rattle.sq_bound.specs.WellFormed.{base_kinds, kinds_of_columns}
-use Rattle.sq_catalog.proofs.Seen.{parts_above, parts_over, zip_length}
+use Rattle.sq_catalog.proofs.Meaning.Seen.{parts_above, parts_over, zip_length}
 use Rattle.sq_catalog.proofs.view_table.view_parts.Goals as goal
 
 pub placed_columns-columns-requires : goal.placed_columns-columns-requires

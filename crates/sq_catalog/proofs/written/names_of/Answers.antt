@@ -1,5 +1,6 @@
+-- Left open for names_of: the clause names, and that the loop keeps its invariant; answered by Zips.
 use Rattle.std.proofs.Common.{[], ◌∷◌, ◌++◌, ap, sym, ◌∙◌}
-use Rattle.sq_catalog.proofs.Zips.{list_next, list_whole}
+use Rattle.sq_catalog.proofs.OneByOne.Zips.{list_next, list_whole}
 use Rattle.sq_catalog.proofs.written.names_of.Goals as goal
 
 pub loop-name-preserved : goal.loop-name-preserved

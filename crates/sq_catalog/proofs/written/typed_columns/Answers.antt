@@ -1,3 +1,4 @@
+-- Left open: the clause exact, and that the loop keeps its invariant; answered by Listed and Turns.
 use Rattle.std.proofs.Common.{◌≡◌, ◌+◌, ◌∷◌, ◌++◌, [], List, if◌then◌else◌, ap, length, length-append, map, sym, ◌∙◌}
 use Rattle.std.specs.Borrow.{Bor}
 use Rattle.sq_tree.specs.declared.schema.ColumnDefinition.{ColumnDefinition}
@@ -6,8 +7,8 @@ use Rattle.sq_binding.specs.ElementOutcome.{each}
 use Rattle.sq_catalog.specs.Table.{typed_seen}
 use Rattle.sq_catalog.specs.Written.{definitions_lent}
 use Rattle.sq_catalog.specs.declared.typed.TypedColumn.{TypedColumn}
-use Rattle.sq_catalog.proofs.Listed.{copied_next}
-use Rattle.sq_catalog.proofs.Turns.{handed_on, made_stops, no_memory, seen_next}
+use Rattle.sq_catalog.proofs.OneByOne.Listed.{copied_next}
+use Rattle.sq_catalog.proofs.OneByOne.Turns.{handed_on, made_stops, no_memory, seen_next}
 use Rattle.sq_catalog.proofs.written.typed_columns.Goals as goal
 
 pub returns-in_err-column-clause-exact : goal.returns-in_err-column-clause-exact

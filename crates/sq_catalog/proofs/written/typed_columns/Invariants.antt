@@ -2,7 +2,7 @@ use Rattle.std.proofs.Common.{◌≡◌, length, map, take}
 use Rattle.sq_binding.specs.Column.{typed_column}
 use Rattle.sq_catalog.specs.Table.{typed_seen}
 use Rattle.sq_catalog.specs.Written.{definitions_lent}
-use Rattle.sq_catalog.proofs.Turns.{IsSeenTo}
+use Rattle.sq_catalog.proofs.OneByOne.Turns.{IsSeenTo}
 use Rattle.sq_catalog.proofs.written.typed_columns.Given as goal
 
 abbrev pub invariant-loop-definition : goal.invariant-loop-definition

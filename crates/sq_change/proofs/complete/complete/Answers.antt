@@ -1,3 +1,4 @@
+-- Left open: the calls of apply and 2 more, and the clauses right and 3 more; answered by AllMet, Domains, Held, Obeyed and others.
 use Rattle.std.proofs.Common.{◌≡◌, ◌∙◌, ◌&&◌, List, false, is_err, true, Ok, Err, ap, refl, rules, sym}
 use Rattle.sq_store.specs.Change.{rows_put}
 use Rattle.sq_store.specs.Content.{changed_by, table_at, with_table}
@@ -13,13 +14,13 @@ use Rattle.sq_change.specs.Constraints.{completed, references_met, rows_met}
 use Rattle.sq_change.specs.declared.reference.Asked.{Asked}
 use Rattle.sq_change.specs.Lost.{are_free, lost_by, referred_keys}
 use Rattle.sq_change.specs.Reference.{are_rows_there, referred_by}
-use Rattle.sq_change.proofs.AllMet.{met_so}
-use Rattle.sq_change.proofs.Domains.{still_in}
-use Rattle.sq_change.proofs.Held.{is_there, keys_at_base, put_have_keys, still_held}
-use Rattle.sq_change.proofs.Obeyed.{consistent_still, constraints_kept, met_unless, references_of}
-use Rattle.sq_change.proofs.Outcomes.{done_so, not_done, not_done_then}
-use Rattle.sq_change.proofs.Performed.{keys_stop, references_end, rows_stop}
-use Rattle.sq_change.proofs.ReferencesKept.{references_decided}
+use Rattle.sq_change.proofs.OneByOne.AllMet.{met_so}
+use Rattle.sq_change.proofs.NewRows.Domains.{still_in}
+use Rattle.sq_change.proofs.Changes.Held.{is_there, keys_at_base, put_have_keys, still_held}
+use Rattle.sq_change.proofs.Constraints.Obeyed.{consistent_still, constraints_kept, met_unless, references_of}
+use Rattle.sq_change.proofs.OneByOne.Outcomes.{done_so, not_done, not_done_then}
+use Rattle.sq_change.proofs.Changes.Performed.{keys_stop, references_end, rows_stop}
+use Rattle.sq_change.proofs.Constraints.ReferencesKept.{references_decided}
 use Rattle.sq_change.proofs.complete.complete.Goals as goal
 use Rattle.sq_change.proofs.complete.complete.Goals.{then-is_err, else-is_err}
 

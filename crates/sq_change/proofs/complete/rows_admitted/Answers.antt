@@ -1,13 +1,14 @@
+-- Left open: the calls of asked_by and 2 more, and the clauses right and 2 more; answered by Endings, Held, OnRows and Outcomes.
 use Rattle.std.proofs.Common.{refl}
-use Rattle.sq_query.proofs.Finds.{leaf_finds}
+use Rattle.sq_query.proofs.Needs.Finds.{leaf_finds}
 use Rattle.sq_change.specs.Constraints.{check_option_met, row_met, rows_met}
 use Rattle.sq_change.specs.Made.{seen_by}
 use Rattle.sq_meaning.specs.Constraints.{all_satisfied}
 use Rattle.sq_store.specs.Change.{rows_put}
-use Rattle.sq_change.proofs.Endings.{ends_so}
-use Rattle.sq_change.proofs.Held.{refers_at}
-use Rattle.sq_change.proofs.OnRows.{conditions_on_rows, checks_on_rows}
-use Rattle.sq_change.proofs.Outcomes.{next_stops, stops_as, taken_if}
+use Rattle.sq_change.proofs.NewRows.Endings.{ends_so}
+use Rattle.sq_change.proofs.Changes.Held.{refers_at}
+use Rattle.sq_change.proofs.Constraints.OnRows.{conditions_on_rows, checks_on_rows}
+use Rattle.sq_change.proofs.OneByOne.Outcomes.{next_stops, stops_as, taken_if}
 use Rattle.sq_change.proofs.complete.rows_admitted.Goals as goal
 
 pub asked_by-requires-clause-keys : goal.asked_by-requires-clause-keys

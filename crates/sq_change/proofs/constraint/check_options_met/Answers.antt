@@ -1,3 +1,4 @@
+-- Left open: the call of meets_check_option, the clauses right and met, and the loop's invariant; answered by AllSatisfied and others.
 use Rattle.std.proofs.Common.{refl, arith, rules}
 use Rattle.std.specs.List.{AllByRecursion}
 use Rattle.sq_query.specs.Row.{IsOnRow}
@@ -6,11 +7,11 @@ use Rattle.sq_store.specs.Change.{rows_put}
 use Rattle.sq_meaning.specs.Constraints.{all_satisfied}
 use Rattle.sq_change.specs.Constraints.{check_option_met}
 use Rattle.sq_change.specs.Made.{seen_by}
-use Rattle.sq_change.proofs.AllSatisfied.{put_failed, put_more, rest_all, rest_none}
-use Rattle.sq_query.proofs.Finds.{Reads}
-use Rattle.sq_change.proofs.Applied.{put_so}
-use Rattle.sq_change.proofs.Domains.{all_taken}
-use Rattle.sq_change.proofs.Endings.{ends_so}
+use Rattle.sq_change.proofs.OneByOne.AllSatisfied.{put_failed, put_more, rest_all, rest_none}
+use Rattle.sq_query.proofs.Needs.Finds.{Reads}
+use Rattle.sq_change.proofs.Changes.Applied.{put_so}
+use Rattle.sq_change.proofs.NewRows.Domains.{all_taken}
+use Rattle.sq_change.proofs.NewRows.Endings.{ends_so}
 use Rattle.sq_change.proofs.constraint.check_options_met.Goals as goal
 use Rattle.sq_change.proofs.constraint.check_options_met.Goals.{in-Some+in_ok-meets_check_option, in_default}
 

@@ -5,7 +5,7 @@ use Rattle.sq_query.specs.MayRead.{MayRead}
 use Rattle.sq_change.specs.Changed.{AreOnRowsPut}
 use Rattle.sq_change.specs.Constraints.{check_option_met}
 use Rattle.sq_change.specs.Made.{Shown, seen_by}
-use Rattle.sq_change.proofs.AllSatisfied.{RestTo}
+use Rattle.sq_change.proofs.OneByOne.AllSatisfied.{RestTo}
 use Rattle.sq_change.proofs.constraint.check_options_met.Given as goal
 
 abbrev pub invariant-loop-change : goal.invariant-loop-change

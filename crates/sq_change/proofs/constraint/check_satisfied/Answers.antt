@@ -1,11 +1,12 @@
+-- Left open for check_satisfied: the clauses right and met; answered by Endings and RowTests.
 use Rattle.std.proofs.Common.{◌∙◌, ap, Ok, rules}
 use Rattle.sq_meaning.specs.Constraints.{satisfied}
 use Rattle.sq_expression.proofs.Expressions.{handed_on}
 use Rattle.sq_query.specs.Row.{truth_on_row}
 use Rattle.sq_change.specs.Constraints.{check_met}
 use Rattle.sq_change.specs.Made.{seen_by}
-use Rattle.sq_change.proofs.Endings.{ends_so}
-use Rattle.sq_change.proofs.RowTests.{satisfied_fails}
+use Rattle.sq_change.proofs.NewRows.Endings.{ends_so}
+use Rattle.sq_change.proofs.Constraints.RowTests.{satisfied_fails}
 use Rattle.sq_change.proofs.constraint.check_satisfied.Goals as goal
 
 pub returns-in_err-truth-clause-right : goal.returns-in_err-truth-clause-right

@@ -1,7 +1,8 @@
+-- Left open for lacks_value: its result, and that the loop keeps its invariant; answered by AllSatisfied.
 use Rattle.std.proofs.Common.{◌≡◌, false, true, refl, arith, sym, rules}
 use Rattle.std.specs.List.{zip}
 use Rattle.sq_bound.specs.Fits.{lacks_value}
-use Rattle.sq_change.proofs.AllSatisfied.{beside, none_more, none_there, one_found, paired, zip_short}
+use Rattle.sq_change.proofs.OneByOne.AllSatisfied.{beside, none_more, none_there, one_found, paired, zip_short}
 use Rattle.sq_change.proofs.constraint.lacks_value.Goals as goal
 use Rattle.sq_change.proofs.constraint.lacks_value.Goals.{else-column-via-then-column+else-is_null, else-column-via-else-column}
 

@@ -1,6 +1,6 @@
 use Rattle.std.specs.List.{zip}
 use Rattle.sq_bound.specs.Fits.{lacks_value}
-use Rattle.sq_change.proofs.AllSatisfied.{NoneTo}
+use Rattle.sq_change.proofs.OneByOne.AllSatisfied.{NoneTo}
 use Rattle.sq_change.proofs.constraint.lacks_value.Given as goal
 
 abbrev pub invariant-loop-place : goal.invariant-loop-place

@@ -1,14 +1,15 @@
+-- Left open: the call of truth, the clauses right and met, and the loop's invariant; answered by AllSatisfied, RowTests and others.
 use Rattle.std.proofs.Common.{refl, arith}
 use Rattle.sq_query.specs.Row.{IsOnRow, truth_on_row}
 use Rattle.sq_expression.proofs.Expressions.{handed_on}
 use Rattle.sq_meaning.specs.Constraints.{all_satisfied}
 use Rattle.sq_change.specs.Constraints.{condition_met}
 use Rattle.sq_change.specs.Made.{seen_by}
-use Rattle.sq_change.proofs.AllSatisfied.{satisfied_all, satisfied_failed, satisfied_more}
-use Rattle.sq_change.proofs.RowTests.{demanded_fails, demanded_not, demanded_true}
-use Rattle.sq_query.proofs.Finds.{Reads}
-use Rattle.sq_change.proofs.Domains.{all_at}
-use Rattle.sq_change.proofs.Endings.{ends_so}
+use Rattle.sq_change.proofs.OneByOne.AllSatisfied.{satisfied_all, satisfied_failed, satisfied_more}
+use Rattle.sq_change.proofs.Constraints.RowTests.{demanded_fails, demanded_not, demanded_true}
+use Rattle.sq_query.proofs.Needs.Finds.{Reads}
+use Rattle.sq_change.proofs.NewRows.Domains.{all_at}
+use Rattle.sq_change.proofs.NewRows.Endings.{ends_so}
 use Rattle.sq_change.proofs.constraint.meets_check_option.Goals as goal
 
 pub truth-requires : goal.truth-requires

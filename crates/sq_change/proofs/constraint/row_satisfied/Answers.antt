@@ -1,3 +1,4 @@
+-- Left open: the call of check_satisfied, the clauses right and met, and the loop's invariant; answered by AllSatisfied and others.
 use Rattle.std.proofs.Common.{◌≡◌, ◌∙◌, ap, not, refl, Bool, false, Ok, Err, rules}
 use Rattle.std.specs.List.{list_any, zip}
 use Rattle.sq_meaning.specs.Status.{and_then}
@@ -8,11 +9,11 @@ use Rattle.sq_query.specs.Row.{IsOnRow}
 use Rattle.sq_bound.specs.Fits.{lacks_value}
 use Rattle.sq_change.specs.Constraints.{check_met, not_null_met, row_met}
 use Rattle.sq_change.specs.Made.{seen_by}
-use Rattle.sq_change.proofs.AllSatisfied.{satisfied_all, satisfied_failed, satisfied_more}
-use Rattle.sq_change.proofs.Outcomes.{goes_on}
-use Rattle.sq_query.proofs.Finds.{Reads}
-use Rattle.sq_change.proofs.Domains.{all_at}
-use Rattle.sq_change.proofs.Endings.{ends_so}
+use Rattle.sq_change.proofs.OneByOne.AllSatisfied.{satisfied_all, satisfied_failed, satisfied_more}
+use Rattle.sq_change.proofs.OneByOne.Outcomes.{goes_on}
+use Rattle.sq_query.proofs.Needs.Finds.{Reads}
+use Rattle.sq_change.proofs.NewRows.Domains.{all_at}
+use Rattle.sq_change.proofs.NewRows.Endings.{ends_so}
 use Rattle.sq_change.proofs.constraint.row_satisfied.Goals as goal
 
 pub check_satisfied-requires : goal.check_satisfied-requires

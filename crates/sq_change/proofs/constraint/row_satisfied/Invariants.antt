@@ -5,7 +5,7 @@ use Rattle.sq_query.specs.MayRead.{MayRead}
 use Rattle.sq_query.specs.Row.{IsOnRow}
 use Rattle.sq_change.specs.Constraints.{check_met}
 use Rattle.sq_change.specs.Made.{Shown, seen_by}
-use Rattle.sq_change.proofs.AllSatisfied.{SatisfiedTo}
+use Rattle.sq_change.proofs.OneByOne.AllSatisfied.{SatisfiedTo}
 use Rattle.sq_change.proofs.constraint.row_satisfied.Given as goal
 
 abbrev pub invariant-loop-check : goal.invariant-loop-check

@@ -1,3 +1,4 @@
+-- Left open: the call of row_satisfied, the clauses right, met and values, and the loop's invariant; answered by AllSatisfied and others.
 use Rattle.std.proofs.Common.{◌∙◌, ◌&&◌, Bool, drop, length, refl, arith, ap, ◌+◌, rules}
 use Rattle.std.specs.List.{AllByRecursion, list_all}
 use Rattle.sq_store.specs.Change.{rows_put}
@@ -7,9 +8,9 @@ use Rattle.sq_query.specs.Row.{IsOnRow}
 use Rattle.sq_bound.specs.Fits.{has_its_values}
 use Rattle.sq_change.specs.Constraints.{row_met}
 use Rattle.sq_change.specs.Made.{seen_by}
-use Rattle.sq_change.proofs.AllSatisfied.{put_failed, put_more, rest_all, rest_none, rest_row}
-use Rattle.sq_change.proofs.Applied.{put_so, row_wide}
-use Rattle.sq_change.proofs.Endings.{ends_so}
+use Rattle.sq_change.proofs.OneByOne.AllSatisfied.{put_failed, put_more, rest_all, rest_none, rest_row}
+use Rattle.sq_change.proofs.Changes.Applied.{put_so, row_wide}
+use Rattle.sq_change.proofs.NewRows.Endings.{ends_so}
 use Rattle.sq_change.proofs.constraint.rows_satisfied.Goals as goal
 use Rattle.sq_change.proofs.constraint.rows_satisfied.Goals.{in-Some+in_ok-row_satisfied, in_default}
 

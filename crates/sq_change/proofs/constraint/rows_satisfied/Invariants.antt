@@ -7,7 +7,7 @@ use Rattle.sq_change.specs.Changed.{AreOnRowsPut}
 use Rattle.sq_bound.specs.Fits.{has_its_values}
 use Rattle.sq_change.specs.Constraints.{row_met}
 use Rattle.sq_change.specs.Made.{Shown, seen_by}
-use Rattle.sq_change.proofs.AllSatisfied.{RestTo}
+use Rattle.sq_change.proofs.OneByOne.AllSatisfied.{RestTo}
 use Rattle.sq_change.proofs.constraint.rows_satisfied.Given as goal
 
 abbrev pub invariant-loop-change : goal.invariant-loop-change

@@ -1,3 +1,4 @@
+-- Left open: the call of new_row, the clause meant, and the loop's invariant; answered by Applied and others.
 use Rattle.std.proofs.Common.{length, arith, refl, rules, sym, ap}
 use Rattle.std.proofs.lemmas.Grind.{common_steps}
 use Rattle.sq_store.specs.Change.{rows_put}
@@ -6,9 +7,9 @@ use Rattle.sq_expression.proofs.Views.{handed_on_as}
 use Rattle.sq_change.specs.Changed.{new_rows_in}
 use Rattle.sq_change.specs.Given.{AreStored}
 use Rattle.sq_change.specs.Made.{row_completed}
-use Rattle.sq_change.proofs.Applied.{one_put, wide_inserted}
-use Rattle.sq_change.proofs.InTurn.{made_all, made_failed, made_more, made_none}
-use Rattle.sq_change.proofs.Domains.{all_at, inserted_in}
+use Rattle.sq_change.proofs.Changes.Applied.{one_put, wide_inserted}
+use Rattle.sq_change.proofs.OneByOne.InTurn.{made_all, made_failed, made_more, made_none}
+use Rattle.sq_change.proofs.NewRows.Domains.{all_at, inserted_in}
 use Rattle.sq_change.proofs.given.completed_rows.Goals as goal
 
 pub new_row-requires-clause-stored : goal.new_row-requires-clause-stored

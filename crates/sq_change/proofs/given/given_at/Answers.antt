@@ -1,7 +1,8 @@
+-- Left open: the clauses given and stored, and that a place is within its list; answered by Domains and InTurn.
 use Rattle.std.proofs.Common.{sym, ap, ◌∙◌, slice_get}
 use Rattle.std.specs.Option.{option_and_then}
-use Rattle.sq_change.proofs.Domains.{found_stored, listed_within}
-use Rattle.sq_change.proofs.InTurn.{found_at}
+use Rattle.sq_change.proofs.NewRows.Domains.{found_stored, listed_within}
+use Rattle.sq_change.proofs.OneByOne.InTurn.{found_at}
 use Rattle.sq_change.proofs.given.given_at.Goals as goal
 
 pub bounds-given-listed : goal.bounds-given-listed

@@ -1,3 +1,4 @@
+-- Left open: the calls of given_values, rows_found and stored_rows, and the clauses right and made; answered by Endings and others.
 use Rattle.std.proofs.Common.{List, Err, sym, subst}
 use Rattle.sq_value.specs.declared.value.Value.{Value}
 use Rattle.sq_bound.specs.declared.expression.BoundExpr.{BoundExpr}
@@ -9,10 +10,10 @@ use Rattle.sq_change.specs.Given.{AreStorable, FitColumns}
 use Rattle.sq_change.specs.Made.{Shown, rows_found, seen_by}
 use Rattle.sq_query.specs.MayRead.{MayEnd}
 use Rattle.sq_query.specs.Needed.{FindsSelect}
-use Rattle.sq_query.proofs.Finds.{select_finds}
-use Rattle.sq_change.proofs.Endings.{ends_so}
-use Rattle.sq_change.proofs.GivenRows.{query_ends, query_on}
-use Rattle.sq_change.proofs.Storable.{gives_rows, gives_values, query_so}
+use Rattle.sq_query.proofs.Needs.Finds.{select_finds}
+use Rattle.sq_change.proofs.NewRows.Endings.{ends_so}
+use Rattle.sq_change.proofs.NewRows.GivenRows.{query_ends, query_on}
+use Rattle.sq_change.proofs.NewRows.Storable.{gives_rows, gives_values, query_so}
 use Rattle.sq_change.proofs.given.given_rows.Goals as goal
 
 pub given_values-requires : goal.given_values-requires

@@ -1,10 +1,11 @@
+-- Left open: the call of value_or_default, the clause meant, and the loop's invariant; answered by InTurn and Domains.
 use Rattle.std.proofs.Common.{arith, rules, ◌∙◌}
 use Rattle.std.specs.List.{enumerate_from}
 use Rattle.std.proofs.lemmas.Grind.{common_steps}
 use Rattle.sq_expression.proofs.Expressions.{handed_on}
 use Rattle.sq_change.specs.Made.{row_completed, value_completed}
-use Rattle.sq_change.proofs.InTurn.{all_placed, made_all, made_failed, made_more, made_none, place_at}
-use Rattle.sq_change.proofs.Domains.{given_in_if, pushed_in}
+use Rattle.sq_change.proofs.OneByOne.InTurn.{all_placed, made_all, made_failed, made_more, made_none, place_at}
+use Rattle.sq_change.proofs.NewRows.Domains.{given_in_if, pushed_in}
 use Rattle.sq_change.proofs.given.new_row.Goals as goal
 
 pub value_or_default-requires : goal.value_or_default-requires

@@ -2,7 +2,7 @@ use Rattle.std.proofs.Common.{◌≡◌, length, take}
 use Rattle.sq_bound.specs.Fits.{IsRowIn}
 use Rattle.std.specs.List.{enumerate_from}
 use Rattle.sq_change.specs.Made.{value_completed}
-use Rattle.sq_change.proofs.InTurn.{MadeTo}
+use Rattle.sq_change.proofs.OneByOne.InTurn.{MadeTo}
 use Rattle.sq_change.proofs.given.new_row.Given as goal
 
 abbrev pub invariant-loop-place : goal.invariant-loop-place

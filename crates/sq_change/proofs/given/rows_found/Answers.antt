@@ -1,8 +1,9 @@
+-- Left open for rows_found: the clauses right, found and kinds; answered by Endings and Outcomes.
 use Rattle.sq_meaning.specs.Change.{if_some}
 use Rattle.sq_expression.specs.Fault.{rows_in}
 use Rattle.sq_expression.proofs.Views.{failed_as}
-use Rattle.sq_change.proofs.Endings.{ends_so}
-use Rattle.sq_change.proofs.Outcomes.{stops_as}
+use Rattle.sq_change.proofs.NewRows.Endings.{ends_so}
+use Rattle.sq_change.proofs.OneByOne.Outcomes.{stops_as}
 use Rattle.sq_change.proofs.given.rows_found.Goals as goal
 
 pub returns-in_err-rows-clause-right : goal.returns-in_err-rows-clause-right

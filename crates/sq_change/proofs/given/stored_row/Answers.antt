@@ -1,3 +1,4 @@
+-- Left open: the call of assign_value, the clauses meant and stored, and the loop's invariant; answered by InTurn, Domains and Storable.
 use Rattle.std.proofs.Common.{rules, length, ◌∙◌}
 use Rattle.std.proofs.lemmas.List.{length_push}
 use Rattle.std.proofs.lemmas.Slice.Zip.{zip_end, zip_turn}
@@ -5,9 +6,9 @@ use Rattle.std.specs.List.{zip}
 use Rattle.sq_value.specs.Domain.{FitsKind}
 use Rattle.sq_expression.proofs.Expressions.{handed_on}
 use Rattle.sq_change.specs.Made.{row_stored, stored_in}
-use Rattle.sq_change.proofs.InTurn.{made_none, pair_failed, pair_more, pairs_all}
-use Rattle.sq_change.proofs.Domains.{stored_all, stored_push}
-use Rattle.sq_change.proofs.Storable.{zipped_at}
+use Rattle.sq_change.proofs.OneByOne.InTurn.{made_none, pair_failed, pair_more, pairs_all}
+use Rattle.sq_change.proofs.NewRows.Domains.{stored_all, stored_push}
+use Rattle.sq_change.proofs.NewRows.Storable.{zipped_at}
 use Rattle.sq_change.proofs.given.stored_row.Goals as goal
 
 pub assign_value-requires-clause-kind : goal.assign_value-requires-clause-kind

@@ -2,7 +2,7 @@ use Rattle.std.proofs.Common.{length, take}
 use Rattle.std.specs.List.{zip}
 use Rattle.sq_change.specs.Given.{AreStored}
 use Rattle.sq_change.specs.Made.{stored_in}
-use Rattle.sq_change.proofs.InTurn.{MadeTo}
+use Rattle.sq_change.proofs.OneByOne.InTurn.{MadeTo}
 use Rattle.sq_change.proofs.given.stored_row.Given as goal
 
 abbrev pub invariant-loop-column : goal.invariant-loop-column

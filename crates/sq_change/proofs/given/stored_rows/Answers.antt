@@ -1,3 +1,4 @@
+-- Left open: the clause meant, and that the loop keeps its invariant; answered by InTurn and Domains.
 use Rattle.std.proofs.Common.{arith, rules, sym}
 use Rattle.std.proofs.lemmas.Grind.{common_steps}
 use Rattle.sq_expression.specs.Fault.{rows_in}
@@ -5,8 +6,8 @@ use Rattle.sq_meaning.specs.Status.{each}
 use Rattle.sq_expression.proofs.Views.{handed_on_as}
 use Rattle.sq_change.specs.Given.{AreStored}
 use Rattle.sq_change.specs.Made.{row_stored}
-use Rattle.sq_change.proofs.InTurn.{made_all, made_failed, made_more, made_none}
-use Rattle.sq_change.proofs.Domains.{all_pushed}
+use Rattle.sq_change.proofs.OneByOne.InTurn.{made_all, made_failed, made_more, made_none}
+use Rattle.sq_change.proofs.NewRows.Domains.{all_pushed}
 use Rattle.sq_change.proofs.given.stored_rows.Goals as goal
 
 pub loop-row-preserved : goal.loop-row-preserved

@@ -2,7 +2,7 @@ use Rattle.std.proofs.Common.{◌≡◌, vec_len}
 use Rattle.std.specs.List.{AllByRecursion}
 use Rattle.sq_change.specs.Given.{AreStored}
 use Rattle.sq_change.specs.Made.{row_stored}
-use Rattle.sq_change.proofs.InTurn.{MadeTo}
+use Rattle.sq_change.proofs.OneByOne.InTurn.{MadeTo}
 use Rattle.sq_change.proofs.given.stored_rows.Given as goal
 
 abbrev pub invariant-loop-row : goal.invariant-loop-row

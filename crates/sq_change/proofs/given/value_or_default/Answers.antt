@@ -1,6 +1,7 @@
-use Rattle.sq_change.proofs.Defaults.{user_refused, user_stored}
-use Rattle.sq_change.proofs.Endings.{ends_so, user_ends}
-use Rattle.sq_change.proofs.Storable.{user_fits}
+-- Left open: the call of assign_value, and the clauses meant and right; answered by Defaults and others.
+use Rattle.sq_change.proofs.NewRows.Defaults.{user_refused, user_stored}
+use Rattle.sq_change.proofs.NewRows.Endings.{ends_so, user_ends}
+use Rattle.sq_change.proofs.NewRows.Storable.{user_fits}
 use Rattle.sq_change.proofs.given.value_or_default.Goals as goal
 
 pub assign_value-requires-clause-kind : goal.assign_value-requires-clause-kind

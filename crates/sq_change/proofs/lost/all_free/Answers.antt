@@ -1,3 +1,4 @@
+-- Left open: the call of references_free, the clause meant, and the loop's invariant; answered by AllMet, Held, InTurn and LostValues.
 use Rattle.std.proofs.Common.{◌≡◌, ◌<◌, ℕ, List, length, Some, get_or, slice_get, sym, refl, ◌∙◌}
 use Rattle.std.specs.List.{enumerate_from}
 use Rattle.std.proofs.lemmas.Bool.{eqb-true}
@@ -6,10 +7,10 @@ use Rattle.std.proofs.lemmas.Option.{slice_get_read}
 use Rattle.sq_meaning.specs.declared.status.Status.TheVariants.{IntegrityConstraintViolation}
 use Rattle.sq_bound.specs.declared.names.BaseTable.{BaseTable}
 use Rattle.sq_change.specs.Lost.{are_free}
-use Rattle.sq_change.proofs.AllMet.{fails_so, is_met, met_all, met_more, met_not, was_met}
-use Rattle.sq_change.proofs.Held.{is_there, refers_at, width_at}
-use Rattle.sq_change.proofs.InTurn.{all_placed, place_at}
-use Rattle.sq_change.proofs.LostValues.{none_lost, of_all_tables, table_free}
+use Rattle.sq_change.proofs.OneByOne.AllMet.{fails_so, is_met, met_all, met_more, met_not, was_met}
+use Rattle.sq_change.proofs.Changes.Held.{is_there, refers_at, width_at}
+use Rattle.sq_change.proofs.OneByOne.InTurn.{all_placed, place_at}
+use Rattle.sq_change.proofs.Keys.LostValues.{none_lost, of_all_tables, table_free}
 use Rattle.sq_change.proofs.lost.all_free.Goals as goal
 
 -- the element of a loop is the base table at its place

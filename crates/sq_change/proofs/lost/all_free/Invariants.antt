@@ -1,6 +1,6 @@
 use Rattle.std.specs.List.{enumerate_from}
-use Rattle.sq_change.proofs.AllMet.{MetTo}
-use Rattle.sq_change.proofs.LostValues.{table_free}
+use Rattle.sq_change.proofs.OneByOne.AllMet.{MetTo}
+use Rattle.sq_change.proofs.Keys.LostValues.{table_free}
 use Rattle.sq_change.proofs.lost.all_free.Given as goal
 
 abbrev pub invariant-loop-place : goal.invariant-loop-place

@@ -1,4 +1,5 @@
-use Rattle.sq_change.proofs.Held.{table_of_key}
+-- Left open for is_there_still: what the call of find_key asks for; answered by Held.
+use Rattle.sq_change.proofs.Changes.Held.{table_of_key}
 use Rattle.sq_change.proofs.lost.is_there_still.Goals as goal
 
 pub find_key-requires-clause-table : goal.find_key-requires-clause-table

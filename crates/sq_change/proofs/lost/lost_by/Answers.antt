@@ -1,6 +1,7 @@
+-- Left open for lost_by: what the call of lost_in asks for; answered by LostValues.
 use Rattle.std.proofs.Common.{◌∙◌, ap, length, nat_lt}
 use Rattle.std.specs.List.{list_all}
-use Rattle.sq_change.proofs.LostValues.{referred_within}
+use Rattle.sq_change.proofs.Keys.LostValues.{referred_within}
 use Rattle.sq_change.proofs.lost.lost_by.Goals as goal
 
 pub lost_in-requires-clause-keys : goal.lost_in-requires-clause-keys

@@ -1,3 +1,4 @@
+-- Left open: the calls of row_changed and push_lost, the clause list, and the loop's invariant; answered by Gathered, Held and LostValues.
 use Rattle.std.proofs.Common.{◌∙◌, ◌++◌, [], List, ap, append-nil, sym}
 use Rattle.std.specs.Prelude.{Vec}
 use Rattle.std.specs.declared.alloc.Global.{Global}
@@ -5,9 +6,9 @@ use Rattle.sq_store.specs.Content.{table_at}
 use Rattle.sq_store.specs.declared.change.Change.{Change}
 use Rattle.sq_change.specs.Lost.{lost_if, row_changed}
 use Rattle.sq_change.specs.declared.lost.LostKey.{LostKey}
-use Rattle.sq_change.proofs.Gathered.{gathered_all, gathered_more}
-use Rattle.sq_change.proofs.Held.{is_there}
-use Rattle.sq_change.proofs.LostValues.{changed_has_keys}
+use Rattle.sq_change.proofs.OneByOne.Gathered.{gathered_all, gathered_more}
+use Rattle.sq_change.proofs.Changes.Held.{is_there}
+use Rattle.sq_change.proofs.Keys.LostValues.{changed_has_keys}
 use Rattle.sq_change.proofs.lost.lost_in.Goals as goal
 use Rattle.sq_change.proofs.lost.lost_in.Goals.{in-Some+in_ok-push_lost, in_default}
 

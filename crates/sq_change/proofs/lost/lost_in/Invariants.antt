@@ -1,7 +1,7 @@
 use Rattle.std.proofs.Common.{[]}
 use Rattle.sq_store.specs.Content.{table_at}
 use Rattle.sq_change.specs.Lost.{lost_if, row_changed}
-use Rattle.sq_change.proofs.Gathered.{GatheredTo}
+use Rattle.sq_change.proofs.OneByOne.Gathered.{GatheredTo}
 use Rattle.sq_change.proofs.lost.lost_in.Given as goal
 
 abbrev pub invariant-loop-change : goal.invariant-loop-change

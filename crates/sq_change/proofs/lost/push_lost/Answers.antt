@@ -1,3 +1,4 @@
+-- Left open: the clause list, and that the loop keeps its invariant; answered by Gathered and LostValues.
 use Rattle.std.proofs.Common.{◌≡◌, ◌∙◌, ◌<◌, ◌++◌, [], ℕ, List, ap, append-nil, arith, get_or, length, nat_lt, refl, slice_index_or, sym, true}
 use Rattle.std.proofs.lemmas.Grind.{common_steps}
 use Rattle.std.proofs.lemmas.List.Sums.{AllPass-from_list_all}
@@ -6,8 +7,8 @@ use Rattle.std.specs.declared.alloc.Global.{Global}
 use Rattle.sq_change.specs.Lost.{lost_in_key}
 use Rattle.sq_change.specs.Reference.{values_in}
 use Rattle.sq_change.specs.declared.lost.LostKey.{LostKey}
-use Rattle.sq_change.proofs.Gathered.{gathered_all, gathered_more, same_default}
-use Rattle.sq_change.proofs.LostValues.{not_lost, one_lost}
+use Rattle.sq_change.proofs.OneByOne.Gathered.{gathered_all, gathered_more, same_default}
+use Rattle.sq_change.proofs.Keys.LostValues.{not_lost, one_lost}
 use Rattle.sq_change.proofs.lost.push_lost.Goals as goal
 use Rattle.sq_change.proofs.lost.push_lost.Goals.{in-Some+in_ok-push, in_default}
 

@@ -1,5 +1,5 @@
 use Rattle.sq_change.specs.Lost.{lost_in_key}
-use Rattle.sq_change.proofs.Gathered.{GatheredTo}
+use Rattle.sq_change.proofs.OneByOne.Gathered.{GatheredTo}
 use Rattle.sq_change.proofs.lost.push_lost.Given as goal
 
 abbrev pub invariant-loop-key : goal.invariant-loop-key

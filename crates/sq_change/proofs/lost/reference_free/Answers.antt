@@ -1,7 +1,8 @@
+-- Left open for reference_free: the clause meant, and that the loop keeps its invariant; answered by AllMet.
 use Rattle.std.specs.List.{list_all}
 use Rattle.sq_meaning.specs.declared.status.Status.TheVariants.{IntegrityConstraintViolation}
 use Rattle.sq_change.specs.Lost.{is_free}
-use Rattle.sq_change.proofs.AllMet.{fails_so, is_met, met_all, met_more, met_not, was_met}
+use Rattle.sq_change.proofs.OneByOne.AllMet.{fails_so, is_met, met_all, met_more, met_not, was_met}
 use Rattle.sq_change.proofs.lost.reference_free.Goals as goal
 
 pub loop-lost_key-preserved : goal.loop-lost_key-preserved

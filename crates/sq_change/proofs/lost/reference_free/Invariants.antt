@@ -1,5 +1,5 @@
 use Rattle.sq_change.specs.Lost.{is_free}
-use Rattle.sq_change.proofs.AllMet.{MetTo}
+use Rattle.sq_change.proofs.OneByOne.AllMet.{MetTo}
 use Rattle.sq_change.proofs.lost.reference_free.Given as goal
 
 abbrev pub invariant-loop-lost_key : goal.invariant-loop-lost_key

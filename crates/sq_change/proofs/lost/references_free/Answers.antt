@@ -1,11 +1,12 @@
+-- Left open: the call of reference_free, the clause meant, and the loop's invariant; answered by AllMet, Held and LostValues.
 use Rattle.std.proofs.Common.{◌≡◌, true, ◌∙◌}
 use Rattle.std.specs.List.{list_all}
 use Rattle.sq_store.specs.Content.{table_at}
 use Rattle.sq_meaning.specs.declared.status.Status.TheVariants.{IntegrityConstraintViolation}
 use Rattle.sq_change.specs.Lost.{free_by, is_free}
-use Rattle.sq_change.proofs.AllMet.{fails_so, is_met, met_all, met_more, met_not, was_met}
-use Rattle.sq_change.proofs.Held.{rows_refer_by}
-use Rattle.sq_change.proofs.LostValues.{free_elsewhere, free_where}
+use Rattle.sq_change.proofs.OneByOne.AllMet.{fails_so, is_met, met_all, met_more, met_not, was_met}
+use Rattle.sq_change.proofs.Changes.Held.{rows_refer_by}
+use Rattle.sq_change.proofs.Keys.LostValues.{free_elsewhere, free_where}
 use Rattle.sq_change.proofs.lost.references_free.Goals as goal
 use Rattle.sq_change.proofs.lost.references_free.Goals.{then-is_to+in_ok-reference_free, else-is_to}
 

@@ -1,5 +1,5 @@
 use Rattle.sq_change.specs.Lost.{free_by}
-use Rattle.sq_change.proofs.AllMet.{MetTo}
+use Rattle.sq_change.proofs.OneByOne.AllMet.{MetTo}
 use Rattle.sq_change.proofs.lost.references_free.Given as goal
 
 abbrev pub invariant-loop-reference : goal.invariant-loop-reference

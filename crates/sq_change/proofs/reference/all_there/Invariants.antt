@@ -1,5 +1,5 @@
 use Rattle.sq_change.specs.Reference.{is_row_there}
-use Rattle.sq_change.proofs.AllMet.{MetTo}
+use Rattle.sq_change.proofs.OneByOne.AllMet.{MetTo}
 use Rattle.sq_change.proofs.reference.all_there.Given as goal
 
 abbrev pub invariant-loop-row : goal.invariant-loop-row

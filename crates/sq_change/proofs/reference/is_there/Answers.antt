@@ -1,9 +1,10 @@
+-- Left open for is_there: what the call of find_key asks for, and the clause meant; answered by Held.
 use Rattle.std.proofs.Common.{ap}
 use Rattle.std.specs.Prelude.{Option, is_some}
 use Rattle.sq_store.specs.declared.table.Numbered.{Numbered}
 use Rattle.sq_meaning.specs.declared.status.Status.TheVariants.{IntegrityConstraintViolation}
 use Rattle.sq_meaning.specs.Constraints.{demanded}
-use Rattle.sq_change.proofs.Held.{table_of_key}
+use Rattle.sq_change.proofs.Changes.Held.{table_of_key}
 use Rattle.sq_change.proofs.reference.is_there.Goals as goal
 
 pub find_key-requires-clause-table : goal.find_key-requires-clause-table

@@ -1,7 +1,8 @@
+-- Left open: the clause list, and that the loop keeps its invariant; answered by Referred.
 use Rattle.std.proofs.Common.{◌∙◌, ap, arith}
 use Rattle.std.proofs.lemmas.Grind.{common_steps}
 use Rattle.sq_change.specs.Reference.{values_in}
-use Rattle.sq_change.proofs.Referred.{all_referred, none_referred, one_referred}
+use Rattle.sq_change.proofs.Constraints.Referred.{all_referred, none_referred, one_referred}
 use Rattle.sq_change.proofs.reference.push_referenced.Goals as goal
 use Rattle.sq_change.proofs.reference.push_referenced.Goals.{in-Some+in_ok-push, in_default}
 

@@ -1,6 +1,6 @@
 use Rattle.std.proofs.Common.{◌≡◌, true}
 use Rattle.sq_change.specs.Reference.{are_of_keys}
-use Rattle.sq_change.proofs.Referred.{ReferredTo}
+use Rattle.sq_change.proofs.Constraints.Referred.{ReferredTo}
 use Rattle.sq_change.proofs.reference.push_referenced.Given as goal
 
 abbrev pub invariant-loop-reference : goal.invariant-loop-reference

@@ -1,7 +1,8 @@
+-- Left open: the call of push_referenced, the clause list, and the loop's invariant; answered by Applied and Referred.
 use Rattle.std.proofs.Common.{length, arith}
 use Rattle.std.proofs.lemmas.Grind.{common_steps}
-use Rattle.sq_change.proofs.Applied.{row_wide}
-use Rattle.sq_change.proofs.Referred.{all_put_referred, no_row_referred, row_referred}
+use Rattle.sq_change.proofs.Changes.Applied.{row_wide}
+use Rattle.sq_change.proofs.Constraints.Referred.{all_put_referred, no_row_referred, row_referred}
 use Rattle.sq_change.proofs.reference.referenced_by.Goals as goal
 use Rattle.sq_change.proofs.reference.referenced_by.Goals.{in-Some+in_ok-push_referenced, in_default}
 

@@ -1,6 +1,6 @@
 use Rattle.std.proofs.Common.{◌≡◌, true}
 use Rattle.sq_change.specs.Reference.{are_of_keys}
-use Rattle.sq_change.proofs.Referred.{PutTo}
+use Rattle.sq_change.proofs.Constraints.Referred.{PutTo}
 use Rattle.sq_change.proofs.reference.referenced_by.Given as goal
 
 abbrev pub invariant-loop-change : goal.invariant-loop-change

@@ -1,8 +1,9 @@
+-- Left open for references_satisfied: the clause meant; answered by AllMet.
 use Rattle.std.proofs.Common.{◌≡◌, ◌&&◌, Bool, true, ap}
 use Rattle.sq_meaning.specs.declared.status.Status.TheVariants.{IntegrityConstraintViolation}
 use Rattle.sq_change.specs.Lost.{are_free}
 use Rattle.sq_change.specs.Reference.{are_rows_there}
-use Rattle.sq_change.proofs.AllMet.{fails_so, met_so, was_met}
+use Rattle.sq_change.proofs.OneByOne.AllMet.{fails_so, met_so, was_met}
 use Rattle.sq_change.proofs.reference.references_satisfied.Goals as goal
 
 pub returns-in_err-all_there-clause-meant : goal.returns-in_err-all_there-clause-meant

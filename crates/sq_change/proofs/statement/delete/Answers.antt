@@ -1,3 +1,4 @@
+-- Left open: the calls of find_deleted and complete, and the clauses right, meant and read; answered by Endings, Obeyed, OnRows and others.
 use Rattle.std.proofs.Common.{[]}
 use Rattle.sq_store.specs.Content.{table_at}
 use Rattle.sq_change.specs.Changed.{Removals}
@@ -5,11 +6,11 @@ use Rattle.sq_bound.specs.Fits.{under}
 use Rattle.sq_change.specs.Constraints.{completed}
 use Rattle.sq_change.specs.Made.{Seen, numbers_changed, seen_by}
 use Rattle.sq_change.specs.Statement.{without}
-use Rattle.sq_change.proofs.Endings.{ends_so}
-use Rattle.sq_change.proofs.Obeyed.{keeps_tables}
-use Rattle.sq_change.proofs.OnRows.{leaf_well}
-use Rattle.sq_change.proofs.Outcomes.{stops_as}
-use Rattle.sq_change.proofs.Performed.{delete_meets}
+use Rattle.sq_change.proofs.NewRows.Endings.{ends_so}
+use Rattle.sq_change.proofs.Constraints.Obeyed.{keeps_tables}
+use Rattle.sq_change.proofs.Constraints.OnRows.{leaf_well}
+use Rattle.sq_change.proofs.OneByOne.Outcomes.{stops_as}
+use Rattle.sq_change.proofs.Changes.Performed.{delete_meets}
 use Rattle.sq_change.proofs.statement.delete.Goals as goal
 
 pub find_deleted-requires-clause-kept : goal.find_deleted-requires-clause-kept

@@ -1,11 +1,12 @@
+-- Left open: the clauses right, meant, removals, changes and read; answered by Endings, KeptRest and Made.
 use Rattle.std.proofs.Common.{subst, sym}
 use Rattle.sq_expression.proofs.Views.{failed_as}
 use Rattle.sq_query.specs.Target.{numbers_in}
 use Rattle.sq_change.specs.Made.{Seen, numbers_changed, seen_by}
 use Rattle.sq_change.specs.Statement.{Chosen}
-use Rattle.sq_change.proofs.Endings.{ends_so, hands_on, memory_fails, memory_right}
-use Rattle.sq_change.proofs.KeptRest.{removed_made, removed_rest}
-use Rattle.sq_change.proofs.Made.{removals_kept}
+use Rattle.sq_change.proofs.NewRows.Endings.{ends_so, hands_on, memory_fails, memory_right}
+use Rattle.sq_change.proofs.Keys.KeptRest.{removed_made, removed_rest}
+use Rattle.sq_change.proofs.Changes.Made.{removals_kept}
 use Rattle.sq_change.proofs.statement.find_deleted.Goals as goal
 
 pub returns-in_err-numbers-clause-right : goal.returns-in_err-numbers-clause-right

@@ -1,3 +1,4 @@
+-- Left open: the call of numbers_left, and the clauses made and changes; answered by Applied and others.
 use Rattle.std.proofs.Common.{◌≡◌, ◌+◌, ◌-◌, ◌<◌, ◌≤◌, ◌∙◌, Ok, length, arith, ap, subst, sym}
 use Rattle.sq_store.specs.Change.{rows_put}
 use Rattle.sq_store.specs.Content.{table_at}
@@ -5,10 +6,10 @@ use Rattle.sq_bound.specs.declared.names.BaseTable.{BaseTable}
 use Rattle.sq_bound.specs.declared.names.Leaf.{Leaf}
 use Rattle.sq_change.specs.Changed.{FitTable}
 use Rattle.sq_change.specs.Made.{rows_made, seen_by}
-use Rattle.sq_change.proofs.Applied.{fewer_inserted}
-use Rattle.sq_change.proofs.GivenRows.{few_rows, inserted_are, inserted_none, many_rows}
-use Rattle.sq_change.proofs.Held.{is_there}
-use Rattle.sq_change.proofs.KeptKeys.{insertions_keep, insertions_put}
+use Rattle.sq_change.proofs.Changes.Applied.{fewer_inserted}
+use Rattle.sq_change.proofs.NewRows.GivenRows.{few_rows, inserted_are, inserted_none, many_rows}
+use Rattle.sq_change.proofs.Changes.Held.{is_there}
+use Rattle.sq_change.proofs.Keys.KeptKeys.{insertions_keep, insertions_put}
 use Rattle.sq_change.proofs.statement.find_inserted.Goals as goal
 
 pub returns-clause-made : goal.returns-clause-made

@@ -1,3 +1,4 @@
+-- Left open: the call of replace_rows, and the clauses replacements, meant, right, changes and read; answered by Applied and others.
 use Rattle.std.proofs.Common.{ℕ, List, Bor, map, sym, subst}
 use Rattle.sq_meaning.specs.Environment.{Row}
 use Rattle.sq_expression.specs.Fault.{MeetsAs}
@@ -5,11 +6,11 @@ use Rattle.sq_expression.proofs.Views.{failed_as}
 use Rattle.sq_change.specs.Changed.{changed_in, numbers_with}
 use Rattle.sq_change.specs.Made.{Seen, numbers_changed, rows_updated, seen_by}
 use Rattle.sq_change.specs.Statement.{Chosen, base_of}
-use Rattle.sq_change.proofs.Applied.{base_under}
-use Rattle.sq_change.proofs.Endings.{ends_so}
-use Rattle.sq_change.proofs.Made.{changed_meets, replacements_kept}
-use Rattle.sq_change.proofs.Outcomes.{stops_as}
-use Rattle.sq_change.proofs.KeptRest.{replaced_made, replaced_rest}
+use Rattle.sq_change.proofs.Changes.Applied.{base_under}
+use Rattle.sq_change.proofs.NewRows.Endings.{ends_so}
+use Rattle.sq_change.proofs.Changes.Made.{changed_meets, replacements_kept}
+use Rattle.sq_change.proofs.OneByOne.Outcomes.{stops_as}
+use Rattle.sq_change.proofs.Keys.KeptRest.{replaced_made, replaced_rest}
 use Rattle.sq_change.proofs.statement.find_updated.Goals as goal
 
 pub returns-clause-replacements : goal.returns-clause-replacements

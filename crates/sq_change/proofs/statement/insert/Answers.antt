@@ -1,3 +1,4 @@
+-- Left open: the calls of find_inserted and complete, and the clauses right and meant; answered by Obeyed, Outcomes and Performed.
 use Rattle.sq_store.specs.Change.{rows_put}
 use Rattle.sq_store.specs.Content.{table_at}
 use Rattle.sq_expression.proofs.Views.{failed_as}
@@ -5,9 +6,9 @@ use Rattle.sq_change.specs.declared.complete.Changed.{Changed}
 use Rattle.sq_change.specs.Constraints.{completed}
 use Rattle.sq_change.specs.Made.{Seen, rows_inserted, seen_by}
 use Rattle.sq_change.specs.Statement.{with_rows}
-use Rattle.sq_change.proofs.Obeyed.{keeps_tables}
-use Rattle.sq_change.proofs.Outcomes.{stops_as}
-use Rattle.sq_change.proofs.Performed.{insert_meets}
+use Rattle.sq_change.proofs.Constraints.Obeyed.{keeps_tables}
+use Rattle.sq_change.proofs.OneByOne.Outcomes.{stops_as}
+use Rattle.sq_change.proofs.Changes.Performed.{insert_meets}
 use Rattle.sq_change.proofs.statement.insert.Goals as goal
 
 pub find_inserted-requires-clause-can : goal.find_inserted-requires-clause-can

@@ -1,3 +1,4 @@
+-- Left open: the calls of find_updated and complete, and the clauses right, meant and read; answered by Endings, Obeyed, OnRows and others.
 use Rattle.std.proofs.Common.{map}
 use Rattle.sq_store.specs.Content.{table_at}
 use Rattle.sq_expression.proofs.Views.{failed_as}
@@ -6,11 +7,11 @@ use Rattle.sq_bound.specs.Fits.{under}
 use Rattle.sq_change.specs.Constraints.{completed}
 use Rattle.sq_change.specs.Made.{Seen, seen_by}
 use Rattle.sq_change.specs.Statement.{update_made, with_replaced}
-use Rattle.sq_change.proofs.Endings.{ends_so}
-use Rattle.sq_change.proofs.Obeyed.{keeps_tables}
-use Rattle.sq_change.proofs.OnRows.{leaf_well}
-use Rattle.sq_change.proofs.Outcomes.{stops_as}
-use Rattle.sq_change.proofs.Performed.{update_meets}
+use Rattle.sq_change.proofs.NewRows.Endings.{ends_so}
+use Rattle.sq_change.proofs.Constraints.Obeyed.{keeps_tables}
+use Rattle.sq_change.proofs.Constraints.OnRows.{leaf_well}
+use Rattle.sq_change.proofs.OneByOne.Outcomes.{stops_as}
+use Rattle.sq_change.proofs.Changes.Performed.{update_meets}
 use Rattle.sq_change.proofs.statement.update.Goals as goal
 
 pub find_updated-requires-clause-kept : goal.find_updated-requires-clause-kept

@@ -1,6 +1,7 @@
+-- Left open: what the call of assign_value asks for, and the clause meant; answered by Outcomes.
 use Rattle.std.proofs.Common.{Ok}
 use Rattle.sq_meaning.specs.Assignment.{assigned}
-use Rattle.sq_change.proofs.Outcomes.{goes_on, stops}
+use Rattle.sq_change.proofs.OneByOne.Outcomes.{goes_on, stops}
 use Rattle.sq_change.proofs.storing.stored_value.Goals as goal
 
 pub assign_value-requires-clause-kind : goal.assign_value-requires-clause-kind

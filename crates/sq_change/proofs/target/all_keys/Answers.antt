@@ -1,6 +1,7 @@
+-- Left open for all_keys: its result; answered by LostKeys.
 use Rattle.std.proofs.Common.{length, refl, arith}
 use Rattle.std.proofs.lemmas.Iterator.{YieldsList-from_range, items_from_collect}
-use Rattle.sq_change.proofs.LostKeys.{all_lost}
+use Rattle.sq_change.proofs.Keys.LostKeys.{all_lost}
 use Rattle.sq_change.proofs.target.all_keys.Goals as goal
 
 pub returns : goal.returns

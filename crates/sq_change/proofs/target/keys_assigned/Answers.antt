@@ -1,6 +1,7 @@
+-- Left open for keys_assigned: its result, and that the loop keeps its invariant; answered by LostKeys.
 use Rattle.std.proofs.Common.{ℕ, List, Vec, Global, length, get_or, sym, ap, ◌∙◌, arith}
 use Rattle.sq_change.specs.Reference.{is_assigned}
-use Rattle.sq_change.proofs.LostKeys.{loses_at_end, loses_more, loses_no_more}
+use Rattle.sq_change.proofs.Keys.LostKeys.{loses_at_end, loses_more, loses_no_more}
 use Rattle.sq_change.proofs.target.keys_assigned.Goals.{then-is_assigned+in_ok-push, else-is_assigned}
 use Rattle.sq_change.proofs.target.keys_assigned.Goals as goal
 

@@ -1,4 +1,4 @@
-use Rattle.sq_change.proofs.LostKeys.{LosesFirst}
+use Rattle.sq_change.proofs.Keys.LostKeys.{LosesFirst}
 use Rattle.sq_change.proofs.target.keys_assigned.Given as goal
 
 abbrev pub invariant-loop-key : goal.invariant-loop-key

@@ -1,3 +1,4 @@
+-- Left open: the call of numbers_of, and the clauses there, meant, right and read; answered by Chosen, Outcomes, Endings and KeyedChange.
 use Rattle.std.proofs.Common.{◌≡◌, ℕ, ◌<◌, length, subst, sym, arith, Ok, Err}
 use Rattle.std.specs.Prelude.{Vec}
 use Rattle.std.specs.declared.alloc.Global.{Global}
@@ -11,14 +12,14 @@ use Rattle.sq_expression.specs.declared.fault.Failure.TheVariants as failure
 use Rattle.sq_expression.specs.declared.fault.Fault.TheVariants as fault
 use Rattle.sq_expression.proofs.Views.{failed_as}
 use Rattle.sq_query.specs.Target.{AreNumbersOf, numbers_in}
-use Rattle.sq_query.proofs.Finds.{target_finds}
+use Rattle.sq_query.proofs.Needs.Finds.{target_finds}
 use Rattle.sq_meaning.specs.Change.{if_some}
 use Rattle.sq_change.specs.Made.{Seen, Shown, numbers_changed, seen_by}
 use Rattle.sq_change.specs.Statement.{IsShown}
-use Rattle.sq_change.proofs.Chosen.{none_found, only_number, reads_shown, some_found}
-use Rattle.sq_change.proofs.Outcomes.{stops_as}
-use Rattle.sq_change.proofs.Endings.{ends_so}
-use Rattle.sq_change.proofs.KeyedChange.{searched_read}
+use Rattle.sq_change.proofs.Changes.Chosen.{none_found, only_number, reads_shown, some_found}
+use Rattle.sq_change.proofs.OneByOne.Outcomes.{stops_as}
+use Rattle.sq_change.proofs.NewRows.Endings.{ends_so}
+use Rattle.sq_change.proofs.Changes.KeyedChange.{searched_read}
 use Rattle.sq_change.proofs.target.numbers_changed.Goals as goal
 
 pub numbers_of-requires-clause-finds : goal.numbers_of-requires-clause-finds

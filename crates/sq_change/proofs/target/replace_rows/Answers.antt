@@ -1,3 +1,4 @@
+-- Left open: the call of updated_row, the clauses replacements and meant, and the loop's invariant; answered by Applied and others.
 use Rattle.std.proofs.Common.{◌≡◌, ◌∙◌, ℕ, List, [], ◌∷◌, ◌++◌, Bor, length, map, refl, subst, arith, Some, Err}
 use Rattle.std.proofs.lemmas.List.{take_all}
 use Rattle.std.specs.List.{AllZip}
@@ -13,13 +14,13 @@ use Rattle.sq_expression.proofs.Views.{handed_on_as}
 use Rattle.sq_query.specs.Table.{numbered_row}
 use Rattle.sq_change.specs.Changed.{IsReplacement, rows_replaced, rows_replaced_in}
 use Rattle.sq_change.specs.Made.{Seen, rows_updated, seen_by, updated_under}
-use Rattle.sq_change.proofs.Applied.{wide_replaced}
-use Rattle.sq_change.proofs.Domains.{all_at, replaced_in, row_at_in, zipped_push}
-use Rattle.sq_change.proofs.Held.{row_at_wide}
-use Rattle.sq_change.proofs.InTurn.{made_all, made_failed, made_more, made_none}
-use Rattle.sq_change.proofs.RowsChanged.{all_unmapped, zip_mapped}
-use Rattle.sq_change.proofs.Storable.{assigns}
-use Rattle.sq_change.proofs.UpdatedRows.{replaced_more, under_done, under_failed}
+use Rattle.sq_change.proofs.Changes.Applied.{wide_replaced}
+use Rattle.sq_change.proofs.NewRows.Domains.{all_at, replaced_in, row_at_in, zipped_push}
+use Rattle.sq_change.proofs.Changes.Held.{row_at_wide}
+use Rattle.sq_change.proofs.OneByOne.InTurn.{made_all, made_failed, made_more, made_none}
+use Rattle.sq_change.proofs.Changes.RowsChanged.{all_unmapped, zip_mapped}
+use Rattle.sq_change.proofs.NewRows.Storable.{assigns}
+use Rattle.sq_change.proofs.NewRows.UpdatedRows.{replaced_more, under_done, under_failed}
 use Rattle.sq_change.proofs.target.replace_rows.Goals as goal
 
 abbrev Found : Type 0

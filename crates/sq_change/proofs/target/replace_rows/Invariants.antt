@@ -4,7 +4,7 @@ use Rattle.sq_store.specs.Content.{table_at}
 use Rattle.sq_meaning.specs.Environment.{Row}
 use Rattle.sq_change.specs.Changed.{FitTable, IsReplacement, rows_replaced}
 use Rattle.sq_change.specs.Made.{Seen, Shown, seen_by, updated_under}
-use Rattle.sq_change.proofs.InTurn.{MadeTo}
+use Rattle.sq_change.proofs.OneByOne.InTurn.{MadeTo}
 use Rattle.sq_change.proofs.target.replace_rows.Given as goal
 
 abbrev pub invariant-loop-found : goal.invariant-loop-found

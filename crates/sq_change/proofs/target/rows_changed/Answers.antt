@@ -1,3 +1,4 @@
+-- Left open: the calls of rows_of and only_row, and the clauses there, meant, right and read; answered by Chosen, Held and others.
 use Rattle.std.proofs.Common.{◌≡◌, ℕ, ◌<◌, Bor, length, subst, sym, arith, Ok, Err}
 use Rattle.std.specs.Prelude.{IfSome, IsSome, Option, Vec}
 use Rattle.std.specs.declared.alloc.Global.{Global}
@@ -13,18 +14,18 @@ use Rattle.sq_expression.specs.declared.fault.Fault.TheVariants as fault
 use Rattle.sq_expression.proofs.Views.{failed_as}
 use Rattle.sq_query.specs.Table.{numbered_in, stored_numbered}
 use Rattle.sq_query.specs.Target.{AreRowsThere, conditions_of, is_true_of}
-use Rattle.sq_query.proofs.ChosenNumbers.{numbers_fail}
-use Rattle.sq_query.proofs.Finds.{target_finds}
+use Rattle.sq_query.proofs.Targets.ChosenNumbers.{numbers_fail}
+use Rattle.sq_query.proofs.Needs.Finds.{target_finds}
 use Rattle.sq_meaning.specs.Change.{if_some}
 use Rattle.sq_change.specs.Changed.{numbers_with}
 use Rattle.sq_change.specs.Made.{Seen, Shown, numbers_changed, seen_by}
 use Rattle.sq_change.specs.Statement.{IsShown}
-use Rattle.sq_change.proofs.Chosen.{reads_shown}
-use Rattle.sq_change.proofs.Held.{is_there}
-use Rattle.sq_change.proofs.Outcomes.{stops_as}
-use Rattle.sq_change.proofs.Endings.{ends_so}
-use Rattle.sq_change.proofs.KeyedChange.{searched_read}
-use Rattle.sq_change.proofs.RowsChanged.{only_row, rows_none, rows_some}
+use Rattle.sq_change.proofs.Changes.Chosen.{reads_shown}
+use Rattle.sq_change.proofs.Changes.Held.{is_there}
+use Rattle.sq_change.proofs.OneByOne.Outcomes.{stops_as}
+use Rattle.sq_change.proofs.NewRows.Endings.{ends_so}
+use Rattle.sq_change.proofs.Changes.KeyedChange.{searched_read}
+use Rattle.sq_change.proofs.Changes.RowsChanged.{only_row, rows_none, rows_some}
 use Rattle.sq_change.proofs.target.rows_changed.Goals as goal
 
 pub rows_of-requires-clause-finds : goal.rows_of-requires-clause-finds

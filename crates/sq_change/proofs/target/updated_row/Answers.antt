@@ -1,11 +1,12 @@
+-- Left open: the call of stored_value, the clause meant, and the loop's invariant; answered by Domains and UpdatedRows.
 use Rattle.std.proofs.Common.{[], ◌∷◌, refl, arith}
 use Rattle.std.proofs.lemmas.Grind.{common_steps}
 use Rattle.sq_bound.specs.Fits.{IsColumnOf}
 use Rattle.sq_expression.proofs.Expressions.{handed_on}
 use Rattle.sq_change.specs.Given.{IsStorable}
 use Rattle.sq_change.specs.Made.{Seen, seen_by}
-use Rattle.sq_change.proofs.Domains.{all_at, assigned_in}
-use Rattle.sq_change.proofs.UpdatedRows.{all_set, none_set, one_set, set_failed}
+use Rattle.sq_change.proofs.NewRows.Domains.{all_at, assigned_in}
+use Rattle.sq_change.proofs.NewRows.UpdatedRows.{all_set, none_set, one_set, set_failed}
 use Rattle.sq_change.proofs.target.updated_row.Goals as goal
 
 pub stored_value-requires : goal.stored_value-requires

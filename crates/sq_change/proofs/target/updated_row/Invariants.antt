@@ -3,7 +3,7 @@ use Rattle.std.specs.List.{AllByRecursion}
 use Rattle.sq_bound.specs.Fits.{IsColumnOf, IsRowIn}
 use Rattle.sq_bound.specs.declared.names.BaseTable.{BaseTable}
 use Rattle.sq_change.specs.Made.{seen_by}
-use Rattle.sq_change.proofs.UpdatedRows.{SetSoFar}
+use Rattle.sq_change.proofs.NewRows.UpdatedRows.{SetSoFar}
 use Rattle.sq_change.proofs.target.updated_row.Given as goal
 
 abbrev pub invariant-loop-assignment : goal.invariant-loop-assignment

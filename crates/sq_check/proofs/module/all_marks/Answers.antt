@@ -1,3 +1,4 @@
+-- Left open for all_marks: that the loop keeps its invariant; answered by Places.
 use Rattle.sq_check.specs.Modules.{AreMarks}
 use Rattle.sq_check.proofs.Places.{zip_next}
 use Rattle.sq_check.proofs.module.all_marks.Goals as goal

@@ -1,3 +1,4 @@
+-- Left open for item_marks: that the loop keeps its invariant; answered by Places and Walk.
 use Rattle.std.proofs.Common.{◌∙◌}
 use Rattle.sq_tree.specs.Module.{module_item_tokens}
 use Rattle.sq_tree.specs.Starts.{module_head}

@@ -1,3 +1,4 @@
+-- Left open for program_of: the clause written; answered without a law.
 use Rattle.sq_check.proofs.module.program_of.Goals as goal
 
 pub returns-clause-written : goal.returns-clause-written

@@ -1,3 +1,4 @@
+-- Left open for add_opener: its result; answered by Cursors.
 use Rattle.std.proofs.Common.{◌∙◌, ap, subst, sym}
 use Rattle.std.specs.List.{IsAmong}
 use Rattle.sq_check.specs.Remark.{IsOpener, procedure_of}

@@ -1,3 +1,4 @@
+-- Left open for openers_of: that the loop keeps its invariant; answered by laws of sq_module.
 use Rattle.std.proofs.Common.{refl}
 use Rattle.sq_module.proofs.Written.{among_at}
 use Rattle.sq_check.proofs.opener.openers_of.Goals as goal

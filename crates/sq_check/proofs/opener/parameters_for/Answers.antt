@@ -1,3 +1,4 @@
+-- Left open for parameters_for: its result; answered by Cursors.
 use Rattle.std.proofs.Common.{refl, sym}
 use Rattle.sq_check.proofs.Cursors.{its_parameters, no_parameters, opener_found}
 use Rattle.sq_check.proofs.opener.parameters_for.Goals as goal

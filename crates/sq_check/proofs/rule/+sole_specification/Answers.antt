@@ -1,3 +1,4 @@
+-- Left open for the functions of +sole_specification: the results; answered by Sole.
 use Rattle.std.proofs.Common.{◌∙◌, ap, sym, true≢false}
 use Rattle.std.specs.Option.{option_map}
 use Rattle.sq_tree.specs.declared.query.QueryTerm.TheVariants as term

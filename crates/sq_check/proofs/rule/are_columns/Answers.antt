@@ -1,3 +1,4 @@
+-- Left open for are_columns: its result; answered by Columns.
 use Rattle.std.proofs.Common.{◌∙◌, ap, map, sym}
 use Rattle.std.proofs.lemmas.Result.{IfOk-weaker}
 use Rattle.sq_check.specs.Rule.{are_new_columns, column_of}

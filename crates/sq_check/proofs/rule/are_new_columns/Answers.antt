@@ -1,3 +1,4 @@
+-- Left open for are_new_columns: its result, and that the loop keeps its invariant; answered by Columns.
 use Rattle.std.proofs.Common.{◌∙◌, sym}
 use Rattle.sq_check.proofs.Columns.{next_is_none, next_is_one, none_left}
 use Rattle.sq_check.proofs.rule.are_new_columns.Goals as goal

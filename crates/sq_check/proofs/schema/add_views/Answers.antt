@@ -1,3 +1,4 @@
+-- Left open for add_views: that the loop keeps its invariant; answered by Places and Walk.
 use Rattle.std.proofs.Common.{◌≡◌, ◌+◌, ap, arith}
 use Rattle.sq_tree.specs.Schema.{schema_element_tokens}
 use Rattle.sq_tree.specs.Starts.{schema_head}

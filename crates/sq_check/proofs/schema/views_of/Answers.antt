@@ -1,3 +1,4 @@
+-- Left open for views_of: that the loop keeps its invariant; answered by Places and Walk.
 use Rattle.std.proofs.Common.{◌≡◌, ◌∙◌, ◌+◌, ◌++◌, suc, ap, arith, length}
 use Rattle.sq_tree.specs.Schema.{schema_definition_tokens}
 use Rattle.sq_tree.specs.Starts.{schema_start, tokens_of_first}

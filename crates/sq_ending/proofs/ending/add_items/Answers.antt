@@ -1,3 +1,4 @@
+-- Left open for add_items: its result, and that the loop keeps its invariant; answered by ItemsRead.
 use Rattle.std.proofs.Common.{List, Ok, Vec, Bor, ap, length, sym}
 use Rattle.std.specs.declared.alloc.Global.{Global}
 use Rattle.sq_meaning.specs.Environment.{Row}

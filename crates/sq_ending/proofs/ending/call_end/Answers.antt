@@ -1,3 +1,4 @@
+-- Left open for call_end: its result; answered by Phases.
 use Rattle.std.proofs.Common.{refl}
 use Rattle.sq_ending.specs.Ending.{seen_in}
 use Rattle.sq_ending.specs.Walk.{tables_in}

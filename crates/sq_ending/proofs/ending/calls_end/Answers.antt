@@ -1,3 +1,4 @@
+-- Left open for calls_end: its result, and that the loop keeps its invariant; answered by laws of std.
 use Rattle.std.proofs.Common.{length, refl, subst}
 use Rattle.std.specs.Prelude.{IfSome}
 use Rattle.std.proofs.lemmas.Option.{slice_get_read}

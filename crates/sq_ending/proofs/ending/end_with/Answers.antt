@@ -1,3 +1,4 @@
+-- Left open for end_with: its result; answered by QueryEnds.
 use Rattle.std.proofs.Common.{◌∙◌, List, Vec, Bor, subst, sym}
 use Rattle.std.specs.declared.alloc.Global.{Global}
 use Rattle.std.proofs.lemmas.List.{length-map}

@@ -1,3 +1,4 @@
+-- Left open for groups_end: its result; answered by Phases.
 use Rattle.std.proofs.Common.{◌≡◌, None, Err, subst, sym}
 use Rattle.sq_meaning.specs.declared.status.Status.{Status}
 use Rattle.sq_condition.specs.Specification.{rows_meant}

@@ -1,3 +1,4 @@
+-- Left open for later_end: its result; answered by Phases.
 use Rattle.sq_ending.specs.Walk.{tables_in}
 use Rattle.sq_ending.proofs.Phases.{ends_in_list_if}
 use Rattle.sq_ending.proofs.ending.later_end.Goals as goal

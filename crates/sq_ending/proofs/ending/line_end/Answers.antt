@@ -1,3 +1,4 @@
+-- Left open for line_end: its result; answered without a law.
 use Rattle.sq_ending.proofs.ending.line_end.Goals as goal
 
 pub returns : goal.returns

@@ -1,3 +1,4 @@
+-- Left open for list_end: its result; answered by Phases.
 use Rattle.sq_ending.specs.Ending.{seen_in}
 use Rattle.sq_ending.specs.Walk.{tables_in}
 use Rattle.sq_ending.proofs.Phases.{list_phase_of}

@@ -1,3 +1,4 @@
+-- Left open for phase_end: its result; answered by Phases and Whole.
 use Rattle.std.proofs.Common.{subst}
 use Rattle.sq_ending.specs.Ending.{InWhere, IsPhaseEnd, is_wanted, seen_in}
 use Rattle.sq_ending.specs.Walk.{tables_in}

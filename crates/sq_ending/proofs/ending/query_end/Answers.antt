@@ -1,3 +1,4 @@
+-- Left open for query_end: what the call of tables_read asks for, and its result; answered by QueryEnds.
 use Rattle.std.proofs.Common.{subst}
 use Rattle.std.specs.List.{AllByRecursion}
 use Rattle.sq_expression.specs.declared.context.Context.{Context}

@@ -1,5 +1,6 @@
+-- Left open: what the call of inner_end asks for, and the results; answered by InnerEnds and ViewRows.
 use Rattle.std.proofs.Common.{[], Option, arith, rules, subst}
-use Rattle.sq_query.proofs.Finds.{select_finds}
+use Rattle.sq_query.proofs.Needs.Finds.{select_finds}
 use Rattle.sq_ending.specs.Ending.{Ends}
 use Rattle.sq_ending.specs.Inside.{EndsInside}
 use Rattle.sq_ending.specs.Read.{known_by}

@@ -1,3 +1,4 @@
+-- Left open: the results, and that the loops keep their invariants; answered by Gathered.
 use Rattle.std.proofs.Common.{◌++◌, ◌∙◌, List, [], ap, append-nil, map, refl, sym}
 use Rattle.sq_meaning.specs.Syntax.{conds}
 use Rattle.sq_bound.specs.Condition.{clause_of, cond_of, conj_of, select_of, test_of}
@@ -9,8 +10,8 @@ use Rattle.sq_bound.specs.declared.condition.BoundTest.{BoundTest}
 use Rattle.sq_bound.specs.declared.condition.Grouping.{out-Grouping}
 use Rattle.sq_bound.specs.declared.condition.TablePlace.{TablePlace}
 use Rattle.sq_query.specs.Needed.{clause_tables, cond_tables, conds_tables, inside_tables, specification_tables}
-use Rattle.sq_query.proofs.Added.{tables_of_bracketed, tables_of_compared, tables_of_cond, tables_of_conj, tables_of_exists, tables_of_in, tables_of_other, tables_of_test}
-use Rattle.sq_query.proofs.InsideTables.{inside_grouped, inside_ungrouped, items_and_inside}
+use Rattle.sq_query.proofs.Needs.Added.{tables_of_bracketed, tables_of_compared, tables_of_cond, tables_of_conj, tables_of_exists, tables_of_in, tables_of_other, tables_of_test}
+use Rattle.sq_query.proofs.Needs.InsideTables.{inside_grouped, inside_ungrouped, items_and_inside}
 use Rattle.sq_ending.proofs.Gathered.{adds_both, adds_same, gathered_all, gathered_more}
 use Rattle.sq_ending.proofs.needed.+needed_of_cond.Goals as goal
 

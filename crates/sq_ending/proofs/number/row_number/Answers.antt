@@ -1,3 +1,4 @@
+-- Left open: the result, that no number overflows, the loop's invariant, and that the loop ends; answered by NumberAt.
 use Rattle.std.proofs.Common.{◌≡◌, ◌+◌, List, None, arith, ap, length, rules, slice_get, sym}
 use Rattle.sq_store.specs.Content.{first_from, table_at}
 use Rattle.sq_store.specs.declared.table.Numbered.{Numbered}

@@ -1,3 +1,4 @@
+-- Left open: the result, that no number overflows, the loop's invariant, and that the loop ends; answered by laws of sq_store, sq_query and std.
 use Rattle.std.proofs.Common.{◌≡◌, ◌+◌, ◌++◌, List, map, length, None, arith, refl, rules, ap, ◌∙◌, Bor}
 use Rattle.std.proofs.lemmas.List.{map_push}
 use Rattle.sq_store.specs.Content.{table_at, first_from}
@@ -5,7 +6,7 @@ use Rattle.sq_store.specs.declared.table.Numbered.{Numbered}
 use Rattle.sq_meaning.specs.Environment.{Row}
 use Rattle.sq_expression.specs.Frame.{lent}
 use Rattle.sq_store.proofs.Walk.{rows_from, rows_from_zero, walked, walked_below}
-use Rattle.sq_query.proofs.WalkedRows.{made_all, made_on, unnumbered_in_turn}
+use Rattle.sq_query.proofs.Targets.WalkedRows.{made_all, made_on, unnumbered_in_turn}
 use Rattle.sq_ending.proofs.read.rows_of_table.Goals as goal
 
 pub overflow_add-number : goal.overflow_add-number

@@ -1,8 +1,9 @@
+-- Left open: what the call of specification_rows asks for, and the result; answered by ViewRows.
 use Rattle.std.proofs.Common.{List, [], subst, sym}
 use Rattle.sq_meaning.specs.Environment.{Row}
 use Rattle.sq_meaning.specs.Status.{Outcome}
 use Rattle.sq_expression.specs.Fault.{HasRows}
-use Rattle.sq_query.proofs.Finds.{select_finds}
+use Rattle.sq_query.proofs.Needs.Finds.{select_finds}
 use Rattle.sq_ending.proofs.ViewRows.{select_wide, view_meant}
 use Rattle.sq_ending.proofs.read.rows_of_view.Goals as goal
 

@@ -1,3 +1,4 @@
+-- Left open for tables_read: the clause there, and that the loop keeps its invariant; answered by Readings.
 use Rattle.std.proofs.Common.{List, subst}
 use Rattle.std.specs.List.{AllByRecursion}
 use Rattle.std.proofs.lemmas.List.{take_all}

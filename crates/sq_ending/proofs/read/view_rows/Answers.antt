@@ -1,3 +1,4 @@
+-- Left open for view_rows: the clause rows; answered by ViewRows.
 use Rattle.sq_bound.specs.declared.condition.TablePlace.TheVariants.{View}
 use Rattle.sq_ending.specs.Read.{known_by}
 use Rattle.sq_ending.proofs.ViewRows.{shown_at}

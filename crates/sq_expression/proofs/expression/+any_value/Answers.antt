@@ -1,3 +1,4 @@
+-- Left open for any_value: its result, and that the loop keeps its invariant; answered by Expressions.
 use Rattle.std.proofs.Common.{◌∙◌, List, ap, sym, map, Ok}
 use Rattle.sq_meaning.specs.Syntax.{literal}
 use Rattle.sq_meaning.specs.Environment.{items_in, value_at}

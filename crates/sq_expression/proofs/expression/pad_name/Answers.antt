@@ -1,3 +1,4 @@
+-- Left open for pad_name: the clauses value and text; answered by UserText.
 use Rattle.sq_expression.proofs.UserText.{padded_is, padded_is_text}
 use Rattle.sq_expression.proofs.expression.pad_name.Goals as goal
 

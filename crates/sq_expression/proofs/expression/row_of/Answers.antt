@@ -1,3 +1,4 @@
+-- Left open for row_of: its result, and that the loop keeps its invariant; answered by Each and Expressions.
 use Rattle.std.proofs.Common.{map}
 use Rattle.sq_meaning.specs.Status.{each}
 use Rattle.sq_meaning.specs.Expression.{value}

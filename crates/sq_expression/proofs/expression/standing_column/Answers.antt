@@ -1,3 +1,4 @@
+-- Left open for standing_column: its result; answered by Standing.
 use Rattle.sq_expression.proofs.Standing.{found_there}
 use Rattle.sq_expression.proofs.expression.standing_column.Goals as goal
 

@@ -1,3 +1,4 @@
+-- Left open for standing_value: its result; answered by Expressions and Standing.
 use Rattle.std.proofs.Common.{map}
 use Rattle.sq_meaning.specs.Syntax.{literal}
 use Rattle.sq_meaning.specs.Environment.{items_in, value_at}

@@ -1,3 +1,4 @@
+-- Left open: the result, and that the loop keeps its invariant; answered by ByKeys, Each, Groups and Views.
 use Rattle.std.proofs.Common.{List, [], ◌∷◌, ◌++◌, map, refl, ap, ◌∙◌, Ok}
 use Rattle.std.proofs.lemmas.List.{map_push}
 use Rattle.sq_meaning.specs.Environment.{Row, Line}

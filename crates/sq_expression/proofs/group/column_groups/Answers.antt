@@ -1,3 +1,4 @@
+-- Left open for column_groups: its result; answered by ByKeys, Groups and Views.
 use Rattle.std.proofs.Common.{List, map, sym, ap, ◌∙◌}
 use Rattle.std.specs.Prelude.{Vec}
 use Rattle.std.specs.declared.alloc.Global.{Global}

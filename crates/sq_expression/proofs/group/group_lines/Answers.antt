@@ -1,3 +1,4 @@
+-- Left open for group_lines: its result; answered by Groups.
 use Rattle.std.proofs.Common.{List, map, sym, ap, ◌∙◌}
 use Rattle.std.specs.Borrow.{Bor}
 use Rattle.sq_bound.specs.SetFunction.{call_of}

@@ -1,3 +1,4 @@
+-- Left open for group_of: its result; answered by Groups and Views.
 use Rattle.std.proofs.Common.{List, map, ap, ◌∙◌, Ok}
 use Rattle.sq_bound.specs.Expression.{PlacedExpr}
 use Rattle.sq_bound.specs.SetFunction.{call_of}

@@ -1,3 +1,4 @@
+-- Left open for groups_by: its result; answered by Groups.
 use Rattle.std.proofs.Common.{map, sym, ◌∙◌}
 use Rattle.sq_bound.specs.SetFunction.{call_of}
 use Rattle.sq_expression.specs.Group.{groups_in}

@@ -1,3 +1,4 @@
+-- Left open for groups_of: its result, and that the loop keeps its invariant; answered by Each and Views.
 use Rattle.std.proofs.Common.{List, map, sym, ap, subst, ◌∙◌, Err}
 use Rattle.std.specs.Borrow.{Bor}
 use Rattle.sq_value.specs.declared.value.Value.{Value}

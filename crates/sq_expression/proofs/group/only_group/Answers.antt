@@ -1,3 +1,4 @@
+-- Left open for only_group: its result; answered by Groups and Views.
 use Rattle.std.proofs.Common.{List, [], ◌∷◌, ◌++◌, map, sym, ap, ◌∙◌, Ok}
 use Rattle.sq_bound.specs.SetFunction.{call_of}
 use Rattle.sq_value.specs.declared.value.Value.{Value}

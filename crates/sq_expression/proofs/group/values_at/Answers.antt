@@ -1,3 +1,4 @@
+-- Left open for values_at: its result, and that the loop keeps its invariant; answered by Each and Views.
 use Rattle.std.proofs.Common.{ℕ, List, [], get_or}
 use Rattle.std.proofs.lemmas.List.{get_or_default}
 use Rattle.sq_bound.specs.Expression.{place_meant}

@@ -1,3 +1,4 @@
+-- Left open: the result, and that the loop keeps its invariant; answered by Each and Views.
 use Rattle.std.proofs.Common.{map}
 use Rattle.sq_meaning.specs.Status.{each}
 use Rattle.sq_expression.specs.Fault.{rows_in}

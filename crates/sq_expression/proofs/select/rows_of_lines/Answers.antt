@@ -1,3 +1,4 @@
+-- Left open for rows_of_lines: its result, and that the loop keeps its invariant; answered by Each and Views.
 use Rattle.std.proofs.Common.{List, [], map}
 use Rattle.std.specs.Borrow.{Bor}
 use Rattle.sq_meaning.specs.Environment.{Row, Line}

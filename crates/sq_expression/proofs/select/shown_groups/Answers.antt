@@ -1,3 +1,4 @@
+-- Left open for shown_groups: its result; answered without a law.
 use Rattle.std.proofs.Common.{map}
 use Rattle.sq_meaning.specs.Status.{each}
 use Rattle.sq_expression.specs.Group.{group_seen}

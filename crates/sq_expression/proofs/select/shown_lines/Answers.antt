@@ -1,3 +1,4 @@
+-- Left open for shown_lines: its result; answered by Groups.
 use Rattle.std.proofs.Common.{List, [], sym, ap, ◌∙◌, Ok}
 use Rattle.std.specs.Borrow.{Bor}
 use Rattle.sq_meaning.specs.Environment.{Row, Line}

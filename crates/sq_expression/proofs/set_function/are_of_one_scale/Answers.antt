@@ -1,3 +1,4 @@
+-- Left open for are_of_one_scale: the clause kind; answered without a law.
 use Rattle.sq_value.specs.declared.domain.Kind.TheVariants.{Num}
 use Rattle.sq_expression.proofs.set_function.are_of_one_scale.Goals as goal
 

@@ -1,3 +1,4 @@
+-- Left open: the result, and that the loop keeps its invariant; answered by Each and Views.
 use Rattle.std.proofs.Common.{map}
 use Rattle.sq_bound.specs.Expression.{PlacedExpr}
 use Rattle.sq_bound.specs.SetFunction.{call_of}

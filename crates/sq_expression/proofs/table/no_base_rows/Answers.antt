@@ -1,3 +1,4 @@
+-- Left open for no_base_rows: its result; answered by LeftOut.
 use Rattle.std.specs.Prelude.{⊤, Ok}
 use Rattle.std.specs.Borrow.{Bor}
 use Rattle.sq_expression.specs.declared.table.BaseRows.{BaseRows}

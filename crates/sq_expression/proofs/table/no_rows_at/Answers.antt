@@ -1,3 +1,4 @@
+-- Left open for no_rows_at: its result; answered by LeftOut and Tables.
 use Rattle.std.specs.Prelude.{⊤}
 use Rattle.sq_expression.proofs.LeftOut.{but_same}
 use Rattle.sq_expression.proofs.Tables.{view_rows_there}

@@ -1,3 +1,4 @@
+-- Left open for rows_at: its result; answered by Groups and Tables.
 use Rattle.sq_expression.specs.Group.{rows_of_line}
 use Rattle.sq_expression.proofs.Groups.{meets_as_same}
 use Rattle.sq_expression.proofs.Tables.{view_rows_there}

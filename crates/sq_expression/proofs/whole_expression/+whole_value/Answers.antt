@@ -1,3 +1,4 @@
+-- Left open: the result, and that the loop keeps its invariant; answered by Expressions and Wholes.
 use Rattle.std.proofs.Common.{◌∙◌, List, ap, sym, map}
 use Rattle.sq_value.specs.declared.value.Value.{Value}
 use Rattle.sq_meaning.specs.Syntax.{literal}

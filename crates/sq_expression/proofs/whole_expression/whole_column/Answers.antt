@@ -1,3 +1,4 @@
+-- Left open for whole_column: its result; answered by Wholes.
 use Rattle.std.proofs.Common.{◌≡◌, Ok, rules}
 use Rattle.sq_expression.specs.Frame.{column_meant}
 use Rattle.sq_expression.proofs.Wholes.{whole_found}

@@ -1,4 +1,5 @@
-use Rattle.sq_grammar.proofs.Many.{all_done}
+-- Left open for items: the clause value; answered by Many.
+use Rattle.sq_grammar.proofs.Reading.Many.{all_done}
 use Rattle.sq_grammar.proofs.list.items.Goals as goal
 
 pub returns-in-Ok-None-clause-value : goal.returns-in-Ok-None-clause-value

@@ -1,6 +1,7 @@
+-- Left open for more: the clause value, and that the loop starts with its invariant; answered by Many.
 use Rattle.std.proofs.Common.{arith}
 use Rattle.sq_grammar.specs.Reading.{comma}
-use Rattle.sq_grammar.proofs.Many.{front-nil, all_ends}
+use Rattle.sq_grammar.proofs.Reading.Many.{front-nil, all_ends}
 use Rattle.sq_grammar.proofs.list.more.Goals as goal
 
 pub loop-tokens-init : goal.loop-tokens-init

@@ -1,3 +1,4 @@
+-- Left open for names: the clause value; answered without a law.
 use Rattle.std.proofs.Common.{rules}
 use Rattle.sq_grammar.specs.Reading.{name}
 use Rattle.sq_grammar.proofs.names.names.Goals as goal

@@ -1,3 +1,4 @@
+-- Left open: the call of enter, the clauses keys and keeps, and the loop's invariant; answered by Entries and Holds.
 use Rattle.std.proofs.Common.{◌∙◌, ◌<◌, arith, length}
 use Rattle.std.specs.Option.{option_copied}
 use Rattle.sq_heap.specs.Index.{in_all, is_in}

@@ -1,3 +1,4 @@
+-- Left open for enter_change: what the call of enter_all asks for; answered by Holds.
 use Rattle.std.proofs.Common.{◌∙◌, ap}
 use Rattle.sq_heap.specs.Index.{in_all, slot_holds}
 use Rattle.sq_heap.proofs.Holds.{holds_there}

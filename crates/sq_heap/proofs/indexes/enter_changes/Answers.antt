@@ -1,3 +1,4 @@
+-- Left open: the call of enter_change, and the loop's invariant; answered by Entering and Holds.
 use Rattle.std.proofs.Common.{◌∙◌, ◌+◌, ◌≤◌, ℕ, ap, arith, drop, sym}
 use Rattle.sq_heap.specs.Entered.{changes_hold, next_slot}
 use Rattle.sq_heap.specs.Index.{in_all}

@@ -1,3 +1,4 @@
+-- Left open for enter_undo: that the loop keeps its invariant; answered by Holds.
 use Rattle.std.proofs.Common.{◌∙◌, take}
 use Rattle.sq_heap.specs.Index.{is_in}
 use Rattle.sq_heap.proofs.Holds.{undo_gives, undo_more}

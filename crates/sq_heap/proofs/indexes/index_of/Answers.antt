@@ -1,3 +1,4 @@
+-- Left open for index_of: the clause slots; answered by Holds.
 use Rattle.sq_heap.specs.Index.{is_in}
 use Rattle.sq_heap.proofs.Holds.{slots_give}
 use Rattle.sq_heap.proofs.indexes.index_of.Goals as goal

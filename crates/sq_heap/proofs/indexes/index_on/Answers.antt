@@ -1,3 +1,4 @@
+-- Left open for index_on: its result; answered by Entries and Keyed.
 use Rattle.std.proofs.Common.{◌∙◌, ◌<◌, arith, length, sym}
 use Rattle.sq_heap.proofs.Entries.{same_numbers}
 use Rattle.sq_heap.proofs.Keyed.{columns_at_index}

@@ -1,3 +1,4 @@
+-- Left open for all_alone: its result; answered by Back, Keyed and Rows.
 use Rattle.std.proofs.Common.{◌≡◌, ◌∙◌, ◌<◌, Some, arith, false, length, sym}
 use Rattle.std.proofs.lemmas.Grind.{common_steps}
 use Rattle.sq_heap.specs.Alone.{is_alone}

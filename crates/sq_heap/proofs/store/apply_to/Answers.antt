@@ -1,3 +1,4 @@
+-- Left open: what the call of apply asks for, and the clauses ok, err and kept; answered by Heap and others.
 use Rattle.std.proofs.Common.{◌≡◌, ◌∙◌, ap, slice_set, sym, take}
 use Rattle.std.specs.List.{list_all}
 use Rattle.sq_store.specs.Change.{rows_put}

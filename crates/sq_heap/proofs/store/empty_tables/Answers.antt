@@ -1,3 +1,4 @@
+-- Left open for empty_tables: that the loop keeps its invariant; answered by Heap.
 use Rattle.std.proofs.Common.{◌≡◌, ◌∙◌, ◌<◌, ◌+◌, ◌++◌, ◌∷◌, [], ap, arith, length, length-append, rules, take, vec_len}
 use Rattle.std.proofs.lemmas.Grind.{common_steps}
 use Rattle.sq_store.specs.Content.{no_rows}

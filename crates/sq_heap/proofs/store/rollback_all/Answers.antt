@@ -1,3 +1,4 @@
+-- Left open: the call of index_mut, the clause now, and the loop's invariant; answered by Heap.
 use Rattle.std.proofs.Common.{◌≡◌, ◌∙◌, ◌<◌, ◌++◌, ◌∷◌, [], List, ℕ, ap, arith, length, slice_set, sym, true}
 use Rattle.std.proofs.lemmas.Grind.{common_steps}
 use Rattle.sq_heap.specs.Heap.{are_listed, are_within, has_none}

@@ -1,3 +1,4 @@
+-- Left open for take_back_to: its result; answered by Heap.
 use Rattle.std.proofs.Common.{ap}
 use Rattle.std.specs.Prelude.{Vec}
 use Rattle.std.specs.declared.alloc.Global.{Global}

@@ -1,3 +1,4 @@
+-- Left open for first_unfit: its result; answered by Places.
 use Rattle.std.proofs.Common.{sym, ap, ◌∙◌}
 use Rattle.std.proofs.Math.ListN.{set}
 use Rattle.sq_run.specs.Processor.{takes}

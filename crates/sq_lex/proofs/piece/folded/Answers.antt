@@ -1,3 +1,4 @@
+-- Left open for folded: what the call of new asks for; answered by Spelled.
 use Rattle.std.proofs.Common.{◌≡◌, ◌∙◌, arith, ap, length, map, take, subst, sym}
 use Rattle.std.proofs.lemmas.List.{take_all}
 use Rattle.std.specs.Char.{to_ascii_uppercase}

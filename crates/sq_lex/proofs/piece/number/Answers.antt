@@ -1,3 +1,4 @@
+-- Left open for number: what the call of new asks for; answered by Longest.
 use Rattle.std.proofs.Common.{◌≡◌, ◌-◌, ◌∙◌, ap, arith, length, take, drop}
 use Rattle.std.proofs.lemmas.List.{length-drop, take_all}
 use Rattle.sq_lex.specs.Piece.{fraction_size}

@@ -1,3 +1,4 @@
+-- Left open: what the call of closed asks for, and the clause value; answered by LiteralLemmas and Quoted.
 use Rattle.std.proofs.Common.{◌≡◌, ◌-◌, ◌∙◌, ap, sym, subst, length, take, drop, IfOk}
 use Rattle.sq_lex.specs.Literal.{kept, literal}
 use Rattle.sq_lex.specs.Piece.{piece_of_literal, text}

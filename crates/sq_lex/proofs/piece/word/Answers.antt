@@ -1,3 +1,4 @@
+-- Left open for word: what the call of folded asks for; answered by Longest.
 use Rattle.sq_lex.proofs.Longest.{word_taken}
 use Rattle.sq_lex.proofs.piece.word.Goals as goal
 

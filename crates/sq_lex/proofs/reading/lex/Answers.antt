@@ -1,3 +1,4 @@
+-- Left open for lex: that the loop starts with its invariant; answered by ReadingLemmas and Rows.
 use Rattle.std.proofs.Common.{rules}
 use Rattle.sq_lex.specs.Reading.{reading}
 use Rattle.sq_lex.proofs.ReadingLemmas.{followed-nil}

@@ -1,3 +1,4 @@
+-- Left open for read_piece: the clauses read, fault and row; answered by ReadingLemmas, Places and Rows.
 use Rattle.std.proofs.Common.{refl, sym, ap, subst, ◌∙◌}
 use Rattle.sq_lex.specs.Reading.{followed, IsCause}
 use Rattle.sq_lex.proofs.ReadingLemmas.{followed_push}

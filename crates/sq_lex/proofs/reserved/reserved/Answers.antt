@@ -1,3 +1,4 @@
+-- Left open for reserved: its result; answered by FirstLetters.
 use Rattle.sq_lex.proofs.FirstLetters.{looked_up}
 use Rattle.sq_lex.proofs.reserved.reserved.Goals as goal
 

@@ -1,3 +1,4 @@
+-- Left open for admit: the clauses taken and first; answered by Refused.
 use Rattle.sq_meaning.specs.ModuleRefusal.{first_module_refusal}
 use Rattle.sq_module.proofs.Refused.{if_taken, if_refused}
 use Rattle.sq_module.proofs.admission.admit.Goals as goal

@@ -1,3 +1,4 @@
+-- Left open: the clause first, and that the loop keeps its invariant; answered by Apart, Names and others.
 use Rattle.std.proofs.Common.{◌∙◌, [], ap, arith, map, refl, subst, sym}
 use Rattle.sq_module.specs.Admitted.{AreAdmitted, admitted_procedures}
 use Rattle.sq_module.specs.Written.{AreOfTexts}

@@ -1,3 +1,4 @@
+-- Left open for admit_module: the clauses once, first and taken; answered by Apart and Refused.
 use Rattle.std.proofs.Common.{◌≡◌, ◌∙◌, List, None, ap, map, refl, subst, sym}
 use Rattle.std.specs.Prelude.{IfErr}
 use Rattle.sq_tree.specs.declared.module.ModuleItem.{ModuleItem}

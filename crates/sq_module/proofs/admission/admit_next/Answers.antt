@@ -1,3 +1,4 @@
+-- Left open for admit_next: the clauses written, first and taken; answered by Refused and Repeats.
 use Rattle.std.proofs.Common.{◌∙◌, sym}
 use Rattle.sq_meaning.specs.ModuleRefusal.{module_refusal, name_refusal}
 use Rattle.sq_module.specs.FirstRefusal.{IsFaultFor}

@@ -1,3 +1,4 @@
+-- Left open for admit_procedures: the clause admissible; answered by Places.
 use Rattle.std.proofs.Common.{◌∙◌, sym}
 use Rattle.sq_meaning.specs.ModuleRefusal.{has_status_fault}
 use Rattle.sq_module.specs.Refusal.{has_open_count}

@@ -1,3 +1,4 @@
+-- Left open: the clause first, and that the loop keeps its invariant; answered by Names and Repeats.
 use Rattle.std.proofs.Common.{◌++◌, ◌∙◌, ap, arith}
 use Rattle.sq_meaning.specs.ModuleRefusal.{procedure_name}
 use Rattle.sq_module.proofs.Names.{names_next}

@@ -1,3 +1,4 @@
+-- Left open for with_bad_status: its result; answered by Places.
 use Rattle.std.proofs.Common.{◌∙◌, arith, sym}
 use Rattle.sq_meaning.specs.ModuleRefusal.{has_status_fault}
 use Rattle.sq_module.proofs.Places.{none_found, place_found}

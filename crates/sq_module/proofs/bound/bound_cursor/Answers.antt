@@ -1,3 +1,4 @@
+-- Left open for bound_cursor: the clauses fits, well_formed and written; answered by Standing.
 use Rattle.sq_module.proofs.Standing.{cursor_fits, cursor_stands, cursor_written}
 use Rattle.sq_module.proofs.bound.bound_cursor.Goals as goal
 

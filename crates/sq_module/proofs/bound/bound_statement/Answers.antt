@@ -1,3 +1,4 @@
+-- Left open for bound_statement: the clauses fits, well_formed and written; answered by Standing.
 use Rattle.sq_module.proofs.Standing.{over_bases, statement_fits, statement_stands, statement_written}
 use Rattle.sq_module.proofs.bound.bound_statement.Goals as goal
 

@@ -1,3 +1,4 @@
+-- Left open for known: its result; answered by Opening.
 use Rattle.std.proofs.Common.{ap}
 use Rattle.std.specs.Option.{option_map}
 use Rattle.sq_module.specs.Named.{numbered_as}

@@ -1,3 +1,4 @@
+-- Left open: the clause bad, and that the loop keeps its invariant; answered by Parameters and others.
 use Rattle.std.proofs.Common.{map, sym}
 use Rattle.sq_module.specs.Written.{named_as, named_in}
 use Rattle.sq_module.proofs.Parameters.{bad_there, good_next, keys_next}

@@ -1,3 +1,4 @@
+-- Left open for parameters_of: the clause bad; answered by Parameters and Repeats.
 use Rattle.std.proofs.Common.{◌∙◌, ◌++◌, ap, arith, flat_map, length, map, refl, sym}
 use Rattle.std.specs.Prelude.{filter_map}
 use Rattle.sq_value.proofs.Truths.{or_true}

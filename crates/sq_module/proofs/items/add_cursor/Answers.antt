@@ -1,3 +1,4 @@
+-- Left open: the clauses written, listed, new, keys and repeated; answered by Listed, Names and others.
 use Rattle.std.proofs.Common.{◌≡◌, ◌∷◌, [], ◌++◌, ◌∙◌, ap, false, refl, subst, sym, true}
 use Rattle.std.proofs.lemmas.Map.Made.{is_some-lookup}
 use Rattle.std.specs.List.{AllByRecursion, list_any}
@@ -5,7 +6,7 @@ use Rattle.std.specs.Map.{keys_of}
 use Rattle.std.specs.Prelude.{if◌then◌else◌, is_some}
 use Rattle.sq_meaning.specs.Environment.{same_name}
 use Rattle.sq_meaning.specs.declared.refusal.ModuleFault.TheVariants as fault
-use Rattle.sq_binding.proofs.SameParameters.{names_equal}
+use Rattle.sq_binding.proofs.Placing.SameParameters.{names_equal}
 use Rattle.sq_module.specs.Written.{IsCursorIn}
 use Rattle.sq_module.proofs.Listed.{cursor_listed}
 use Rattle.sq_module.proofs.Names.{keys_insert}

@@ -1,3 +1,4 @@
+-- Left open: the clauses listed, taken and first, and the loop's invariant; answered by Listed and others.
 use Rattle.std.proofs.Common.{◌≡◌, arith, map, sym, true}
 use Rattle.std.specs.Map.{keys_of}
 use Rattle.sq_meaning.specs.ModuleRefusal.{cursor_name, first_repeated}

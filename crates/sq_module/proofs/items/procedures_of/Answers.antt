@@ -1,3 +1,4 @@
+-- Left open: the clauses listed, taken and first, and the loop's invariant; answered by Listed and others.
 use Rattle.std.proofs.Common.{◌≡◌, ◌++◌, ◌∙◌, ap, arith, sym, true}
 use Rattle.std.specs.Prelude.{position}
 use Rattle.sq_meaning.specs.ModuleRefusal.{has_bad_parameter}

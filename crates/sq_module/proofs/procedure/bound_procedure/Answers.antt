@@ -1,3 +1,4 @@
+-- Left open: the clauses fits, well_formed, opens, written and computed; answered by Computed and others.
 use Rattle.std.proofs.Common.{IfOk, length, sym, subst, ◌∙◌}
 use Rattle.sq_binding.specs.Statement.{statement_bound}
 use Rattle.sq_bound.specs.Fits.{FitsStatement}

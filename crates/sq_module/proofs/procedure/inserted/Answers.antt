@@ -1,3 +1,4 @@
+-- Left open for inserted: the clause keys; answered by Names.
 use Rattle.std.proofs.Common.{ap, ◌∙◌}
 use Rattle.std.specs.Map.{keys_of}
 use Rattle.sq_module.proofs.Names.{keys_insert}

@@ -1,3 +1,4 @@
+-- Left open for report_of: its result; answered by Says.
 use Rattle.std.proofs.Common.{rules}
 use Rattle.sq_run.specs.Answer.{answered}
 use Rattle.sq_run.specs.Texts.{texts}

@@ -1,3 +1,4 @@
+-- Left open for page_of: its result; answered by Says.
 use Rattle.sq_run.specs.Answer.{answered}
 use Rattle.sq_run.specs.Texts.{texts}
 use Rattle.sq_run.proofs.Texts.SteppedRuns.{opening_stopped, script_stopped, stepped}

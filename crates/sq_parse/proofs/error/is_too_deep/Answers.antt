@@ -1,3 +1,4 @@
+-- Left open for is_too_deep: its result; answered by Cut.
 use Rattle.std.proofs.Common.{◌&&◌, ap, ◌∙◌, sym, nat_eq}
 use Rattle.sq_parse.proofs.Cut.{too_deep}
 use Rattle.sq_grammar.specs.declared.brackets.TheConstants.{MAX_DEPTH}

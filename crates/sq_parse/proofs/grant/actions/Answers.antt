@@ -1,3 +1,4 @@
+-- Left open for actions: the clause value; answered without a law.
 use Rattle.std.proofs.Common.{rules}
 use Rattle.sq_grammar.specs.Schema.{action}
 use Rattle.sq_parse.proofs.grant.actions.Goals as goal

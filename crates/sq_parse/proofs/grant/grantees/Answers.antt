@@ -1,3 +1,4 @@
+-- Left open for grantees: the clause value; answered without a law.
 use Rattle.std.proofs.Common.{rules}
 use Rattle.sq_grammar.specs.Schema.{grantee}
 use Rattle.sq_parse.proofs.grant.grantees.Goals as goal

@@ -1,3 +1,4 @@
+-- Left open for all_items: the clause value; answered without a law.
 use Rattle.std.proofs.Common.{rules}
 use Rattle.sq_grammar.specs.Module.{item}
 use Rattle.sq_parse.proofs.module.all_items.Goals as goal

@@ -1,3 +1,4 @@
+-- Left open for bare_declarations: the clause value; answered without a law.
 use Rattle.std.proofs.Common.{rules}
 use Rattle.sq_grammar.specs.Module.{bare_declaration}
 use Rattle.sq_parse.proofs.module.bare_declarations.Goals as goal

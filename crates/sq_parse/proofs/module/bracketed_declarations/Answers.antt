@@ -1,3 +1,4 @@
+-- Left open for bracketed_declarations: the clause value; answered without a law.
 use Rattle.std.proofs.Common.{rules}
 use Rattle.sq_grammar.specs.Module.{declaration}
 use Rattle.sq_parse.proofs.module.bracketed_declarations.Goals as goal

@@ -1,3 +1,4 @@
+-- Left open for elements: the clause value; answered without a law.
 use Rattle.std.proofs.Common.{◌-◌, rules}
 use Rattle.sq_grammar.specs.Schema.{element}
 use Rattle.sq_parse.proofs.schema.elements.Goals as goal

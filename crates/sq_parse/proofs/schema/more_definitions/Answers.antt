@@ -1,3 +1,4 @@
+-- Left open for more_definitions: the clause value; answered without a law.
 use Rattle.std.proofs.Common.{◌-◌, rules}
 use Rattle.sq_grammar.specs.Schema.{next_definition}
 use Rattle.sq_parse.proofs.schema.more_definitions.Goals as goal

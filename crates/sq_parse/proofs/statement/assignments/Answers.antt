@@ -1,3 +1,4 @@
+-- Left open for assignments: the clause value; answered without a law.
 use Rattle.std.proofs.Common.{rules}
 use Rattle.sq_grammar.specs.Statement.{assignment}
 use Rattle.sq_parse.proofs.statement.assignments.Goals as goal

@@ -1,3 +1,4 @@
+-- Left open for listed_values: the clause value; answered without a law.
 use Rattle.std.proofs.Common.{rules}
 use Rattle.sq_grammar.specs.Expr.{inside}
 use Rattle.sq_grammar.specs.Statement.{new_value}

@@ -1,3 +1,4 @@
+-- Left open for targets: the clause value; answered without a law.
 use Rattle.std.proofs.Common.{rules}
 use Rattle.sq_grammar.specs.Names.{parameter}
 use Rattle.sq_parse.proofs.statement.targets.Goals as goal

@@ -1,3 +1,4 @@
+-- Left open for table_elements: the clause value; answered without a law.
 use Rattle.std.proofs.Common.{rules}
 use Rattle.sq_grammar.specs.Schema.{table_element}
 use Rattle.sq_parse.proofs.table.table_elements.Goals as goal

@@ -1,14 +1,15 @@
+-- Left open: the clauses spelled, shallow, no_tree, parsed and only; answered by Parsed and NoTree.
 use Rattle.std.proofs.Common.{Err, ◌-◌, lit≤, sym, subst, ◌∙◌}
-use Rattle.sq_grammar.proofs.Spells.{whole_is}
-use Rattle.sq_grammar.proofs.SchemaSound.{schema_sound}
+use Rattle.sq_grammar.proofs.Sound.Spells.{whole_is}
+use Rattle.sq_grammar.proofs.Sound.SchemaSound.{schema_sound}
 use Rattle.sq_grammar.specs.Schema.{schema_text}
-use Rattle.sq_grammar.proofs.TextTakes.{schema_taken}
+use Rattle.sq_grammar.proofs.Taken.TextTakes.{schema_taken}
 use Rattle.sq_tree.specs.Schema.{schema_tokens, schema_depth}
 use Rattle.sq_parse.specs.Refusal.{Answers, HasNoTree, parsed}
 use Rattle.sq_parse.proofs.Parsed.{answers_tree, answers_stop}
 use Rattle.sq_parse.proofs.NoTree.{no_tree}
 use Rattle.sq_grammar.specs.declared.brackets.TheConstants.{MAX_DEPTH}
-use Rattle.sq_grammar.proofs.OneSchema.{one_schema_text}
+use Rattle.sq_grammar.proofs.Unique.OneSchema.{one_schema_text}
 use Rattle.sq_lex.specs.Token.{lexemes}
 use Rattle.sq_parse.proofs.text.parse_schema.Goals as goal
 

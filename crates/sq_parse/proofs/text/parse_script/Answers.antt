@@ -1,14 +1,15 @@
+-- Left open: the clauses spelled, shallow, no_tree, parsed and only; answered by Parsed and NoTree.
 use Rattle.std.proofs.Common.{Err, lit≤, sym, subst, ◌∙◌}
-use Rattle.sq_grammar.proofs.Spells.{whole_is}
-use Rattle.sq_grammar.proofs.ScriptSound.{script_sound}
+use Rattle.sq_grammar.proofs.Sound.Spells.{whole_is}
+use Rattle.sq_grammar.proofs.Sound.ScriptSound.{script_sound}
 use Rattle.sq_grammar.specs.Script.{script_text}
-use Rattle.sq_grammar.proofs.TextTakes.{script_taken}
+use Rattle.sq_grammar.proofs.Taken.TextTakes.{script_taken}
 use Rattle.sq_tree.specs.Script.{script_tokens, script_depth}
 use Rattle.sq_parse.specs.Refusal.{Answers, HasNoTree, parsed}
 use Rattle.sq_parse.proofs.Parsed.{answers_tree, answers_stop}
 use Rattle.sq_parse.proofs.NoTree.{no_tree}
 use Rattle.sq_grammar.specs.declared.brackets.TheConstants.{MAX_DEPTH}
-use Rattle.sq_grammar.proofs.OneScript.{one_script_text}
+use Rattle.sq_grammar.proofs.Unique.OneScript.{one_script_text}
 use Rattle.sq_lex.specs.Token.{lexemes}
 use Rattle.sq_parse.proofs.text.parse_script.Goals as goal
 

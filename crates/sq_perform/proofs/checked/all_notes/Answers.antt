@@ -1,3 +1,4 @@
+-- Left open: the call of text_notes, the result, that a place is within its list, and the loop's invariant; answered by Noted.
 use Rattle.std.proofs.Common.{arith}
 use Rattle.sq_perform.proofs.Noted.{notes_all, notes_next, text_read}
 use Rattle.sq_perform.proofs.checked.all_notes.Goals as goal

@@ -1,3 +1,4 @@
+-- Left open for check: the clause refused; answered without a law.
 use Rattle.sq_perform.specs.Texts.{texts}
 use Rattle.sq_perform.proofs.checked.check.Goals as goal
 

@@ -1,3 +1,4 @@
+-- Left open for module_notes: what the call of marked_notes asks for; answered by Noted.
 use Rattle.sq_tree.specs.Module.{module_tokens, module_depth}
 use Rattle.sq_perform.specs.Texts.{texts}
 use Rattle.sq_perform.proofs.Noted.{all_read, as_many_modules}

@@ -1,3 +1,4 @@
+-- Left open for moved: what the call of further asks for, and its result; answered by Moved.
 use Rattle.std.proofs.Common.{◌∙◌, arith, refl}
 use Rattle.sq_perform.proofs.Moved.{fits, moved_is}
 use Rattle.sq_perform.proofs.checked.moved.Goals as goal

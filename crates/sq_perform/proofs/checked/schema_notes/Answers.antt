@@ -1,3 +1,4 @@
+-- Left open for schema_notes: what the call of all_notes asks for; answered by Noted.
 use Rattle.std.proofs.Common.{ap, ◌∙◌, length}
 use Rattle.sq_tree.specs.Schema.{schema_tokens, schema_depth}
 use Rattle.sq_catalog.specs.Catalog.{known}

@@ -1,3 +1,4 @@
+-- Left open for actions_by_parts: that the loop keeps its invariant; answered by AskedParts.
 use Rattle.std.proofs.Common.{rules, arith, refl, inl}
 use Rattle.std.proofs.lemmas.List.Elements.{All-nil}
 use Rattle.sq_perform.specs.Steps.{IsPrepared}

@@ -1,3 +1,4 @@
+-- Left open: the call of perform, the clause stopped, and the loop's invariant; answered by Prepared and Steps.
 use Rattle.std.proofs.Common.{◌≡◌, ap, sym, ◌∙◌, arith, length}
 use Rattle.sq_perform.specs.Steps.{Step}
 use Rattle.sq_perform.proofs.Prepared.{prepared_at}

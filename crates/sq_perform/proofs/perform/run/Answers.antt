@@ -1,3 +1,4 @@
+-- Left open for run: the clauses report, stopped, refused and failed; answered by Wrote.
 use Rattle.std.proofs.Common.{sym, ◌∙◌}
 use Rattle.sq_perform.specs.Texts.{texts}
 use Rattle.sq_perform.proofs.Wrote.{opening_refused, opening_writes_none, opening_wrote, refused_some, wrote_all, wrote_some}

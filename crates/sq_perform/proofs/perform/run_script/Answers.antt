@@ -1,3 +1,4 @@
+-- Left open for run_script: the clauses report and stopped; answered by Wrote.
 use Rattle.sq_perform.proofs.Wrote.{performed_all, performed_some}
 use Rattle.sq_perform.proofs.perform.run_script.Goals as goal
 

@@ -1,3 +1,4 @@
+-- Left open for actions_in: the clause refused, and that the loop keeps its invariant; answered by Taken.
 use Rattle.sq_perform.proofs.Taken.{actions_more, first_untaken, prepared_more, taken_more}
 use Rattle.sq_perform.proofs.prepare.actions_in.Goals as goal
 

@@ -1,3 +1,4 @@
+-- Left open: what the call of refused_again asks for, and the result; answered by Taken and Spelled.
 use Rattle.sq_tree.specs.Script.{script_tokens}
 use Rattle.sq_perform.proofs.Taken.{of_item}
 use Rattle.sq_perform.proofs.Spelled.{read_of}

@@ -1,3 +1,4 @@
+-- Left open: what the call of refused_text asks for, and the clause first; answered by Parts and Spelled.
 use Rattle.std.proofs.Common.{arith}
 use Rattle.sq_tree.specs.Schema.{schema_tokens, schema_depth}
 use Rattle.sq_perform.specs.Texts.{texts}

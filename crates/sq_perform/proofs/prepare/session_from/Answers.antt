@@ -1,3 +1,4 @@
+-- Left open for session_from: the clause holds; answered without a law.
 use Rattle.sq_perform.proofs.prepare.session_from.Goals as goal
 
 pub returns-in-Ok-clause-holds : goal.returns-in-Ok-clause-holds

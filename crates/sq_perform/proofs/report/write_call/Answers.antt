@@ -1,3 +1,4 @@
+-- Left open for write_call: its result; answered by Written.
 use Rattle.std.proofs.Common.{◌++◌, ◌∙◌, List, ap, map}
 use Rattle.std.specs.List.{flat_map}
 use Rattle.sq_meaning.specs.Report.{output_codes, status_codes}

@@ -1,3 +1,4 @@
+-- Left open: the clauses refused and spelling, and the loop's invariant; answered by Refused and Spelled.
 use Rattle.sq_perform.proofs.Refused.{first_without, of_spelling}
 use Rattle.sq_perform.proofs.Spelled.{spelled_more}
 use Rattle.sq_perform.proofs.texts.read_all.Goals as goal

@@ -1,3 +1,4 @@
+-- Left open for read_text: the clause refused; answered by Refused.
 use Rattle.std.proofs.Common.{Ok, ap, sym, ◌∙◌}
 use Rattle.sq_perform.specs.Fault.{parse_fault}
 use Rattle.sq_perform.proofs.Refused.{unparsed}

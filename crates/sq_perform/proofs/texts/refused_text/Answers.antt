@@ -1,3 +1,4 @@
+-- Left open: the call of refused_again, and the clauses refused and placed; answered by Refused and Spelled.
 use Rattle.sq_perform.proofs.Refused.{named, one_of_meaning, placed_among}
 use Rattle.sq_perform.proofs.Spelled.{spelled_read}
 use Rattle.sq_perform.proofs.texts.refused_text.Goals as goal

@@ -1,6 +1,7 @@
+-- Left open for inner: the clause value; answered by laws of sq_grammar.
 use Rattle.std.proofs.Common.{arith}
 use Rattle.sq_grammar.specs.Cond.{inside}
-use Rattle.sq_grammar.proofs.Many.{deeper}
+use Rattle.sq_grammar.proofs.Reading.Many.{deeper}
 use Rattle.sq_phrase.proofs.condition.+inner.Goals as goal
 
 pub returns-clause-value : goal.returns-clause-value

@@ -1,6 +1,7 @@
+-- Left open for inner_expr: the clause value; answered by laws of sq_grammar.
 use Rattle.std.proofs.Common.{arith}
 use Rattle.sq_grammar.specs.Expr.{inside}
-use Rattle.sq_grammar.proofs.Many.{deeper}
+use Rattle.sq_grammar.proofs.Reading.Many.{deeper}
 use Rattle.sq_phrase.proofs.expression.+inner_expr.Goals as goal
 
 pub returns-clause-value : goal.returns-clause-value

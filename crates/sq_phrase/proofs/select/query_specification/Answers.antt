@@ -1,4 +1,5 @@
-use Rattle.sq_grammar.proofs.Behind.{expr-behind, cond-behind}
+-- Left open for query_specification: the clause value; answered by laws of sq_grammar.
+use Rattle.sq_grammar.proofs.Ends.Behind.{expr-behind, cond-behind}
 use Rattle.sq_phrase.proofs.select.query_specification.Goals as goal
 
 pub returns-clause-value : goal.returns-clause-value

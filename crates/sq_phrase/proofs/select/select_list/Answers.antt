@@ -1,4 +1,5 @@
-use Rattle.sq_grammar.proofs.Behind.{expr-behind}
+-- Left open for select_list: the clause value; answered by laws of sq_grammar.
+use Rattle.sq_grammar.proofs.Ends.Behind.{expr-behind}
 use Rattle.sq_phrase.proofs.select.select_list.Goals as goal
 
 pub returns-clause-value : goal.returns-clause-value

@@ -1,4 +1,5 @@
-use Rattle.sq_grammar.proofs.Behind.{cond-behind}
+-- Left open for table_expression: the clause value; answered by laws of sq_grammar.
+use Rattle.sq_grammar.proofs.Ends.Behind.{cond-behind}
 use Rattle.sq_phrase.proofs.select.table_expression.Goals as goal
 
 pub returns-clause-value : goal.returns-clause-value

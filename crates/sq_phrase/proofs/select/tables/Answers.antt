@@ -1,3 +1,4 @@
+-- Left open for tables: the clause value; answered without a law.
 use Rattle.std.proofs.Common.{rules}
 use Rattle.sq_grammar.specs.Select.{table_reference}
 use Rattle.sq_phrase.proofs.select.tables.Goals as goal

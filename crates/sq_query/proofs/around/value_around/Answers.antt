@@ -1,4 +1,5 @@
-use Rattle.sq_query.proofs.AroundValues.{anywhere_so, within_so}
+-- Left open for value_around: the clause known; answered by AroundValues.
+use Rattle.sq_query.proofs.FoundByKey.AroundValues.{anywhere_so, within_so}
 use Rattle.sq_query.proofs.around.value_around.Goals as goal
 
 pub returns-in-Within-clause-known : goal.returns-in-Within-clause-known

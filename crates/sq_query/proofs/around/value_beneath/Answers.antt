@@ -1,5 +1,6 @@
+-- Left open for value_beneath: the clause known; answered by AroundValues.
 use Rattle.sq_expression.specs.Frame.{scopes_beyond}
-use Rattle.sq_query.proofs.AroundValues.{known_beneath}
+use Rattle.sq_query.proofs.FoundByKey.AroundValues.{known_beneath}
 use Rattle.sq_query.proofs.around.value_beneath.Goals as goal
 
 pub returns-clause-known : goal.returns-clause-known

@@ -1,6 +1,7 @@
+-- Left open for value_within: its result; answered by Rows.
 use Rattle.sq_expression.specs.Frame.{scopes_beyond}
 use Rattle.std.proofs.Common.{[]}
-use Rattle.sq_query.proofs.Rows.{value_within}
+use Rattle.sq_query.proofs.FoundByKey.Rows.{value_within}
 use Rattle.sq_query.proofs.around.value_within.Goals as goal
 
 pub returns : goal.returns

@@ -1,3 +1,4 @@
+-- Left open: the clause found, and that the loop keeps its invariant; answered by Served and ServedWhere.
 use Rattle.std.proofs.Common.{[], List, Bor, inl, inr, ap, refl, subst, sym, ◌∙◌}
 use Rattle.std.specs.Prelude.{IfOk}
 use Rattle.sq_bound.specs.Condition.{cond_of, conj_of, predicate_of}
@@ -8,8 +9,8 @@ use Rattle.sq_expression.specs.Frame.{scopes_of}
 use Rattle.sq_expression.specs.declared.table.BaseRows.{BaseRows}
 use Rattle.sq_meaning.specs.Environment.{Row}
 use Rattle.sq_query.specs.Inner.{IsLineBeneath, ServesLine}
-use Rattle.sq_query.proofs.Served.{bracketed_serves, cond_none, subquery_serves, test_more, term_more}
-use Rattle.sq_query.proofs.ServedWhere.{items_serve, line_found, select_none, select_then, where_found}
+use Rattle.sq_query.proofs.FoundByKey.Served.{bracketed_serves, cond_none, subquery_serves, test_more, term_more}
+use Rattle.sq_query.proofs.FoundByKey.ServedWhere.{items_serve, line_found, select_none, select_then, where_found}
 use Rattle.sq_query.proofs.inner.+read_inside.Goals as goal
 
 pub with_select-returns-clause-found : goal.with_select-returns-clause-found

@@ -1,6 +1,7 @@
+-- Left open for beside_term: its result; answered by InnerSearch.
 use Rattle.std.proofs.Common.{◌+◌, ◌-◌, [], drop, length, refl, take}
 use Rattle.sq_bound.specs.Condition.{conj_of}
-use Rattle.sq_query.proofs.InnerSearch.{all_behind, beside_so}
+use Rattle.sq_query.proofs.FoundByKey.InnerSearch.{all_behind, beside_so}
 use Rattle.sq_query.proofs.inner.beside_term.Goals as goal
 
 pub returns : goal.returns

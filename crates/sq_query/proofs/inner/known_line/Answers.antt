@@ -1,4 +1,5 @@
-use Rattle.sq_query.proofs.InnerSearch.{line_so, nowhere_so}
+-- Left open for known_line: its result; answered by InnerSearch.
+use Rattle.sq_query.proofs.FoundByKey.InnerSearch.{line_so, nowhere_so}
 use Rattle.sq_query.proofs.inner.known_line.Goals as goal
 
 pub returns-then-has_no_line : goal.returns-then-has_no_line

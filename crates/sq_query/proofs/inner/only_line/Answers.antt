@@ -1,6 +1,7 @@
+-- Left open for only_line: its result, and that the loop keeps its invariant; answered by KeyTests.
 use Rattle.std.proofs.Common.{[], subst, sym}
 use Rattle.sq_query.specs.Inner.{AreOnlyRows, IsOnlyRow}
-use Rattle.sq_query.proofs.KeyTests.{if_some, zip_all, zip_more}
+use Rattle.sq_query.proofs.Keys.KeyTests.{if_some, zip_all, zip_more}
 use Rattle.sq_query.proofs.inner.only_line.Goals as goal
 
 pub loop-table-init : goal.loop-table-init

@@ -1,6 +1,7 @@
+-- Left open for with_around: its result; answered by InnerSearch.
 use Rattle.sq_bound.specs.Condition.{select_of}
 use Rattle.sq_query.specs.Inner.{around_tables}
-use Rattle.sq_query.proofs.InnerSearch.{added_to_copy}
+use Rattle.sq_query.proofs.FoundByKey.InnerSearch.{added_to_copy}
 use Rattle.sq_query.proofs.inner.with_around.Goals as goal
 
 pub returns : goal.returns

@@ -1,6 +1,7 @@
+-- Left open for with_subqueries: its result; answered by InnerSearch.
 use Rattle.sq_bound.specs.Condition.{select_of}
 use Rattle.sq_query.specs.Needed.{inside_tables}
-use Rattle.sq_query.proofs.InnerSearch.{added_to_copy}
+use Rattle.sq_query.proofs.FoundByKey.InnerSearch.{added_to_copy}
 use Rattle.sq_query.proofs.inner.with_subqueries.Goals as goal
 
 pub returns : goal.returns

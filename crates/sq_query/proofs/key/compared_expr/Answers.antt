@@ -1,5 +1,6 @@
+-- Left open for compared_expr: its result; answered by NamedTests.
 use Rattle.std.proofs.Common.{sym}
-use Rattle.sq_query.proofs.NamedTests.{named_within}
+use Rattle.sq_query.proofs.Keys.NamedTests.{named_within}
 use Rattle.sq_query.proofs.key.compared_expr.Goals as goal
 
 pub returns-in-Some : goal.returns-in-Some

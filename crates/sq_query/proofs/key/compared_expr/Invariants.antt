@@ -1,5 +1,5 @@
 use Rattle.std.proofs.Common.{◌-◌, length}
-use Rattle.sq_query.proofs.NamedTests.{IsNamedFrom}
+use Rattle.sq_query.proofs.Keys.NamedTests.{IsNamedFrom}
 use Rattle.sq_query.proofs.key.compared_expr.Given as goal
 
 abbrev pub invariant-loop-expr : goal.invariant-loop-expr

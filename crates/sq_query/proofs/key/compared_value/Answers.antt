@@ -1,6 +1,7 @@
-use Rattle.sq_query.proofs.KeyTests.{compared_if}
-use Rattle.sq_query.proofs.KeyValues.{valued_memory}
-use Rattle.sq_query.proofs.KnownKeys.{known_found}
+-- Left open: the clauses memory, value and found; answered by KeyTests, KeyValues and KnownKeys.
+use Rattle.sq_query.proofs.Keys.KeyTests.{compared_if}
+use Rattle.sq_query.proofs.Keys.KeyValues.{valued_memory}
+use Rattle.sq_query.proofs.Keys.KnownKeys.{known_found}
 use Rattle.sq_query.proofs.key.compared_value.Goals as goal
 
 pub returns-in_err-value-clause-memory : goal.returns-in_err-value-clause-memory

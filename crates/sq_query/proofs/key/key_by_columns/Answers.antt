@@ -1,11 +1,12 @@
+-- Left open: the call of key_values, and the clauses memory, found and known; answered by KeyNames, KeyTests, KeyValues and KnownKeys.
 use Rattle.std.proofs.Common.{Vec, Global}
 use Rattle.std.specs.List.{AllZip}
 use Rattle.sq_value.specs.declared.value.Value.{Value}
 use Rattle.sq_query.specs.Key.{IsComparedWith}
-use Rattle.sq_query.proofs.KeyNames.{first_tests_name, named_by}
-use Rattle.sq_query.proofs.KeyTests.{if_some}
-use Rattle.sq_query.proofs.KeyValues.{handed_memory}
-use Rattle.sq_query.proofs.KnownKeys.{not_none}
+use Rattle.sq_query.proofs.Keys.KeyNames.{first_tests_name, named_by}
+use Rattle.sq_query.proofs.Keys.KeyTests.{if_some}
+use Rattle.sq_query.proofs.Keys.KeyValues.{handed_memory}
+use Rattle.sq_query.proofs.Keys.KnownKeys.{not_none}
 use Rattle.sq_query.proofs.key.key_by_columns.Goals as goal
 
 pub key_values-requires : goal.key_values-requires

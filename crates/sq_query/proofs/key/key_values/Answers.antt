@@ -1,8 +1,9 @@
+-- Left open: the clauses values and found, and the loop's invariant; answered by KeyTests and KnownKeys.
 use Rattle.std.proofs.Common.{[], get_or, refl, subst, sym}
 use Rattle.std.specs.List.{AllZip}
 use Rattle.sq_query.specs.Key.{IsComparedWith}
-use Rattle.sq_query.proofs.KeyTests.{if_some, zip_more, zip_all}
-use Rattle.sq_query.proofs.KnownKeys.{not_none}
+use Rattle.sq_query.proofs.Keys.KeyTests.{if_some, zip_more, zip_all}
+use Rattle.sq_query.proofs.Keys.KnownKeys.{not_none}
 use Rattle.sq_query.proofs.key.key_values.Goals as goal
 
 pub loop-column-init : goal.loop-column-init

@@ -1,3 +1,4 @@
+-- Left open: the call of key_by_columns, and the clauses known, found and memory; answered by KeysOn and KnownKeys.
 use Rattle.std.proofs.Common.{◌≡◌, ◌∙◌, List, [], ℕ, ap, get_or, subst}
 use Rattle.std.proofs.lemmas.List.{get_or_read}
 use Rattle.sq_store.specs.Keys.{key_at, keys_at}
@@ -6,8 +7,8 @@ use Rattle.sq_bound.specs.declared.condition.BoundCond.{out-BoundCond}
 use Rattle.sq_bound.specs.declared.condition.BoundTest.{BoundTest}
 use Rattle.sq_query.specs.Key.{AreFirstTests}
 use Rattle.sq_query.specs.Keyed.{AreKnownEqual}
-use Rattle.sq_query.proofs.KeysOn.{key_on}
-use Rattle.sq_query.proofs.KnownKeys.{known_if}
+use Rattle.sq_query.proofs.Keys.KeysOn.{key_on}
+use Rattle.sq_query.proofs.Keys.KnownKeys.{known_if}
 use Rattle.sq_query.proofs.key.key_with_values.Goals as goal
 
 pub key_by_columns-requires : goal.key_by_columns-requires

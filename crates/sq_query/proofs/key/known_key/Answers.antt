@@ -1,3 +1,4 @@
+-- Left open: the call of key_with_values, the clauses known and 2 more, and that a place is unreachable; answered by KeyNames and others.
 use Rattle.std.proofs.Common.{◌<◌, ◌∙◌, List, [], ap, length, slice_index_or, subst, sym}
 use Rattle.sq_store.specs.Keys.{Keys, key_at}
 use Rattle.sq_bound.specs.Keyed.{names_key}
@@ -6,9 +7,9 @@ use Rattle.sq_bound.specs.declared.condition.BoundTest.{BoundTest}
 use Rattle.sq_bound.specs.declared.condition.TablePlace.TheVariants.{Base}
 use Rattle.sq_query.specs.Key.{AreFirstTests}
 use Rattle.sq_query.specs.Keyed.{AreKnownEqual, IsKeyed}
-use Rattle.sq_query.proofs.KeyNames.{has_condition, key_there, noted_key, own_named}
-use Rattle.sq_query.proofs.KeyValues.{first_tests_valued, own_stands}
-use Rattle.sq_query.proofs.KnownKeys.{key_noted, known_if, not_none, tests_known}
+use Rattle.sq_query.proofs.Keys.KeyNames.{has_condition, key_there, noted_key, own_named}
+use Rattle.sq_query.proofs.Keys.KeyValues.{first_tests_valued, own_stands}
+use Rattle.sq_query.proofs.Keys.KnownKeys.{key_noted, known_if, not_none, tests_known}
 use Rattle.sq_query.proofs.key.known_key.Goals as goal
 
 pub unreachable-requires : goal.unreachable-requires

@@ -1,3 +1,4 @@
+-- Left open: the call of key_with_values, and the clauses known, memory and found; answered by KeyNames, KeyValues, KnownKeys and others.
 use Rattle.std.proofs.Common.{List, subst}
 use Rattle.sq_store.specs.Keys.{Keys, key_at, keys_at}
 use Rattle.sq_bound.specs.Keyed.{IsShortestKey}
@@ -5,10 +6,10 @@ use Rattle.sq_bound.specs.declared.condition.BoundTest.{BoundTest}
 use Rattle.sq_bound.specs.declared.condition.TablePlace.TheVariants.{Base}
 use Rattle.sq_query.specs.Key.{AreFirstTests}
 use Rattle.sq_query.specs.Keyed.{AreKnownEqual, IsKeyedBy}
-use Rattle.sq_query.proofs.KeyNames.{shortest_known, shortest_names}
-use Rattle.sq_query.proofs.KeyValues.{first_tests_valued}
-use Rattle.sq_query.proofs.KnownKeys.{known_if}
-use Rattle.sq_query.proofs.ShortestKnown.{known_by_shortest, named_by_none}
+use Rattle.sq_query.proofs.Keys.KeyNames.{shortest_known, shortest_names}
+use Rattle.sq_query.proofs.Keys.KeyValues.{first_tests_valued}
+use Rattle.sq_query.proofs.Keys.KnownKeys.{known_if}
+use Rattle.sq_query.proofs.Keys.ShortestKnown.{known_by_shortest, named_by_none}
 use Rattle.sq_query.proofs.key.shortest_known_key.Goals as goal
 
 pub key_with_values-requires-clause-key : goal.key_with_values-requires-clause-key

@@ -1,3 +1,4 @@
+-- Left open for is_meant: the clause read; answered without a law.
 use Rattle.sq_query.proofs.meant.is_meant.Goals as goal
 
 pub returns-in-None-clause-read : goal.returns-in-None-clause-read

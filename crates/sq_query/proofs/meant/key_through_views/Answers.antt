@@ -1,9 +1,10 @@
+-- Left open for key_through_views: the clauses known, found and memory; answered by KnownKeys and TargetKeys.
 use Rattle.std.proofs.Common.{◌≡◌, true, true≢false, ap, sym, ◌∙◌}
 use Rattle.sq_store.specs.Keys.{keys_at}
 use Rattle.sq_bound.specs.declared.names.Leaf.{Leaf}
 use Rattle.sq_query.specs.Keyed.{IsKeyedBy, IsKeyedUnder}
-use Rattle.sq_query.proofs.KnownKeys.{known_if}
-use Rattle.sq_query.proofs.TargetKeys.{known_own, none_known, own_on_base, views_under}
+use Rattle.sq_query.proofs.Keys.KnownKeys.{known_if}
+use Rattle.sq_query.proofs.Targets.TargetKeys.{known_own, none_known, own_on_base, views_under}
 use Rattle.sq_query.proofs.meant.key_through_views.Goals as goal
 
 pub returns-then-get-clause-known : goal.returns-then-get-clause-known

@@ -1,6 +1,7 @@
+-- Left open for key_under: the clauses known and found; answered by KnownKeys and TargetKeys.
 use Rattle.sq_query.specs.Keyed.{IsKeyed, IsKeyedUnder}
-use Rattle.sq_query.proofs.KnownKeys.{known_if}
-use Rattle.sq_query.proofs.TargetKeys.{noted_known, noted_under}
+use Rattle.sq_query.proofs.Keys.KnownKeys.{known_if}
+use Rattle.sq_query.proofs.Targets.TargetKeys.{noted_known, noted_under}
 use Rattle.sq_query.proofs.meant.key_under.Goals as goal
 
 pub returns-in-Some-clause-known : goal.returns-in-Some-clause-known

@@ -1,6 +1,7 @@
+-- Left open for numbers: its result; answered by Chosen.
 use Rattle.std.proofs.Common.{ℕ, List, ap, Ok}
 use Rattle.sq_meaning.specs.Status.{Outcome}
-use Rattle.sq_query.proofs.Chosen.{all_numbers}
+use Rattle.sq_query.proofs.Targets.Chosen.{all_numbers}
 use Rattle.sq_query.proofs.meant.numbers.Goals as goal
 
 pub returns : goal.returns

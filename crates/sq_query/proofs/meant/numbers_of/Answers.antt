@@ -1,3 +1,4 @@
+-- Left open: the clauses meant, there and right; answered by ChosenNumbers, Fitting and others.
 use Rattle.std.proofs.Common.{◌∙◌, ℕ, List, Bor, map, ap, sym, subst, Ok}
 use Rattle.std.specs.Prelude.{⊤}
 use Rattle.sq_store.specs.Content.{table_at}
@@ -8,10 +9,10 @@ use Rattle.sq_expression.proofs.Groups.{meets_as_same}
 use Rattle.sq_expression.proofs.Views.{failed_as, handed_on_as}
 use Rattle.sq_query.specs.Table.{numbered_in, numbered_row, stored_numbered}
 use Rattle.sq_query.specs.Target.{AreRowsThere, conditions_of, is_true_of, numbers_chosen, numbers_in, rows_of_target}
-use Rattle.sq_query.proofs.ChosenNumbers.{numbers_after, numbers_fail}
-use Rattle.sq_query.proofs.Fitting.{never_ends}
-use Rattle.sq_query.proofs.KnownConditions.{ends_so}
-use Rattle.sq_query.proofs.NumbersThere.{numbers_there}
+use Rattle.sq_query.proofs.Targets.ChosenNumbers.{numbers_after, numbers_fail}
+use Rattle.sq_query.proofs.Needs.Fitting.{never_ends}
+use Rattle.sq_query.proofs.Targets.KnownConditions.{ends_so}
+use Rattle.sq_query.proofs.Targets.NumbersThere.{numbers_there}
 use Rattle.sq_query.proofs.meant.numbers_of.Goals as goal
 
 pub returns-clause-meant : goal.returns-clause-meant

@@ -1,3 +1,4 @@
+-- Left open for rows_by_key: the clauses meant and read; answered by KnownKeys, KnownConditions and others.
 use Rattle.std.proofs.Common.{ℕ, ◌+◌, ◌≤◌, ◌∙◌, ap, false, subst, sym, true}
 use Rattle.sq_store.specs.Content.{table_at}
 use Rattle.sq_store.specs.Keys.{has_key, key_at}
@@ -6,11 +7,11 @@ use Rattle.sq_meaning.specs.WellFormed.{IsRowOf}
 use Rattle.sq_bound.specs.WellFormed.{base_kinds}
 use Rattle.sq_bound.specs.declared.condition.TablePlace.TheVariants.{Base}
 use Rattle.sq_query.specs.Table.{numbered_in}
-use Rattle.sq_query.proofs.KnownKeys.{one_at_most}
-use Rattle.sq_query.proofs.KnownConditions.{rows_fit}
-use Rattle.sq_query.proofs.OnlyOne.{found_is}
-use Rattle.sq_query.proofs.TargetRows.{conditions_on_row}
-use Rattle.sq_query.proofs.TargetSearch.{none_found, one_fails, one_found}
+use Rattle.sq_query.proofs.Keys.KnownKeys.{one_at_most}
+use Rattle.sq_query.proofs.Targets.KnownConditions.{rows_fit}
+use Rattle.sq_query.proofs.Keys.OnlyOne.{found_is}
+use Rattle.sq_query.proofs.Targets.TargetRows.{conditions_on_row}
+use Rattle.sq_query.proofs.Targets.TargetSearch.{none_found, one_fails, one_found}
 use Rattle.sq_expression.proofs.Views.{handed_on_as}
 use Rattle.sq_query.proofs.meant.rows_by_key.Goals as goal
 

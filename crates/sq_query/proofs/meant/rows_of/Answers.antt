@@ -1,14 +1,15 @@
+-- Left open: the call of key_under, and the clauses there, right, meant and read; answered by Fitting, KeyNames, KeyValues and others.
 use Rattle.std.proofs.Common.{arith}
 use Rattle.std.specs.Prelude.{⊤}
 use Rattle.sq_query.specs.Table.{numbered_in}
 use Rattle.sq_query.specs.Target.{conditions_of, is_true_of, rows_of_target}
-use Rattle.sq_query.proofs.Fitting.{never_ends}
-use Rattle.sq_query.proofs.KeyNames.{base_there, own_keys}
-use Rattle.sq_query.proofs.KeyValues.{handed_memory, memory_meets}
-use Rattle.sq_query.proofs.KnownConditions.{memory_ends, rows_answer, target_on_base}
-use Rattle.sq_query.proofs.KnownKeys.{not_none}
-use Rattle.sq_query.proofs.NumbersThere.{rows_there}
-use Rattle.sq_query.proofs.QuietTargets.{keyed_reads_none}
+use Rattle.sq_query.proofs.Needs.Fitting.{never_ends}
+use Rattle.sq_query.proofs.Keys.KeyNames.{base_there, own_keys}
+use Rattle.sq_query.proofs.Keys.KeyValues.{handed_memory, memory_meets}
+use Rattle.sq_query.proofs.Targets.KnownConditions.{memory_ends, rows_answer, target_on_base}
+use Rattle.sq_query.proofs.Keys.KnownKeys.{not_none}
+use Rattle.sq_query.proofs.Targets.NumbersThere.{rows_there}
+use Rattle.sq_query.proofs.Targets.QuietTargets.{keyed_reads_none}
 use Rattle.sq_query.proofs.meant.rows_of.Goals as goal
 
 pub returns-in-None-clause-there : goal.returns-in-None-clause-there

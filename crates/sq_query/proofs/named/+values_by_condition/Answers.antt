@@ -1,11 +1,12 @@
+-- Left open: the clause named, and that the loops keep their invariants; answered by KeyTests and NamedRows.
 use Rattle.std.proofs.Common.{◌≡◌, ◌∙◌, [], Some, ap, map, subst, sym, true}
 use Rattle.std.proofs.lemmas.List.{take_all}
 use Rattle.std.specs.List.{AllByRecursion}
 use Rattle.sq_meaning.specs.Syntax.{conds, conjunction}
 use Rattle.sq_bound.specs.Condition.{test_of}
 use Rattle.sq_bound.specs.declared.condition.Predicate.TheVariants as bound
-use Rattle.sq_query.proofs.KeyTests.{if_some}
-use Rattle.sq_query.proofs.NamedRows.{Found, IsTermFalseBut, brackets_found, one_more, term_more, terms_name, test_found}
+use Rattle.sq_query.proofs.Keys.KeyTests.{if_some}
+use Rattle.sq_query.proofs.Keys.NamedRows.{Found, IsTermFalseBut, brackets_found, one_more, term_more, terms_name, test_found}
 use Rattle.sq_query.proofs.named.+values_by_condition.Goals as goal
 
 pub values_by_condition-loop-term-init : goal.values_by_condition-loop-term-init

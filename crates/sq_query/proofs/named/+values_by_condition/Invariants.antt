@@ -2,7 +2,7 @@ use Rattle.std.proofs.Common.{◌≡◌, [], true, take}
 use Rattle.std.specs.List.{AllByRecursion}
 use Rattle.sq_meaning.specs.Quiet.{is_quiet}
 use Rattle.sq_bound.specs.Condition.{test_of}
-use Rattle.sq_query.proofs.NamedRows.{IsTermFalseBut}
+use Rattle.sq_query.proofs.Keys.NamedRows.{IsTermFalseBut}
 use Rattle.sq_query.proofs.named.+values_by_condition.Given as goal
 
 abbrev pub invariant-values_by_tests-loop-test : goal.invariant-values_by_tests-loop-test

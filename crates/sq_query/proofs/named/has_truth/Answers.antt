@@ -1,4 +1,5 @@
-use Rattle.sq_query.proofs.NamedRows.{compared_quiet, null_quiet}
+-- Left open for has_truth: its result; answered by NamedRows.
+use Rattle.sq_query.proofs.Keys.NamedRows.{compared_quiet, null_quiet}
 use Rattle.sq_query.proofs.named.has_truth.Goals as goal
 
 pub returns-then-is_plain : goal.returns-then-is_plain

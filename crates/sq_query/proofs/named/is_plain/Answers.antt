@@ -1,3 +1,4 @@
+-- Left open for is_plain: its result; answered by laws of sq_bound.
 use Rattle.sq_bound.proofs.QuietLaws.{alone}
 use Rattle.sq_query.proofs.named.is_plain.Goals as goal
 

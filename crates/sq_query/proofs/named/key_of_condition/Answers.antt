@@ -1,4 +1,5 @@
-use Rattle.sq_query.proofs.KeyValues.{handed_memory}
+-- Left open for key_of_condition: the clause memory; answered by KeyValues.
+use Rattle.sq_query.proofs.Keys.KeyValues.{handed_memory}
 use Rattle.sq_query.proofs.named.key_of_condition.Goals as goal
 
 pub returns-in_err-known-clause-memory : goal.returns-in_err-known-clause-memory

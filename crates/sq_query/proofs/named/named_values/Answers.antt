@@ -1,8 +1,9 @@
+-- Left open for named_values: the clause named, and that the loop keeps its invariant; answered by KeyTests.
 use Rattle.std.proofs.Common.{[], get_or, subst, sym}
 use Rattle.std.specs.List.{AllZip}
 use Rattle.sq_bound.specs.Condition.{cond_of}
 use Rattle.sq_query.specs.Key.{IsFalseUnless}
-use Rattle.sq_query.proofs.KeyTests.{if_some, zip_all, zip_more}
+use Rattle.sq_query.proofs.Keys.KeyTests.{if_some, zip_all, zip_more}
 use Rattle.sq_query.proofs.named.named_values.Goals as goal
 
 pub loop-column-init : goal.loop-column-init

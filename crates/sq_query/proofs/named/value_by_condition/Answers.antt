@@ -1,7 +1,8 @@
+-- Left open for value_by_condition: the clause named; answered by KeyTests and NamedRows.
 use Rattle.std.proofs.Common.{[], Some}
 use Rattle.sq_bound.specs.Condition.{cond_of}
-use Rattle.sq_query.proofs.KeyTests.{if_some}
-use Rattle.sq_query.proofs.NamedRows.{Found, only_found}
+use Rattle.sq_query.proofs.Keys.KeyTests.{if_some}
+use Rattle.sq_query.proofs.Keys.NamedRows.{Found, only_found}
 use Rattle.sq_query.proofs.named.value_by_condition.Goals as goal
 
 pub returns-in-Some-clause-named : goal.returns-in-Some-clause-named

@@ -1,4 +1,5 @@
-use Rattle.sq_query.proofs.NamedRows.{equal_found}
+-- Left open for value_by_equality: the clause named; answered by NamedRows.
+use Rattle.sq_query.proofs.Keys.NamedRows.{equal_found}
 use Rattle.sq_query.proofs.named.value_by_equality.Goals as goal
 
 pub returns-in-Some-clause-named : goal.returns-in-Some-clause-named

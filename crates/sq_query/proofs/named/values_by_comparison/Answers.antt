@@ -1,7 +1,8 @@
+-- Left open for values_by_comparison: its result, and the clause named; answered by NamedRows.
 use Rattle.std.proofs.Common.{◌∙◌, [], ap, sym}
 use Rattle.sq_bound.specs.Condition.{test_of}
 use Rattle.sq_bound.specs.declared.condition.Predicate.TheVariants as bound
-use Rattle.sq_query.proofs.NamedRows.{alone_found, list_found}
+use Rattle.sq_query.proofs.Keys.NamedRows.{alone_found, list_found}
 use Rattle.sq_query.proofs.named.values_by_comparison.Goals as goal
 
 pub returns-then-is_column_in-clause-named : goal.returns-then-is_column_in-clause-named

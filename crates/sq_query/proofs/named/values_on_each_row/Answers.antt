@@ -1,8 +1,9 @@
+-- Left open: the clause known, and that the loop keeps its invariant; answered by KeyTests.
 use Rattle.std.proofs.Common.{[], subst, sym}
 use Rattle.std.specs.List.{AllZip}
 use Rattle.sq_bound.specs.declared.expression.BoundExpr.{BoundExpr}
 use Rattle.sq_query.specs.Key.{IsKnown}
-use Rattle.sq_query.proofs.KeyTests.{if_some, zip_all, zip_more}
+use Rattle.sq_query.proofs.Keys.KeyTests.{if_some, zip_all, zip_more}
 use Rattle.sq_query.proofs.named.values_on_each_row.Goals as goal
 
 pub loop-expr-init : goal.loop-expr-init

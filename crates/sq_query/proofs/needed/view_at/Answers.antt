@@ -1,6 +1,7 @@
+-- Left open for view_at: the clause is, and that a place is unreachable; answered by ViewsThere.
 use Rattle.std.proofs.Common.{◌∙◌, ap, sym}
 use Rattle.sq_bound.specs.WellFormed.{place_of}
-use Rattle.sq_query.proofs.ViewsThere.{view_there}
+use Rattle.sq_query.proofs.PlainViews.ViewsThere.{view_there}
 use Rattle.sq_query.proofs.needed.view_at.Goals as goal
 
 pub returns-clause-is : goal.returns-clause-is

@@ -1,6 +1,7 @@
+-- Left open for by_column: its result; answered by Sorting.
 use Rattle.std.proofs.Common.{◌∙◌}
 use Rattle.sq_query.specs.Order.{in_direction}
-use Rattle.sq_query.proofs.Sorting.{one_column}
+use Rattle.sq_query.proofs.Sorted.Sorting.{one_column}
 use Rattle.sq_query.proofs.order.by_column.Goals as goal
 
 pub returns : goal.returns

@@ -1,10 +1,11 @@
+-- Left open: the call of query_rows, and the clauses rows, kinds and right; answered by Fitting and others.
 use Rattle.sq_meaning.specs.WellFormed.{AreRowsOf}
 use Rattle.sq_bound.specs.WellFormed.{kinds_of_query}
 use Rattle.sq_expression.specs.Fault.{rows_in}
 use Rattle.sq_query.specs.Order.{sort_columns}
-use Rattle.sq_query.proofs.Fitting.{found_so, never_ends}
-use Rattle.sq_query.proofs.ReadRows.{sorted_answers}
-use Rattle.sq_query.proofs.UnionRows.{all_readable}
+use Rattle.sq_query.proofs.Needs.Fitting.{found_so, never_ends}
+use Rattle.sq_query.proofs.Needs.ReadRows.{sorted_answers}
+use Rattle.sq_query.proofs.ByUnion.UnionRows.{all_readable}
 use Rattle.sq_query.proofs.order.ordered_rows.Goals as goal
 
 pub query_rows-requires : goal.query_rows-requires

@@ -1,3 +1,4 @@
+-- Left open for sort: the clause rows; answered by StableSort.
 use Rattle.std.proofs.Common.{rules}
 use Rattle.std.specs.Ordering.{is_lt}
 use Rattle.std.proofs.lemmas.List.MinMax.{ranks_by}
@@ -5,7 +6,7 @@ use Rattle.std.proofs.lemmas.Fn.{always_returns_same}
 use Rattle.sq_meaning.specs.Rows.{by_columns}
 use Rattle.sq_meaning.proofs.RowLaws.{columns_total}
 use Rattle.sq_query.specs.Order.{sort_columns}
-use Rattle.sq_query.proofs.StableSort.{stable_is_sorted}
+use Rattle.sq_query.proofs.Sorted.StableSort.{stable_is_sorted}
 use Rattle.sq_query.proofs.order.sort.Goals as goal
 
 pub returns-clause-rows : goal.returns-clause-rows

@@ -1,8 +1,9 @@
+-- Left open: the call of rows_of_specification, and the clauses kinds and right; answered by Fitting and ReadRows.
 use Rattle.sq_meaning.specs.WellFormed.{AreRowsOf}
 use Rattle.sq_bound.specs.WellFormed.{kinds_of_select}
 use Rattle.sq_expression.specs.Fault.{rows_in}
-use Rattle.sq_query.proofs.Fitting.{found_so, never_ends}
-use Rattle.sq_query.proofs.ReadRows.{select_answers}
+use Rattle.sq_query.proofs.Needs.Fitting.{found_so, never_ends}
+use Rattle.sq_query.proofs.Needs.ReadRows.{select_answers}
 use Rattle.sq_query.proofs.order.specification_rows.Goals as goal
 
 pub rows_of_specification-requires : goal.rows_of_specification-requires

@@ -1,8 +1,9 @@
+-- Left open for base_under: what the call of base_under asks for, and its result; answered by ViewPaths.
 use Rattle.std.proofs.Common.{rules, [], arith, ◌<◌, subst}
 use Rattle.sq_bound.specs.declared.condition.TablePlace.TheVariants.{Base, View}
 use Rattle.sq_query.specs.Search.{IsOver}
 use Rattle.sq_query.specs.Shown.{IsPlainOver}
-use Rattle.sq_query.proofs.ViewPaths.{path_more, plain_view, under_earlier, under_known}
+use Rattle.sq_query.proofs.PlainViews.ViewPaths.{path_more, plain_view, under_earlier, under_known}
 use Rattle.sq_query.proofs.plain_view.+base_under.Goals as goal
 
 pub base_under-requires : goal.base_under-requires

@@ -1,5 +1,6 @@
+-- Left open for column_of_base: its result; answered by ViewPaths.
 use Rattle.std.proofs.Common.{[], refl}
-use Rattle.sq_query.proofs.ViewPaths.{column_from}
+use Rattle.sq_query.proofs.PlainViews.ViewPaths.{column_from}
 use Rattle.sq_query.proofs.plain_view.column_of_base.Goals as goal
 
 pub returns-in-Base : goal.returns-in-Base

@@ -1,3 +1,4 @@
+-- Left open for is_sought: the clause none; answered without a law.
 use Rattle.sq_query.proofs.row.is_sought.Goals as goal
 
 pub returns-else-is_empty-clause-none : goal.returns-else-is_empty-clause-none

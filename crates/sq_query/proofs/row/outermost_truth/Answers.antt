@@ -1,3 +1,4 @@
+-- Left open for outermost_truth: the clause known; answered without a law.
 use Rattle.sq_query.proofs.row.outermost_truth.Goals as goal
 
 pub returns-clause-known : goal.returns-clause-known

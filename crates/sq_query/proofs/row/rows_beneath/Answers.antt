@@ -1,5 +1,6 @@
+-- Left open for rows_beneath: the clause found; answered by RowTables.
 use Rattle.sq_expression.specs.Frame.{scopes_of}
-use Rattle.sq_query.proofs.RowTables.{beneath_so}
+use Rattle.sq_query.proofs.FoundByKey.RowTables.{beneath_so}
 use Rattle.sq_query.proofs.row.rows_beneath.Goals as goal
 
 pub returns-then-by_keys-clause-found : goal.returns-then-by_keys-clause-found

@@ -1,11 +1,12 @@
+-- Left open: the call of tables_of, and the clauses plain, tables and none; answered by FoundRead and others.
 use Rattle.std.proofs.Common.{◌≡◌, ◌∙◌, [], List, sym, subst, true}
 use Rattle.sq_expression.specs.declared.table.BaseRows.{BaseRows}
 use Rattle.sq_query.specs.Items.{is_left}
 use Rattle.sq_query.specs.declared.view.Tables.{Tables}
-use Rattle.sq_query.proofs.FoundRead.{left_known}
-use Rattle.sq_query.proofs.ReadTables.{handed}
-use Rattle.sq_query.proofs.RowTables.{handed_fault, only_memory, read_on_row, same_on_row}
-use Rattle.sq_query.proofs.TablesMeant.{tables_fit}
+use Rattle.sq_query.proofs.FoundByKey.FoundRead.{left_known}
+use Rattle.sq_query.proofs.Needs.ReadTables.{handed}
+use Rattle.sq_query.proofs.FoundByKey.RowTables.{handed_fault, only_memory, read_on_row, same_on_row}
+use Rattle.sq_query.proofs.Needs.TablesMeant.{tables_fit}
 use Rattle.sq_query.proofs.row.tables_on_row.Goals as goal
 
 pub tables_of-requires-clause-known : goal.tables_of-requires-clause-known

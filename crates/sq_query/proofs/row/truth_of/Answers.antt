@@ -1,6 +1,7 @@
+-- Left open for truth_of: the clause right; answered by Fitting and ReadRows.
 use Rattle.std.specs.Prelude.{⊤}
-use Rattle.sq_query.proofs.Fitting.{ends_right}
-use Rattle.sq_query.proofs.ReadRows.{truth_answers}
+use Rattle.sq_query.proofs.Needs.Fitting.{ends_right}
+use Rattle.sq_query.proofs.Needs.ReadRows.{truth_answers}
 use Rattle.sq_query.proofs.row.truth_of.Goals as goal
 
 pub returns-clause-right : goal.returns-clause-right

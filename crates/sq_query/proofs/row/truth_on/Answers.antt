@@ -1,6 +1,7 @@
+-- Left open for truth_on: the clauses plain and known; answered by Rows.
 use Rattle.std.proofs.Common.{[], ◌∷◌, sym}
 use Rattle.sq_condition.proofs.Right.{means_same}
-use Rattle.sq_query.proofs.Rows.{meant_outside, truth_outside}
+use Rattle.sq_query.proofs.FoundByKey.Rows.{meant_outside, truth_outside}
 use Rattle.sq_query.proofs.row.truth_on.Goals as goal
 
 pub returns-clause-plain : goal.returns-clause-plain

@@ -1,13 +1,14 @@
+-- Left open for truth_with_tables: the clauses plain and truth; answered by Fitting, ReadAs and others.
 use Rattle.std.proofs.Common.{[], ◌∷◌, sym, subst}
 use Rattle.std.specs.Prelude.{⊤}
 use Rattle.sq_meaning.specs.WellFormed.{Answers}
 use Rattle.sq_expression.specs.Fault.{Meets}
 use Rattle.sq_expression.specs.declared.context.Context.{Context}
 use Rattle.sq_query.specs.declared.view.Tables.{Tables}
-use Rattle.sq_query.proofs.Fitting.{fails_so}
-use Rattle.sq_query.proofs.ReadAs.{cond_read_in, truth_of_cond}
-use Rattle.sq_query.proofs.ReadRows.{truth_answers}
-use Rattle.sq_query.proofs.RowTables.{no_memory_truth}
+use Rattle.sq_query.proofs.Needs.Fitting.{fails_so}
+use Rattle.sq_query.proofs.Needs.ReadAs.{cond_read_in, truth_of_cond}
+use Rattle.sq_query.proofs.Needs.ReadRows.{truth_answers}
+use Rattle.sq_query.proofs.FoundByKey.RowTables.{no_memory_truth}
 use Rattle.sq_query.proofs.row.truth_with_tables.Goals as goal
 
 pub returns-in-Err-clause-plain : goal.returns-in-Err-clause-plain

@@ -1,3 +1,4 @@
+-- Left open for value_of: its result; answered without a law.
 use Rattle.std.proofs.Common.{Option, ap, subst, sym}
 use Rattle.std.specs.Borrow.{Bor}
 use Rattle.std.specs.Option.{option_copied}

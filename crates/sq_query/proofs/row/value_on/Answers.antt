@@ -1,5 +1,6 @@
+-- Left open for value_on: its result; answered by Rows.
 use Rattle.sq_expression.specs.Frame.{lent}
-use Rattle.sq_query.proofs.Rows.{value_outside}
+use Rattle.sq_query.proofs.FoundByKey.Rows.{value_outside}
 use Rattle.sq_query.proofs.row.value_on.Goals as goal
 
 pub returns : goal.returns

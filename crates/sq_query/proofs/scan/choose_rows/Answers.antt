@@ -1,3 +1,4 @@
+-- Left open for choose_rows: the clause known; answered by laws of sq_expression and sq_condition.
 use Rattle.std.proofs.Common.{ℕ, Result, Vec, Global, Bor, map, subst}
 use Rattle.sq_meaning.specs.Environment.{Row}
 use Rattle.sq_bound.specs.declared.condition.BoundCond.{BoundCond}

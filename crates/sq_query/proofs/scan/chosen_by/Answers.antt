@@ -1,3 +1,4 @@
+-- Left open for chosen_by: the clause known; answered without a law.
 use Rattle.sq_query.proofs.scan.chosen_by.Goals as goal
 
 pub returns-clause-known : goal.returns-clause-known

@@ -1,3 +1,4 @@
+-- Left open: the clauses plain and known, and the loop's invariant; answered by Chosen and others.
 use Rattle.std.proofs.Common.{[], List, map, ap, refl, subst, sym, ◌∙◌, Err}
 use Rattle.std.specs.Borrow.{Bor}
 use Rattle.sq_store.specs.declared.table.Numbered.{Numbered}
@@ -11,9 +12,9 @@ use Rattle.sq_condition.specs.Memo.{Meant}
 use Rattle.sq_condition.specs.Subquery.{KnowsCond}
 use Rattle.sq_query.specs.Table.{numbered_row, numbered_in}
 use Rattle.sq_query.specs.Target.{is_true_of, chosen}
-use Rattle.sq_query.proofs.Chosen.{chosen_lent, chosen_more, chosen_failed, chosen_ends}
-use Rattle.sq_query.proofs.KnownConditions.{chosen_right}
-use Rattle.sq_query.proofs.Levels.{lent_at, none_at}
+use Rattle.sq_query.proofs.Targets.Chosen.{chosen_lent, chosen_more, chosen_failed, chosen_ends}
+use Rattle.sq_query.proofs.Targets.KnownConditions.{chosen_right}
+use Rattle.sq_query.proofs.Targets.Levels.{lent_at, none_at}
 use Rattle.sq_condition.proofs.Right.{right_same}
 use Rattle.sq_expression.proofs.Views.{handed_on_as, failed_as}
 use Rattle.sq_query.proofs.scan.chosen_by_all.Goals as goal

@@ -1,3 +1,4 @@
+-- Left open: the clauses plain and known, and the loop's invariant; answered by laws of sq_expression and sq_condition.
 use Rattle.std.proofs.Common.{List, map, ap}
 use Rattle.sq_meaning.specs.Environment.{Row}
 use Rattle.sq_meaning.specs.Status.{Outcome, kept}

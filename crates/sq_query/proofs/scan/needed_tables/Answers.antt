@@ -1,12 +1,13 @@
+-- Left open: the clause reads, and that the loop keeps its invariant; answered by Added and others.
 use Rattle.std.proofs.Common.{[], subst, sym}
 use Rattle.sq_meaning.specs.Target.{has_subquery}
 use Rattle.sq_meaning.specs.WellFormed.{HasValue}
 use Rattle.sq_bound.specs.Condition.{cond_of}
 use Rattle.sq_bound.specs.declared.condition.BoundCond.{BoundCond}
 use Rattle.sq_query.specs.Needed.{NeedsNone, ReadsCond}
-use Rattle.sq_query.proofs.Added.{cond_known, none_known}
-use Rattle.sq_query.proofs.KnownConditions.{all_read, reads_more}
-use Rattle.sq_query.proofs.Levels.{lent_at, none_at}
+use Rattle.sq_query.proofs.Needs.Added.{cond_known, none_known}
+use Rattle.sq_query.proofs.Targets.KnownConditions.{all_read, reads_more}
+use Rattle.sq_query.proofs.Targets.Levels.{lent_at, none_at}
 use Rattle.sq_query.proofs.scan.needed_tables.Goals as goal
 
 pub loop-condition-init : goal.loop-condition-init

@@ -7,7 +7,7 @@ use Rattle.sq_bound.specs.Condition.{cond_of}
 use Rattle.sq_bound.specs.WellFormed.{TableKinds}
 use Rattle.sq_bound.specs.declared.condition.BoundCond.{BoundCond}
 use Rattle.sq_query.specs.Needed.{AreKnown, NeedsNone, ReadsCond}
-use Rattle.sq_query.proofs.KnownConditions.{ReadsIn}
+use Rattle.sq_query.proofs.Targets.KnownConditions.{ReadsIn}
 use Rattle.sq_query.proofs.scan.needed_tables.Given as goal
 
 abbrev pub invariant-loop-condition : goal.invariant-loop-condition

@@ -1,3 +1,4 @@
+-- Left open: the call of rows_meeting, and the clauses plain and meant; answered by KnownConditions.
 use Rattle.std.proofs.Common.{◌≡◌, ◌∙◌, [], List, false, map, ap, subst, sym}
 use Rattle.std.specs.Borrow.{Bor}
 use Rattle.std.specs.List.{list_any}
@@ -12,7 +13,7 @@ use Rattle.sq_expression.specs.Fault.{MeetsAs}
 use Rattle.sq_query.specs.Needed.{FindsConds}
 use Rattle.sq_query.specs.Table.{numbered_in}
 use Rattle.sq_query.specs.Target.{AreOnBase, chosen, is_true_of}
-use Rattle.sq_query.proofs.KnownConditions.{target_on_base}
+use Rattle.sq_query.proofs.Targets.KnownConditions.{target_on_base}
 use Rattle.sq_query.proofs.scan.rows_among.Goals as goal
 
 pub rows_meeting-requires : goal.rows_meeting-requires

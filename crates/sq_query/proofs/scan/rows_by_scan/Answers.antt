@@ -1,6 +1,7 @@
+-- Left open for rows_by_scan: the clauses plain and meant; answered by KnownConditions.
 use Rattle.sq_query.specs.Table.{stored_numbered}
 use Rattle.sq_query.specs.Target.{conditions_of}
-use Rattle.sq_query.proofs.KnownConditions.{rows_answer, target_on_base}
+use Rattle.sq_query.proofs.Targets.KnownConditions.{rows_answer, target_on_base}
 use Rattle.sq_query.proofs.scan.rows_by_scan.Goals as goal
 
 pub returns-clause-plain : goal.returns-clause-plain

@@ -1,3 +1,4 @@
+-- Left open: the call of tables_of, and the clauses plain and meant; answered by Fitting and KnownConditions.
 use Rattle.std.proofs.Common.{[], map, sym, Bor}
 use Rattle.std.specs.Prelude.{⊤}
 use Rattle.sq_meaning.specs.Status.{and_then}
@@ -7,8 +8,8 @@ use Rattle.sq_query.specs.Table.{bases_of, numbered_in}
 use Rattle.sq_query.specs.Target.{chosen, is_true_of}
 use Rattle.sq_expression.specs.declared.context.Context.{Context}
 use Rattle.sq_query.specs.declared.view.Tables.{Tables}
-use Rattle.sq_query.proofs.Fitting.{exact, fails_so}
-use Rattle.sq_query.proofs.KnownConditions.{all_conds_read_as, all_known_in, same_rows}
+use Rattle.sq_query.proofs.Needs.Fitting.{exact, fails_so}
+use Rattle.sq_query.proofs.Targets.KnownConditions.{all_conds_read_as, all_known_in, same_rows}
 use Rattle.sq_condition.proofs.Right.{means_as_same}
 use Rattle.sq_expression.proofs.Views.{handed_on_as, answered_fails}
 use Rattle.sq_query.proofs.scan.rows_meeting.Goals as goal

@@ -1,8 +1,9 @@
+-- Left open for add: the clause rows; answered by AddedRows.
 use Rattle.std.proofs.Common.{◌≡◌, ℕ, List, Bor, map, refl, subst, sym}
 use Rattle.sq_meaning.specs.Environment.{Row}
 use Rattle.sq_query.specs.Several.{added}
 use Rattle.sq_query.specs.Table.{numbered_row}
-use Rattle.sq_query.proofs.AddedRows.{put_there}
+use Rattle.sq_query.proofs.Keys.AddedRows.{put_there}
 use Rattle.sq_query.proofs.several.add.Goals as goal
 
 pub returns-in-Some-clause-rows : goal.returns-in-Some-clause-rows

@@ -1,10 +1,11 @@
+-- Left open for add_row_with: the clause rows; answered by AddedRows and OnlyOne.
 use Rattle.std.proofs.Common.{◌≡◌, ◌∙◌, ◌∷◌, [], ap, sym}
 use Rattle.sq_store.specs.Content.{table_at}
 use Rattle.sq_store.specs.Keys.{has_key, key_at, with_key}
 use Rattle.sq_store.proofs.Rises.{rows_rise_at}
 use Rattle.sq_query.specs.Table.{numbered_in, numbered_row}
-use Rattle.sq_query.proofs.AddedRows.{added_by_key, none_added}
-use Rattle.sq_query.proofs.OnlyOne.{at_most_one, distinct_at}
+use Rattle.sq_query.proofs.Keys.AddedRows.{added_by_key, none_added}
+use Rattle.sq_query.proofs.Keys.OnlyOne.{at_most_one, distinct_at}
 use Rattle.sq_query.proofs.several.add_row_with.Goals as goal
 
 pub returns-in-Some-clause-rows : goal.returns-in-Some-clause-rows

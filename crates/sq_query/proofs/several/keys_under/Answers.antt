@@ -1,6 +1,7 @@
+-- Left open for keys_under: the clause known; answered by KeysSearch.
 use Rattle.std.proofs.Common.{◌≡◌, ◌∙◌, true, ap, sym}
 use Rattle.sq_bound.specs.declared.names.Leaf.{Leaf}
-use Rattle.sq_query.proofs.KeysSearch.{keys_through_views}
+use Rattle.sq_query.proofs.Keys.KeysSearch.{keys_through_views}
 use Rattle.sq_query.proofs.several.keys_under.Goals as goal
 
 pub returns-then-get-clause-known : goal.returns-then-get-clause-known

@@ -1,8 +1,9 @@
+-- Left open for place_of: the clause place; answered by AddedRows.
 use Rattle.std.proofs.Common.{◌≡◌, ◌∙◌, ◌<◌, ℕ, Bor, ap, slice_index_or, subst, sym, take}
 use Rattle.std.proofs.lemmas.List.{take_all}
 use Rattle.std.specs.List.{AllByRecursion}
 use Rattle.sq_meaning.specs.Environment.{Row}
-use Rattle.sq_query.proofs.AddedRows.{placed_before, placed_last, placed_there}
+use Rattle.sq_query.proofs.Keys.AddedRows.{placed_before, placed_last, placed_there}
 use Rattle.sq_query.proofs.several.place_of.Goals as goal
 
 pub returns-then-number-next-clause-place : goal.returns-then-number-next-clause-place

@@ -1,3 +1,4 @@
+-- Left open: the calls of keys_under and rows_with, and the result; answered by KeyNames and others.
 use Rattle.std.proofs.Common.{ℕ, List, ◌∙◌, ap, sym, subst, Ok}
 use Rattle.std.specs.Prelude.{⊤}
 use Rattle.sq_meaning.specs.Status.{Outcome}
@@ -9,11 +10,11 @@ use Rattle.sq_expression.specs.Fault.{MeetsAs}
 use Rattle.sq_query.specs.Several.{AreKeysUnder, rows_with}
 use Rattle.sq_query.specs.Table.{numbered_in}
 use Rattle.sq_query.specs.Target.{conditions_of, rows_of_target}
-use Rattle.sq_query.proofs.KeyNames.{base_there}
-use Rattle.sq_query.proofs.KeyTests.{if_some}
-use Rattle.sq_query.proofs.KeyValues.{memory_meets}
-use Rattle.sq_query.proofs.KeysSearch.{few_chosen, found_as}
-use Rattle.sq_query.proofs.KnownConditions.{rows_answer, rows_fit, target_on_base}
+use Rattle.sq_query.proofs.Keys.KeyNames.{base_there}
+use Rattle.sq_query.proofs.Keys.KeyTests.{if_some}
+use Rattle.sq_query.proofs.Keys.KeyValues.{memory_meets}
+use Rattle.sq_query.proofs.Keys.KeysSearch.{few_chosen, found_as}
+use Rattle.sq_query.proofs.Targets.KnownConditions.{rows_answer, rows_fit, target_on_base}
 use Rattle.sq_query.proofs.several.rows_by_values.Goals as goal
 
 pub keys_under-requires : goal.keys_under-requires

@@ -1,3 +1,4 @@
+-- Left open for rows_with: the clause rows, and that the loop keeps its invariant; answered by AddedRows.
 use Rattle.std.proofs.Common.{◌∙◌, ℕ, List, Bor, ap, map, take}
 use Rattle.std.proofs.lemmas.List.{take_all}
 use Rattle.std.specs.Prelude.{filter}
@@ -6,7 +7,7 @@ use Rattle.sq_store.specs.Content.{table_at}
 use Rattle.sq_store.specs.Keys.{key_at}
 use Rattle.sq_query.specs.Several.{has_one_of}
 use Rattle.sq_query.specs.Table.{numbered_row}
-use Rattle.sq_query.proofs.AddedRows.{next_value, none_yet}
+use Rattle.sq_query.proofs.Keys.AddedRows.{next_value, none_yet}
 use Rattle.sq_query.proofs.several.rows_with.Goals as goal
 
 pub loop-value-init : goal.loop-value-init

@@ -1,10 +1,11 @@
+-- Left open for rows_by_key: the clause rows; answered by ViewPaths.
 use Rattle.std.proofs.Common.{◌≡◌, List}
 use Rattle.std.specs.Prelude.{IfOk}
 use Rattle.sq_meaning.specs.Environment.{Row}
 use Rattle.sq_meaning.specs.Status.{Outcome}
 use Rattle.sq_expression.specs.Frame.{lent, view_outcome}
 use Rattle.sq_query.specs.Search.{rows_by_key}
-use Rattle.sq_query.proofs.ViewPaths.{shown_alike}
+use Rattle.sq_query.proofs.PlainViews.ViewPaths.{shown_alike}
 use Rattle.sq_query.proofs.shown.rows_by_key.Goals as goal
 
 pub returns-clause-rows : goal.returns-clause-rows

@@ -1,9 +1,10 @@
+-- Left open for tables_by_shown_key: its result; answered by ReadTables and Searched.
 use Rattle.std.proofs.Common.{◌∷◌}
 use Rattle.sq_query.specs.Search.{rows_by_key}
 use Rattle.sq_query.specs.Shown.{shown_of}
 use Rattle.sq_query.specs.declared.view.Tables.{Tables}
-use Rattle.sq_query.proofs.ReadTables.{handed}
-use Rattle.sq_query.proofs.Searched.{read_with_view}
+use Rattle.sq_query.proofs.Needs.ReadTables.{handed}
+use Rattle.sq_query.proofs.Keys.Searched.{read_with_view}
 use Rattle.sq_query.proofs.shown.tables_by_shown_key.Goals as goal
 
 pub returns-in_err-tables : goal.returns-in_err-tables

@@ -1,3 +1,4 @@
+-- Left open: what the call of tables_by_shown_key asks for, and the result; answered by KeyNames and others.
 use Rattle.std.proofs.Common.{◌∷◌}
 use Rattle.sq_store.specs.Keys.{key_at}
 use Rattle.sq_meaning.specs.WellFormed.{HasValue}
@@ -6,13 +7,13 @@ use Rattle.sq_bound.specs.WellFormed.{base_kinds}
 use Rattle.sq_bound.specs.declared.condition.TablePlace.TheVariants.{View}
 use Rattle.sq_query.specs.Search.{rows_by_key}
 use Rattle.sq_query.specs.Shown.{IsViewSearch}
-use Rattle.sq_query.proofs.KeyNames.{element_at, place_there}
-use Rattle.sq_query.proofs.KeyTests.{if_some}
-use Rattle.sq_query.proofs.KnownConditions.{rows_fit}
-use Rattle.sq_query.proofs.Searched.{inside_read, only_read, where_stands}
-use Rattle.sq_query.proofs.TablesMeant.{tables_fit}
-use Rattle.sq_query.proofs.Thinned.{those_stored}
-use Rattle.sq_query.proofs.ThroughViews.{base_of_path, few_right, read_through}
+use Rattle.sq_query.proofs.Keys.KeyNames.{element_at, place_there}
+use Rattle.sq_query.proofs.Keys.KeyTests.{if_some}
+use Rattle.sq_query.proofs.Targets.KnownConditions.{rows_fit}
+use Rattle.sq_query.proofs.Keys.Searched.{inside_read, only_read, where_stands}
+use Rattle.sq_query.proofs.Needs.TablesMeant.{tables_fit}
+use Rattle.sq_query.proofs.PlainViews.Thinned.{those_stored}
+use Rattle.sq_query.proofs.PlainViews.ThroughViews.{base_of_path, few_right, read_through}
 use Rattle.sq_query.proofs.shown.tables_through_view.Goals as goal
 
 pub tables_by_shown_key-requires-clause-known : goal.tables_by_shown_key-requires-clause-known

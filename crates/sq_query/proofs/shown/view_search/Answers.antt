@@ -1,10 +1,11 @@
+-- Left open: the calls of base_under and shown_key, and the clause memory; answered by KeyNames and others.
 use Rattle.std.proofs.Common.{subst}
 use Rattle.sq_meaning.specs.WellFormed.{HasValue}
 use Rattle.sq_bound.specs.declared.condition.TablePlace.TheVariants.{View}
 use Rattle.sq_query.specs.Search.{IsOver}
-use Rattle.sq_query.proofs.KeyNames.{place_there}
-use Rattle.sq_query.proofs.Searched.{only_read, where_stands}
-use Rattle.sq_query.proofs.ThroughViews.{base_of_path}
+use Rattle.sq_query.proofs.Keys.KeyNames.{place_there}
+use Rattle.sq_query.proofs.Keys.Searched.{only_read, where_stands}
+use Rattle.sq_query.proofs.PlainViews.ThroughViews.{base_of_path}
 use Rattle.sq_query.proofs.shown.view_search.Goals as goal
 
 pub base_under-requires-clause-known : goal.base_under-requires-clause-known

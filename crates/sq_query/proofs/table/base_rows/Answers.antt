@@ -1,3 +1,4 @@
+-- Left open: the result, that no number overflows, the loop's invariant, and that the loop ends; answered by WalkedRows.
 use Rattle.std.proofs.Common.{◌≡◌, ◌+◌, ◌++◌, ◌<◌, List, map, length, None, Ok, arith, refl, rules, sym, ap, ◌∙◌, Bor}
 use Rattle.std.proofs.lemmas.List.{map_push}
 use Rattle.sq_store.specs.Content.{table_at, first_from}
@@ -8,7 +9,7 @@ use Rattle.sq_meaning.specs.Environment.{Row}
 use Rattle.sq_meaning.specs.Tables.{rows_in}
 use Rattle.sq_expression.specs.Frame.{lent}
 use Rattle.sq_store.proofs.Walk.{rows_from, rows_from_zero, walked, walked_below}
-use Rattle.sq_query.proofs.WalkedRows.{made_all, made_on, there_within, unnumbered_in_turn}
+use Rattle.sq_query.proofs.Targets.WalkedRows.{made_all, made_on, there_within, unnumbered_in_turn}
 use Rattle.sq_query.proofs.table.base_rows.Goals as goal
 
 pub overflow_add-number : goal.overflow_add-number

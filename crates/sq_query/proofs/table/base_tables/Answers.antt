@@ -1,10 +1,11 @@
+-- Left open: the clauses rows and none, and that the loop keeps its invariant; answered by Bases.
 use Rattle.std.proofs.Common.{◌≡◌, ◌<◌, ℕ, List, [], arith, length, slice_index, map, refl, sym, ap, ◌∙◌}
 use Rattle.std.proofs.lemmas.List.{get_or_default}
 use Rattle.sq_meaning.specs.Status.{each}
 use Rattle.sq_expression.specs.Group.{rows_of_line}
 use Rattle.sq_expression.specs.Frame.{lent}
 use Rattle.sq_query.specs.Table.{table_there, stored_rows, stored_base, base_seen, bases_in}
-use Rattle.sq_query.proofs.Bases.{all_same, with_its_place, no_place, base_more}
+use Rattle.sq_query.proofs.Needs.Bases.{all_same, with_its_place, no_place, base_more}
 use Rattle.sq_expression.proofs.Each.{after, after_start, each_done, each_failed, each_ends}
 use Rattle.sq_expression.proofs.Views.{handed_on_as, failed_as}
 use Rattle.sq_query.proofs.table.base_tables.Goals as goal

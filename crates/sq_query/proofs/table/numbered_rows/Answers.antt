@@ -1,3 +1,4 @@
+-- Left open: the result, that no number overflows, the loop's invariant, and that the loop ends; answered by WalkedRows.
 use Rattle.std.proofs.Common.{◌≡◌, ◌+◌, ◌++◌, ◌<◌, ℕ, List, map, length, None, Ok, arith, rules, ap, ◌∙◌, Bor}
 use Rattle.sq_store.specs.Content.{table_at, first_from}
 use Rattle.sq_store.specs.declared.table.Table.{Table}
@@ -5,7 +6,7 @@ use Rattle.sq_meaning.specs.Status.{Outcome, and_then}
 use Rattle.sq_meaning.specs.Environment.{Row}
 use Rattle.sq_query.specs.Table.{numbered_row}
 use Rattle.sq_store.proofs.Walk.{rows_from, rows_from_zero, walked, walked_below}
-use Rattle.sq_query.proofs.WalkedRows.{there_within, walked_all, walked_on}
+use Rattle.sq_query.proofs.Targets.WalkedRows.{there_within, walked_all, walked_on}
 use Rattle.sq_query.proofs.table.numbered_rows.Goals as goal
 
 pub overflow_add-number : goal.overflow_add-number

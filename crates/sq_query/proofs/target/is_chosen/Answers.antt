@@ -1,11 +1,12 @@
+-- Left open for is_chosen: the clauses meant and right; answered by Fitting, ReadRows and TargetRows.
 use Rattle.std.specs.Prelude.{⊤}
 use Rattle.sq_meaning.specs.WellFormed.{Answers}
 use Rattle.sq_meaning.proofs.AnswerLaws.{all_weaker}
 use Rattle.sq_query.specs.Row.{IsOnRow, truth_on_row}
 use Rattle.sq_query.specs.Target.{conditions_of}
-use Rattle.sq_query.proofs.Fitting.{ends_right}
-use Rattle.sq_query.proofs.ReadRows.{truth_answers}
-use Rattle.sq_query.proofs.TargetRows.{all_true_answers, conditions_on_row}
+use Rattle.sq_query.proofs.Needs.Fitting.{ends_right}
+use Rattle.sq_query.proofs.Needs.ReadRows.{truth_answers}
+use Rattle.sq_query.proofs.Targets.TargetRows.{all_true_answers, conditions_on_row}
 use Rattle.sq_query.proofs.target.is_chosen.Goals as goal
 
 pub returns-clause-meant : goal.returns-clause-meant

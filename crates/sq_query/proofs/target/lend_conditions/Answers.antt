@@ -1,4 +1,5 @@
-use Rattle.sq_query.proofs.Levels.{lent_more}
+-- Left open for lend_conditions: that the loop keeps its invariant; answered by Levels.
+use Rattle.sq_query.proofs.Targets.Levels.{lent_more}
 use Rattle.sq_query.proofs.target.lend_conditions.Goals as goal
 
 pub loop-condition-preserved : goal.loop-condition-preserved

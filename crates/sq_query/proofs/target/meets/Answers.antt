@@ -1,5 +1,6 @@
+-- Left open for meets: its result; answered by QuietTargets.
 use Rattle.sq_query.specs.Row.{truth_on_row}
-use Rattle.sq_query.proofs.QuietTargets.{one_chosen}
+use Rattle.sq_query.proofs.Targets.QuietTargets.{one_chosen}
 use Rattle.sq_query.proofs.target.meets.Goals as goal
 
 pub returns : goal.returns

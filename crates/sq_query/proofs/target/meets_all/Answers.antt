@@ -1,3 +1,4 @@
+-- Left open: the result, and that the loop keeps its invariant; answered by Levels and QuietTargets.
 use Rattle.std.proofs.Common.{◌≡◌, ◌≢◌, ◌∙◌, [], ap, refl, rules, sym, Ok}
 use Rattle.sq_value.specs.declared.truth.Truth.TheVariants.{True}
 use Rattle.sq_meaning.specs.Target.{has_subquery}
@@ -5,8 +6,8 @@ use Rattle.sq_bound.specs.Condition.{cond_of}
 use Rattle.sq_query.specs.Row.{truth_on_row}
 use Rattle.sq_query.specs.Target.{are_true}
 use Rattle.sq_expression.proofs.Expressions.{handed_on}
-use Rattle.sq_query.proofs.Levels.{level_true, level_not, level_failed, levels_end}
-use Rattle.sq_query.proofs.QuietTargets.{none_of}
+use Rattle.sq_query.proofs.Targets.Levels.{level_true, level_not, level_failed, levels_end}
+use Rattle.sq_query.proofs.Targets.QuietTargets.{none_of}
 use Rattle.sq_query.proofs.target.meets_all.Goals as goal
 
 pub loop-condition-init : goal.loop-condition-init

@@ -1,8 +1,9 @@
+-- Left open for meets_conditions: its result; answered by QuietTargets.
 use Rattle.std.proofs.Common.{◌≡◌, ◌∙◌, Bool, true, false, List, Option, Some, Ok, Err, ap, subst, sym}
 use Rattle.sq_bound.specs.declared.condition.BoundCond.{BoundCond}
 use Rattle.sq_bound.specs.declared.names.Leaf.{Leaf}
 use Rattle.sq_query.specs.Target.{IsChosen, and_own}
-use Rattle.sq_query.proofs.QuietTargets.{views_true, views_false, views_fail}
+use Rattle.sq_query.proofs.Targets.QuietTargets.{views_true, views_false, views_fail}
 use Rattle.sq_query.proofs.target.meets_conditions.Goals as goal
 
 pub returns-in_err-is_left-in-Some : goal.returns-in_err-is_left-in-Some

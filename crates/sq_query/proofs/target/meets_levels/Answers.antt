@@ -1,3 +1,4 @@
+-- Left open: the call of truth_with_tables, the clauses plain, meant and none, and the loop's invariant; answered by Levels.
 use Rattle.std.proofs.Common.{◌≡◌, ◌≢◌, ◌∙◌, ◌∷◌, [], List, map, ap, false, true, refl, rules, subst, sym, Ok}
 use Rattle.std.specs.List.{AllByRecursion, list_any}
 use Rattle.std.specs.Borrow.{Bor}
@@ -12,7 +13,7 @@ use Rattle.sq_query.specs.Needed.{ReadsCond}
 use Rattle.sq_query.specs.Row.{IsOnRow, outside, truth_on_row}
 use Rattle.sq_query.specs.Target.{conditions_of, are_true}
 use Rattle.sq_expression.proofs.Expressions.{handed_on}
-use Rattle.sq_query.proofs.Levels.{level_true, level_not, level_failed, levels_end, lent_at, none_at, chosen_by, told_by}
+use Rattle.sq_query.proofs.Targets.Levels.{level_true, level_not, level_failed, levels_end, lent_at, none_at, chosen_by, told_by}
 use Rattle.sq_query.proofs.target.meets_levels.Goals as goal
 
 pub loop-condition-init : goal.loop-condition-init

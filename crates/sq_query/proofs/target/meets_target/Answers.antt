@@ -1,4 +1,5 @@
-use Rattle.sq_query.proofs.QuietTargets.{quiet_meant}
+-- Left open for meets_target: the clause meant; answered by QuietTargets.
+use Rattle.sq_query.proofs.Targets.QuietTargets.{quiet_meant}
 use Rattle.sq_query.proofs.target.meets_target.Goals as goal
 
 pub returns-then-target-clause-meant : goal.returns-then-target-clause-meant

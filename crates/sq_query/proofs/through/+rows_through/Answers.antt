@@ -1,3 +1,4 @@
+-- Left open: what the call of rows_through asks for, and the clause rows; answered by KeyTests and others.
 use Rattle.std.proofs.Common.{◌≡◌, ◌∙◌, rules, List, ℕ, [], ◌∷◌, arith, ◌<◌, refl, subst, sym, Ok}
 use Rattle.sq_meaning.specs.Environment.{Row}
 use Rattle.sq_meaning.specs.Status.{Outcome}
@@ -6,10 +7,10 @@ use Rattle.sq_expression.specs.Frame.{lent}
 use Rattle.sq_query.specs.Search.{IsOver}
 use Rattle.sq_query.specs.Shown.{AreRight, IsPath, shown_of}
 use Rattle.sq_query.specs.Table.{rows_among}
-use Rattle.sq_query.proofs.KeyTests.{if_some}
-use Rattle.sq_query.proofs.KnownKeys.{not_none}
-use Rattle.sq_query.proofs.Searched.{own_first, view_first, with_own}
-use Rattle.sq_query.proofs.ViewPaths.{IsShownOf, few_of, next_view, no_view_next, rows_shown_of, under_earlier, under_known}
+use Rattle.sq_query.proofs.Keys.KeyTests.{if_some}
+use Rattle.sq_query.proofs.Keys.KnownKeys.{not_none}
+use Rattle.sq_query.proofs.Keys.Searched.{own_first, view_first, with_own}
+use Rattle.sq_query.proofs.PlainViews.ViewPaths.{IsShownOf, few_of, next_view, no_view_next, rows_shown_of, under_earlier, under_known}
 use Rattle.sq_query.proofs.through.+rows_through.Goals as goal
 
 pub rows_through-requires : goal.rows_through-requires

@@ -1,3 +1,4 @@
+-- Left open for rows_over: the clause rows; answered by KnownKeys and ShownRows.
 use Rattle.std.proofs.Common.{◌≡◌, subst, sym}
 use Rattle.std.specs.Prelude.{IfOk}
 use Rattle.sq_bound.specs.Condition.{select_of}
@@ -6,8 +7,8 @@ use Rattle.sq_expression.specs.Fault.{IsRight}
 use Rattle.sq_expression.specs.Frame.{view_outcome}
 use Rattle.sq_query.specs.Needed.{ReadsSelect}
 use Rattle.sq_query.specs.Table.{rows_among, rows_of_view}
-use Rattle.sq_query.proofs.KnownKeys.{same_some}
-use Rattle.sq_query.proofs.ShownRows.{plain_reads}
+use Rattle.sq_query.proofs.Keys.KnownKeys.{same_some}
+use Rattle.sq_query.proofs.PlainViews.ShownRows.{plain_reads}
 use Rattle.sq_query.proofs.through.rows_over.Goals as goal
 
 pub returns-clause-rows : goal.returns-clause-rows

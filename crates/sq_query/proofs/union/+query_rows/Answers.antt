@@ -1,11 +1,12 @@
+-- Left open: the calls of term_rows and 2 more, the results, and the loop's invariant; answered by QuerySizes, ReadRows and UnionRows.
 use Rattle.std.proofs.Common.{ap, arith, rules, sym, ◌∙◌}
 use Rattle.std.specs.Prelude.{option_copied}
 use Rattle.sq_bound.specs.declared.query.BoundTerm.TheVariants.{Bracketed}
 use Rattle.sq_query.specs.Search.{IsReadable}
 use Rattle.sq_query.specs.Union.{rows_behind}
-use Rattle.sq_query.proofs.QuerySizes.{bracketed_smaller, first_smaller, union_smaller}
-use Rattle.sq_query.proofs.ReadRows.{fitting}
-use Rattle.sq_query.proofs.UnionRows.{AreFittingThere, all_meant, first_failed, first_meant, in_first, in_union, join_failed, next_left, next_meant, of_bracketed, of_specification, rows_of_bracketed, rows_of_select_term, term_failed, union_handed_on}
+use Rattle.sq_query.proofs.ByUnion.QuerySizes.{bracketed_smaller, first_smaller, union_smaller}
+use Rattle.sq_query.proofs.Needs.ReadRows.{fitting}
+use Rattle.sq_query.proofs.ByUnion.UnionRows.{AreFittingThere, all_meant, first_failed, first_meant, in_first, in_union, join_failed, next_left, next_meant, of_bracketed, of_specification, rows_of_bracketed, rows_of_select_term, term_failed, union_handed_on}
 use Rattle.sq_query.proofs.union.+query_rows.Goals as goal
 
 pub query_rows-loop-union-init : goal.query_rows-loop-union-init

@@ -1,7 +1,7 @@
 use Rattle.std.specs.Prelude.{option_copied}
 use Rattle.sq_query.specs.Union.{rows_behind}
-use Rattle.sq_query.proofs.QuerySizes.{query_size, term_size}
-use Rattle.sq_query.proofs.UnionRows.{AreLeft, AreMeant}
+use Rattle.sq_query.proofs.ByUnion.QuerySizes.{query_size, term_size}
+use Rattle.sq_query.proofs.ByUnion.UnionRows.{AreLeft, AreMeant}
 use Rattle.sq_query.proofs.union.+query_rows.Given as goal
 
 abbrev pub decreases-query_rows : goal.decreases-query_rows

@@ -1,8 +1,9 @@
+-- Left open for all_stay: its result; answered by BroughtRows.
 use Rattle.std.proofs.Common.{◌≡◌, length, true, rules, sym, ◌∙◌}
 use Rattle.std.proofs.lemmas.Iterator.{YieldsList-from_slice, YieldsList-from_zip}
 use Rattle.std.proofs.lemmas.Iterator.Search.{all_from_yields_List}
 use Rattle.sq_query.specs.Union.{stays}
-use Rattle.sq_query.proofs.BroughtRows.{pairs_stay}
+use Rattle.sq_query.proofs.ByUnion.BroughtRows.{pairs_stay}
 use Rattle.sq_query.proofs.union.all_stay.Goals as goal
 
 pub returns-then-before-columns : goal.returns-then-before-columns

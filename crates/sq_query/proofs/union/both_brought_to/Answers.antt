@@ -1,11 +1,12 @@
+-- Left open for both_brought_to: its result; answered by BroughtRows, JoinedTerms and UnionRows.
 use Rattle.std.proofs.Common.{subst}
 use Rattle.sq_meaning.specs.QueryExpression.{row_brought_to}
 use Rattle.sq_bound.specs.WellFormed.{kinds_of_results}
 use Rattle.sq_expression.specs.Fault.{HasRows, rows_in}
 use Rattle.sq_query.specs.Union.{IsBringable}
-use Rattle.sq_query.proofs.BroughtRows.{both_after, left_ends}
-use Rattle.sq_query.proofs.JoinedTerms.{all_left, all_right}
-use Rattle.sq_query.proofs.UnionRows.{passed_on}
+use Rattle.sq_query.proofs.ByUnion.BroughtRows.{both_after, left_ends}
+use Rattle.sq_query.proofs.ByUnion.JoinedTerms.{all_left, all_right}
+use Rattle.sq_query.proofs.ByUnion.UnionRows.{passed_on}
 use Rattle.sq_query.proofs.union.both_brought_to.Goals as goal
 
 pub returns-in-Ok : goal.returns-in-Ok

@@ -1,3 +1,4 @@
+-- Left open for row_made_for: its result, and that the loop keeps its invariant; answered by Unions.
 use Rattle.std.proofs.Common.{◌≡◌, ◌≤◌, ℕ, length, drop, map, arith, rules, sym, ap, subst, ◌∙◌}
 use Rattle.std.proofs.lemmas.Iterator.{YieldsList-from_slice, YieldsList-from_zip}
 use Rattle.std.proofs.lemmas.Iterator.Adapters.{YieldsList-from_vec}
@@ -12,7 +13,7 @@ use Rattle.sq_bound.specs.declared.condition.ResultColumn.{ResultColumn}
 use Rattle.sq_query.specs.Union.{MayBeBrought}
 use Rattle.sq_expression.proofs.Each.{after, after_start, each_done, each_failed, each_ends}
 use Rattle.sq_expression.proofs.Expressions.{handed_on}
-use Rattle.sq_query.proofs.Unions.{pair_brought, of_kind, kinds_zipped, all_kinds_at, one_more}
+use Rattle.sq_query.proofs.ByUnion.Unions.{pair_brought, of_kind, kinds_zipped, all_kinds_at, one_more}
 use Rattle.sq_query.proofs.union.row_made_for.Goals as goal
 
 pub loop-column-init : goal.loop-column-init

@@ -5,7 +5,7 @@ use Rattle.sq_meaning.specs.Status.{each}
 use Rattle.sq_bound.specs.WellFormed.{kinds_of_results}
 use Rattle.sq_expression.proofs.Each.{after}
 use Rattle.sq_query.specs.Union.{IsBringable}
-use Rattle.sq_query.proofs.Unions.{pair_brought, of_kind}
+use Rattle.sq_query.proofs.ByUnion.Unions.{pair_brought, of_kind}
 use Rattle.sq_query.proofs.union.row_made_for.Given as goal
 
 abbrev pub invariant-loop-column : goal.invariant-loop-column

@@ -1,3 +1,4 @@
+-- Left open: the result, and that the loop keeps its invariant; answered by Bases, BroughtRows and Unions.
 use Rattle.std.proofs.Common.{◌≡◌, ◌≤◌, ℕ, List, drop, length, map, arith, rules, sym, ap, subst, Err, ◌∙◌}
 use Rattle.std.proofs.lemmas.Iterator.Adapters.{YieldsList-from_vec}
 use Rattle.std.proofs.lemmas.Iterator.Consumers.{YieldsList-turn, YieldsList-end}
@@ -7,10 +8,10 @@ use Rattle.sq_meaning.specs.Status.{each}
 use Rattle.sq_bound.specs.WellFormed.{kinds_of_results}
 use Rattle.sq_expression.specs.Fault.{Meets, rows_in}
 use Rattle.sq_query.specs.Union.{IsBringable}
-use Rattle.sq_query.proofs.Bases.{all_same}
-use Rattle.sq_query.proofs.BroughtRows.{after_is}
+use Rattle.sq_query.proofs.Needs.Bases.{all_same}
+use Rattle.sq_query.proofs.ByUnion.BroughtRows.{after_is}
 use Rattle.sq_expression.proofs.Each.{after, each_done, each_failed, each_ends}
-use Rattle.sq_query.proofs.Unions.{all_at, one_more}
+use Rattle.sq_query.proofs.ByUnion.Unions.{all_at, one_more}
 use Rattle.sq_expression.proofs.Views.{handed_on_as}
 use Rattle.sq_query.proofs.union.with_brought.Goals as goal
 

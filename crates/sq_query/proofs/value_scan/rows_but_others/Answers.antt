@@ -1,3 +1,4 @@
+-- Left open: the clause rows, that no number overflows, the loop's invariant, and that the loop ends; answered by WalkedRows.
 use Rattle.std.proofs.Common.{◌≡◌, ◌∙◌, ◌+◌, ◌++◌, [], ◌∷◌, List, None, Bor, length, arith, ap, refl, rules}
 use Rattle.sq_store.specs.Content.{first_from, table_at}
 use Rattle.sq_store.specs.declared.table.Numbered.{Numbered}
@@ -5,7 +6,7 @@ use Rattle.sq_store.proofs.Walk.{rows_from, rows_from_zero, walked, walked_below
 use Rattle.sq_meaning.specs.Environment.{Row}
 use Rattle.sq_expression.specs.Frame.{lent}
 use Rattle.sq_query.specs.ValueScan.{may_have}
-use Rattle.sq_query.proofs.WalkedRows.{made_all, made_on, passing, passing_in_turn, pushed_if}
+use Rattle.sq_query.proofs.Targets.WalkedRows.{made_all, made_on, passing, passing_in_turn, pushed_if}
 use Rattle.sq_query.proofs.value_scan.rows_but_others.Goals as goal
 
 pub overflow_add-number : goal.overflow_add-number

@@ -3,7 +3,7 @@ use Rattle.sq_store.specs.Content.{table_at}
 use Rattle.sq_store.proofs.Walk.{rows_from}
 use Rattle.sq_expression.specs.Frame.{lent}
 use Rattle.sq_query.specs.ValueScan.{may_have, rows_that_may}
-use Rattle.sq_query.proofs.WalkedRows.{passing}
+use Rattle.sq_query.proofs.Targets.WalkedRows.{passing}
 use Rattle.sq_query.proofs.value_scan.rows_but_others.Given as goal
 
 abbrev pub decreases-loop-found : goal.decreases-loop-found

@@ -1,4 +1,5 @@
-use Rattle.sq_query.proofs.KeyValues.{handed_memory}
+-- Left open for scan_of_table: the clause memory; answered by KeyValues.
+use Rattle.sq_query.proofs.Keys.KeyValues.{handed_memory}
 use Rattle.sq_query.proofs.value_scan.scan_of_table.Goals as goal
 
 pub returns-in_err-value-clause-memory : goal.returns-in_err-value-clause-memory

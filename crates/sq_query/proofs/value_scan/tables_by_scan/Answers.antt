@@ -1,13 +1,14 @@
+-- Left open: what the call of tables_of_scan asks for, and the result; answered by KeyNames and others.
 use Rattle.std.proofs.Common.{[], ◌∷◌, refl}
 use Rattle.sq_meaning.specs.WellFormed.{HasValue}
 use Rattle.sq_query.specs.ValueScan.{IsValueScan, rows_that_may}
 use Rattle.sq_query.specs.declared.view.Tables.{Tables}
-use Rattle.sq_query.proofs.KeyNames.{place_there}
-use Rattle.sq_query.proofs.KeyTests.{if_some}
-use Rattle.sq_query.proofs.ReadTables.{handed}
-use Rattle.sq_query.proofs.Searched.{answered_memory, only_read, where_stands}
-use Rattle.sq_query.proofs.TablesMeant.{tables_fit}
-use Rattle.sq_query.proofs.ThroughViews.{base_known, few_right, read_alone}
+use Rattle.sq_query.proofs.Keys.KeyNames.{place_there}
+use Rattle.sq_query.proofs.Keys.KeyTests.{if_some}
+use Rattle.sq_query.proofs.Needs.ReadTables.{handed}
+use Rattle.sq_query.proofs.Keys.Searched.{answered_memory, only_read, where_stands}
+use Rattle.sq_query.proofs.Needs.TablesMeant.{tables_fit}
+use Rattle.sq_query.proofs.PlainViews.ThroughViews.{base_known, few_right, read_alone}
 use Rattle.sq_query.proofs.value_scan.tables_by_scan.Goals as goal
 
 pub tables_of_scan-requires : goal.tables_of_scan-requires

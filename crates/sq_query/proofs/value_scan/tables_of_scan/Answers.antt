@@ -1,10 +1,11 @@
+-- Left open for tables_of_scan: its result; answered by ValueScans and ViewPaths.
 use Rattle.std.proofs.Common.{◌≡◌, ◌∷◌, [], List}
 use Rattle.sq_meaning.specs.Environment.{Row}
 use Rattle.sq_meaning.specs.Status.{Outcome}
 use Rattle.sq_expression.specs.Frame.{lent, view_outcome}
 use Rattle.sq_query.specs.ValueScan.{rows_that_may}
-use Rattle.sq_query.proofs.ValueScans.{base_read, view_read}
-use Rattle.sq_query.proofs.ViewPaths.{shown_alike}
+use Rattle.sq_query.proofs.PlainViews.ValueScans.{base_read, view_read}
+use Rattle.sq_query.proofs.PlainViews.ViewPaths.{shown_alike}
 use Rattle.sq_query.proofs.value_scan.tables_of_scan.Goals as goal
 
 pub returns-in-Base : goal.returns-in-Base

@@ -1,8 +1,9 @@
+-- Left open for value_of_first: the clause memory; answered by KeyNames and KeyValues.
 use Rattle.std.proofs.Common.{List, ℕ, subst}
 use Rattle.sq_bound.specs.Keyed.{IsShortestKey}
 use Rattle.sq_query.specs.Key.{AreFirstTests}
-use Rattle.sq_query.proofs.KeyNames.{only_named}
-use Rattle.sq_query.proofs.KeyValues.{first_tests_valued}
+use Rattle.sq_query.proofs.Keys.KeyNames.{only_named}
+use Rattle.sq_query.proofs.Keys.KeyValues.{first_tests_valued}
 use Rattle.sq_query.proofs.value_scan.value_of_first.Goals as goal
 
 pub returns-in-Some-clause-memory : goal.returns-in-Some-clause-memory

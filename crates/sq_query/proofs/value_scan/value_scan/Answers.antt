@@ -1,3 +1,4 @@
+-- Left open: what the call of scan_of_table asks for, and the clauses found and memory; answered by Searched.
 use Rattle.std.proofs.Common.{Result, Option, None, Some, refl, subst, sym, ◌≡◌, Ok, Err}
 use Rattle.std.specs.Prelude.{IfOk, IfSome}
 use Rattle.sq_meaning.specs.WellFormed.{HasValue}
@@ -5,7 +6,7 @@ use Rattle.sq_expression.specs.declared.fault.Fault.{Fault}
 use Rattle.sq_query.specs.Search.{IsOver}
 use Rattle.sq_query.specs.ValueScan.{IsScanOf, IsValueScan}
 use Rattle.sq_query.specs.declared.value_scan.ValueScan.{ValueScan}
-use Rattle.sq_query.proofs.Searched.{only_read, where_stands}
+use Rattle.sq_query.proofs.Keys.Searched.{only_read, where_stands}
 use Rattle.sq_query.proofs.value_scan.value_scan.Goals as goal
 
 -- a scan of which more is known

@@ -1,3 +1,4 @@
+-- Left open for tables_at: the clauses meant and none; answered by ReadTables and TablesMeant.
 use Rattle.std.proofs.Common.{◌≡◌, Vec, ◌∙◌, [], ap, sym, subst}
 use Rattle.sq_meaning.specs.Status.{each}
 use Rattle.sq_bound.specs.declared.condition.TablePlace.TheVariants.{Base}
@@ -6,8 +7,8 @@ use Rattle.std.specs.declared.alloc.Global.{Global}
 use Rattle.sq_query.specs.Table.{ReadsAsMeant, bases_in, rows_among, stored_base}
 use Rattle.sq_expression.specs.declared.table.BaseRows.{BaseRows}
 use Rattle.std.proofs.Common.{List, ℕ}
-use Rattle.sq_query.proofs.ReadTables.{answered_as, bases_read, bases_there, handed}
-use Rattle.sq_query.proofs.TablesMeant.{known_right}
+use Rattle.sq_query.proofs.Needs.ReadTables.{answered_as, bases_read, bases_there, handed}
+use Rattle.sq_query.proofs.Needs.TablesMeant.{known_right}
 use Rattle.sq_query.proofs.view.tables_at.Goals as goal
 
 pub returns-in-Ok-clause-meant : goal.returns-in-Ok-clause-meant

@@ -1,9 +1,10 @@
+-- Left open: what the call of add_of_views asks for, and the clauses meant and none; answered by ReadTables.
 use Rattle.std.proofs.Common.{◌≡◌, Result, subst, sym}
 use Rattle.std.specs.Prelude.{IfOk}
 use Rattle.std.specs.declared.alloc.AllocError.{AllocError}
 use Rattle.sq_query.specs.Needed.{AreKnown, NeedsNone}
 use Rattle.sq_query.specs.declared.needed.Needed.{Needed}
-use Rattle.sq_query.proofs.ReadTables.{first_read}
+use Rattle.sq_query.proofs.Needs.ReadTables.{first_read}
 use Rattle.sq_query.proofs.view.tables_of.Goals as goal
 
 pub add_of_views-requires-clause-known : goal.add_of_views-requires-clause-known

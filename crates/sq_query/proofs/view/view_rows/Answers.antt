@@ -1,5 +1,6 @@
+-- Left open for view_rows: the clause meant; answered by ReadTables.
 use Rattle.sq_query.specs.Table.{rows_of_view}
-use Rattle.sq_query.proofs.ReadTables.{rows_of_known}
+use Rattle.sq_query.proofs.Needs.ReadTables.{rows_of_known}
 use Rattle.sq_query.proofs.view.view_rows.Goals as goal
 
 pub returns-clause-meant : goal.returns-clause-meant

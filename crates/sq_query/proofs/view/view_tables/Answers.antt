@@ -1,11 +1,12 @@
+-- Left open: the call of view_at, the clause meant, and the loop's invariant; answered by Added and others.
 use Rattle.std.proofs.Common.{◌∙◌, ◌+◌, ◌<◌, arith, true≢false, Vec, ap, sym, subst}
 use Rattle.std.specs.List.{list_any}
 use Rattle.std.specs.declared.alloc.Global.{Global}
 use Rattle.sq_bound.specs.declared.condition.TablePlace.TheVariants.{View}
 use Rattle.sq_query.specs.Needed.{IsNeeded}
 use Rattle.sq_expression.specs.declared.table.ViewRows.{ViewRows}
-use Rattle.sq_query.proofs.Added.{is}
-use Rattle.sq_query.proofs.ReadTables.{AreBelow, ReadBelow, all_read_by, below_more, below_with, place_read, read_skipped}
+use Rattle.sq_query.proofs.Needs.Added.{is}
+use Rattle.sq_query.proofs.Needs.ReadTables.{AreBelow, ReadBelow, all_read_by, below_more, below_with, place_read, read_skipped}
 use Rattle.sq_query.proofs.view.view_tables.Goals as goal
 use Rattle.sq_query.proofs.view.view_tables.Goals.{else-loop-place-test, then-loop-place-test+else-place-place-end, then-is_among+in_ok-view_rows+in_ok-push, else-is_among}
 

@@ -5,7 +5,7 @@ use Rattle.sq_bound.specs.declared.condition.TablePlace.{TablePlace}
 use Rattle.sq_bound.specs.declared.condition.TablePlace.TheVariants.{Base}
 use Rattle.sq_query.specs.Needed.{IsNeeded}
 use Rattle.sq_query.specs.Table.{CanBeRead, rows_among}
-use Rattle.sq_query.proofs.ReadTables.{AreBelow, ReadBelow}
+use Rattle.sq_query.proofs.Needs.ReadTables.{AreBelow, ReadBelow}
 use Rattle.sq_query.proofs.view.view_tables.Given as goal
 
 abbrev pub invariant-loop-place : goal.invariant-loop-place

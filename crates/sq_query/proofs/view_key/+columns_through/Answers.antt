@@ -1,3 +1,4 @@
+-- Left open: what the call of columns_through asks for, and the result; answered by KeyTests and others.
 use Rattle.std.proofs.Common.{rules, List, ℕ, ◌∷◌, arith, ◌<◌, subst, sym}
 use Rattle.std.specs.Prelude.{IfOk, IfSome, IsSomeAnd}
 use Rattle.std.specs.List.{AllZip}
@@ -5,9 +6,9 @@ use Rattle.sq_bound.specs.declared.condition.TablePlace.TheVariants.{View}
 use Rattle.sq_bound.specs.declared.expression.BoundExpr.{BoundExpr}
 use Rattle.sq_query.specs.Search.{IsOver}
 use Rattle.sq_query.specs.Shown.{AreShown, IsPath, Shows}
-use Rattle.sq_query.proofs.KeyTests.{if_some}
-use Rattle.sq_query.proofs.KnownKeys.{not_none}
-use Rattle.sq_query.proofs.ViewPaths.{next_view, no_view_next, shown_first, shown_next, under_earlier, under_known}
+use Rattle.sq_query.proofs.Keys.KeyTests.{if_some}
+use Rattle.sq_query.proofs.Keys.KnownKeys.{not_none}
+use Rattle.sq_query.proofs.PlainViews.ViewPaths.{next_view, no_view_next, shown_first, shown_next, under_earlier, under_known}
 use Rattle.sq_query.proofs.view_key.+columns_through.Goals as goal
 
 pub columns_through-requires : goal.columns_through-requires

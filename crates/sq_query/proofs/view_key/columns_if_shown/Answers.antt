@@ -1,8 +1,9 @@
+-- Left open for columns_if_shown: its result; answered by ViewPaths.
 use Rattle.std.proofs.Common.{List, ℕ, subst}
 use Rattle.std.specs.Prelude.{IfOk, IfSome}
 use Rattle.std.specs.List.{AllZip}
 use Rattle.sq_query.specs.Shown.{Shows}
-use Rattle.sq_query.proofs.ViewPaths.{some_zipped}
+use Rattle.sq_query.proofs.PlainViews.ViewPaths.{some_zipped}
 use Rattle.sq_query.proofs.view_key.columns_if_shown.Goals as goal
 
 pub returns-in-Some : goal.returns-in-Some

@@ -1,8 +1,9 @@
+-- Left open for key_by_shown: the clause memory; answered by KeyNames and KeyValues.
 use Rattle.std.proofs.Common.{List, ℕ, subst}
 use Rattle.sq_bound.specs.Keyed.{IsShortestKey}
 use Rattle.sq_query.specs.Key.{AreFirstTests}
-use Rattle.sq_query.proofs.KeyNames.{only_named}
-use Rattle.sq_query.proofs.KeyValues.{first_tests_valued}
+use Rattle.sq_query.proofs.Keys.KeyNames.{only_named}
+use Rattle.sq_query.proofs.Keys.KeyValues.{first_tests_valued}
 use Rattle.sq_query.proofs.view_key.key_by_shown.Goals as goal
 
 pub returns-in-Some-clause-memory : goal.returns-in-Some-clause-memory

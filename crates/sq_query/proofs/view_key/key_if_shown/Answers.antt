@@ -1,9 +1,10 @@
+-- Left open for key_if_shown: the clause known; answered by KeyTests and ViewPaths.
 use Rattle.std.proofs.Common.{◌≡◌, ◌∷◌, List, [], ℕ, get_or, subst}
 use Rattle.std.proofs.lemmas.List.{get_or_read}
 use Rattle.sq_store.specs.Keys.{keys_at}
 use Rattle.sq_query.specs.Shown.{AreShown}
-use Rattle.sq_query.proofs.KeyTests.{if_some}
-use Rattle.sq_query.proofs.ViewPaths.{key_shown}
+use Rattle.sq_query.proofs.Keys.KeyTests.{if_some}
+use Rattle.sq_query.proofs.PlainViews.ViewPaths.{key_shown}
 use Rattle.sq_query.proofs.view_key.key_if_shown.Goals as goal
 
 pub returns-in-Some-clause-known : goal.returns-in-Some-clause-known

@@ -1,7 +1,8 @@
+-- Left open for shown_columns: its result, and that the loop keeps its invariant; answered by KeyTests.
 use Rattle.std.proofs.Common.{[], get_or, subst, sym}
 use Rattle.std.specs.List.{AllZip}
 use Rattle.sq_query.specs.Shown.{Shows}
-use Rattle.sq_query.proofs.KeyTests.{if_some, zip_all, zip_more}
+use Rattle.sq_query.proofs.Keys.KeyTests.{if_some, zip_all, zip_more}
 use Rattle.sq_query.proofs.view_key.shown_columns.Goals as goal
 
 pub loop-column-init : goal.loop-column-init

@@ -1,4 +1,5 @@
-use Rattle.sq_query.proofs.KeyValues.{handed_memory}
+-- Left open for shown_key: the clause memory; answered by KeyValues.
+use Rattle.sq_query.proofs.Keys.KeyValues.{handed_memory}
 use Rattle.sq_query.proofs.view_key.shown_key.Goals as goal
 
 pub returns-in_err-known-clause-memory : goal.returns-in_err-known-clause-memory

@@ -1,3 +1,4 @@
+-- Left open for run: the clauses answers, trees, laws and faults; answered by Accepts, FaultLaws and others.
 use Rattle.sq_perform.specs.Texts.{texts}
 use Rattle.sq_run.proofs.Texts.Accepts.{answers}
 use Rattle.sq_run.proofs.Texts.FaultLaws.{faults_answer}

@@ -1,16 +1,17 @@
+-- Left open: the calls of index and perform_statement, the result, and the clauses step and read; answered by After, Ending and others.
 use Rattle.std.proofs.Common.{refl, sym, ◌∙◌}
 use Rattle.sq_catalog.specs.Catalog.{column_kinds}
 use Rattle.sq_module.specs.declared.program.BoundProcedure.{BoundProcedure}
 use Rattle.sq_module.specs.declared.program.ProcedureName.{ProcedureName}
 use Rattle.sq_session.specs.Schemas.{schemas_of}
 use Rattle.sq_session.specs.Step.{EndsRight, ending}
-use Rattle.sq_session.proofs.After.{after}
-use Rattle.sq_session.proofs.Ending.{all_if}
-use Rattle.sq_session.proofs.Found.{asked_at, no_kind_is}
-use Rattle.sq_session.proofs.Named.{entry_of, fits_are, fits_there, kind_is}
-use Rattle.sq_session.proofs.Metering.{call_read}
-use Rattle.sq_session.proofs.Read.{as_read}
-use Rattle.sq_session.proofs.Reading.{has_tables}
+use Rattle.sq_session.proofs.Lasting.After.{after}
+use Rattle.sq_session.proofs.Calls.Ending.{all_if}
+use Rattle.sq_session.proofs.Calls.Found.{asked_at, no_kind_is}
+use Rattle.sq_session.proofs.Calls.Named.{entry_of, fits_are, fits_there, kind_is}
+use Rattle.sq_session.proofs.Calls.Metering.{call_read}
+use Rattle.sq_session.proofs.Calls.Read.{as_read}
+use Rattle.sq_session.proofs.Calls.Reading.{has_tables}
 use Rattle.sq_session.proofs.call.call.Goals as goal
 
 pub index-procedure-requires : goal.index-procedure-requires

@@ -1,9 +1,10 @@
+-- Left open: the call of close, and the clauses left and performed; answered by After, Metering and Over.
 use Rattle.std.proofs.Common.{arith}
 use Rattle.sq_catalog.specs.Catalog.{column_kinds}
 use Rattle.sq_session.specs.Step.{ending}
-use Rattle.sq_session.proofs.After.{committed_legal, rolled_back_legal, still_legal}
-use Rattle.sq_session.proofs.Metering.{however}
-use Rattle.sq_session.proofs.Over.{as_many}
+use Rattle.sq_session.proofs.Lasting.After.{committed_legal, rolled_back_legal, still_legal}
+use Rattle.sq_session.proofs.Calls.Metering.{however}
+use Rattle.sq_session.proofs.OpenCursors.Over.{as_many}
 use Rattle.sq_session.proofs.call.perform_statement.Goals as goal
 
 pub close-requires : goal.close-requires

@@ -1,9 +1,10 @@
+-- Left open for performed_with: the clauses left and performed; answered by After, Ending and Metering.
 use Rattle.std.proofs.Common.{refl}
 use Rattle.sq_catalog.specs.Catalog.{column_kinds}
 use Rattle.sq_session.specs.Step.{ending}
-use Rattle.sq_session.proofs.After.{still_legal}
-use Rattle.sq_session.proofs.Ending.{also_if}
-use Rattle.sq_session.proofs.Metering.{however}
+use Rattle.sq_session.proofs.Lasting.After.{still_legal}
+use Rattle.sq_session.proofs.Calls.Ending.{also_if}
+use Rattle.sq_session.proofs.Calls.Metering.{however}
 use Rattle.sq_session.proofs.call.performed_with.Goals as goal
 
 pub returns-in-Open-clause-left : goal.returns-in-Open-clause-left

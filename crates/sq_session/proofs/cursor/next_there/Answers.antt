@@ -1,8 +1,9 @@
+-- Left open for next_there: the clauses next and row; answered by NextNumber.
 use Rattle.std.proofs.Common.{ap, drop, is_some, ◌∙◌}
 use Rattle.std.specs.Option.{option_map}
 use Rattle.sq_store.specs.Content.{table_at}
 use Rattle.sq_store.specs.declared.table.Numbered.{Numbered}
-use Rattle.sq_session.proofs.NextNumber.{left_is, none_there, reached}
+use Rattle.sq_session.proofs.Walks.NextNumber.{left_is, none_there, reached}
 use Rattle.sq_session.proofs.cursor.next_there.Goals as goal
 
 pub returns-in-Some-clause-next : goal.returns-in-Some-clause-next

@@ -1,6 +1,6 @@
 use Rattle.std.proofs.Common.{◌≡◌}
 use Rattle.sq_store.specs.Content.{table_at}
-use Rattle.sq_session.proofs.NextNumber.{LooksOn}
+use Rattle.sq_session.proofs.Walks.NextNumber.{LooksOn}
 use Rattle.sq_session.proofs.cursor.next_there.Given as goal
 
 abbrev pub invariant-loop-place : goal.invariant-loop-place

@@ -1,7 +1,8 @@
+-- Left open: the result, that a place is within its list, and the loop's invariant; answered by GoOn.
 use Rattle.std.proofs.Common.{◌≡◌, ◌∙◌, ◌∷◌, [], length, sym, ap, arith}
 use Rattle.std.specs.Vec.Iter.{into_iter_items}
 use Rattle.sq_session.specs.Cursors.{AreThere, put_all}
-use Rattle.sq_session.proofs.GoOn.{none_left, put_there}
+use Rattle.sq_session.proofs.OpenCursors.GoOn.{none_left, put_there}
 use Rattle.sq_session.proofs.cursors.put_lists.Goals as goal
 
 pub bounds-cursors-list : goal.bounds-cursors-list

@@ -1,13 +1,14 @@
+-- Left open: the call of fetch_cursor, and the clauses step and read; answered by Coming, Fetched and others.
 use Rattle.std.proofs.Common.{◌<◌, ap, arith, get_or, length}
 use Rattle.sq_bound.specs.WellFormed.{kinds_of_parameters}
 use Rattle.sq_catalog.specs.Catalog.{column_kinds}
-use Rattle.sq_change.proofs.Obeyed.{keeps_tables}
+use Rattle.sq_change.proofs.Constraints.Obeyed.{keeps_tables}
 use Rattle.sq_session.specs.Kind.{fetching}
-use Rattle.sq_session.proofs.Coming.{fetched_taken, place_meant}
-use Rattle.sq_session.proofs.Fetched.{may_fetch}
-use Rattle.sq_session.proofs.Metering.{fetched_at}
-use Rattle.sq_session.proofs.Over.{as_many, over_there}
-use Rattle.sq_session.proofs.QuietWalks.{kept_there}
+use Rattle.sq_session.proofs.Fetching.Coming.{fetched_taken, place_meant}
+use Rattle.sq_session.proofs.Fetching.Fetched.{may_fetch}
+use Rattle.sq_session.proofs.Calls.Metering.{fetched_at}
+use Rattle.sq_session.proofs.OpenCursors.Over.{as_many, over_there}
+use Rattle.sq_session.proofs.Walks.QuietWalks.{kept_there}
 use Rattle.sq_session.proofs.fetch.fetch_at.Goals as goal
 
 pub fetch_cursor-requires-clause-tables : goal.fetch_cursor-requires-clause-tables

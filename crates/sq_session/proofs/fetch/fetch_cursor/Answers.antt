@@ -1,5 +1,6 @@
+-- Left open for fetch_cursor: what the call of fetch_row asks for, and the clause read; answered by Metering.
 use Rattle.sq_session.specs.Step.{ending}
-use Rattle.sq_session.proofs.Metering.{however}
+use Rattle.sq_session.proofs.Calls.Metering.{however}
 use Rattle.sq_session.proofs.fetch.fetch_cursor.Goals as goal
 
 pub fetch_row-requires-clause-taken : goal.fetch_row-requires-clause-taken

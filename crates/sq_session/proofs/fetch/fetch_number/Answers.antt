@@ -1,15 +1,16 @@
+-- Left open: the calls of next_there and shown_row_retrieved, and the clauses comes and read; answered by Coming, Holding and others.
 use Rattle.std.proofs.Common.{Err, subst, sym, ◌∙◌}
 use Rattle.sq_catalog.specs.Catalog.{column_kinds}
 use Rattle.sq_store.specs.Content.{table_at}
 use Rattle.sq_session.specs.Kind.{fetching}
-use Rattle.sq_session.proofs.Coming.{shown_taken_on}
+use Rattle.sq_session.proofs.Fetching.Coming.{shown_taken_on}
 use Rattle.sq_session.specs.Step.{ending}
-use Rattle.sq_session.proofs.Holding.{HasColumns}
-use Rattle.sq_session.proofs.Metering.{however, no_number_read, number_read}
-use Rattle.sq_session.proofs.Over.{numbers_over}
-use Rattle.sq_session.proofs.QuietWalks.{columns_are, passed_there}
-use Rattle.sq_session.proofs.Reached.{comes_to_fault, comes_to_none, comes_to_row}
-use Rattle.sq_session.proofs.Shown.{columns_there}
+use Rattle.sq_session.proofs.Lasting.Holding.{HasColumns}
+use Rattle.sq_session.proofs.Calls.Metering.{however, no_number_read, number_read}
+use Rattle.sq_session.proofs.OpenCursors.Over.{numbers_over}
+use Rattle.sq_session.proofs.Walks.QuietWalks.{columns_are, passed_there}
+use Rattle.sq_session.proofs.Fetching.Reached.{comes_to_fault, comes_to_none, comes_to_row}
+use Rattle.sq_session.proofs.Fetching.Shown.{columns_there}
 use Rattle.sq_session.proofs.fetch.fetch_number.Goals as goal
 
 pub next_there-requires-clause-passed : goal.next_there-requires-clause-passed

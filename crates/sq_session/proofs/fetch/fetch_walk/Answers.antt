@@ -1,3 +1,4 @@
+-- Left open: the calls of next_of_walk and shown_row_retrieved, and the clauses comes and read; answered by Coming, Holding and others.
 use Rattle.std.proofs.Common.{Err, None, Some, subst}
 use Rattle.sq_catalog.specs.Catalog.{column_kinds}
 use Rattle.sq_store.specs.Content.{table_at}
@@ -5,13 +6,13 @@ use Rattle.sq_store.specs.declared.table.Numbered.{Numbered}
 use Rattle.sq_query.specs.Target.{conditions_of}
 use Rattle.sq_session.specs.Kind.{fetching}
 use Rattle.sq_session.specs.Step.{ending}
-use Rattle.sq_session.proofs.Coming.{shown_taken_on}
-use Rattle.sq_session.proofs.Holding.{HasColumns}
-use Rattle.sq_session.proofs.Metering.{end_come_to, however, row_come_to}
-use Rattle.sq_session.proofs.Over.{walk_over}
-use Rattle.sq_session.proofs.QuietWalks.{base_at, columns_are, conditions_are, quiet_at, stands_at, target_is}
-use Rattle.sq_session.proofs.Reached.{next_is, walks_not, walks_on, walks_to_end}
-use Rattle.sq_session.proofs.Shown.{columns_there}
+use Rattle.sq_session.proofs.Fetching.Coming.{shown_taken_on}
+use Rattle.sq_session.proofs.Lasting.Holding.{HasColumns}
+use Rattle.sq_session.proofs.Calls.Metering.{end_come_to, however, row_come_to}
+use Rattle.sq_session.proofs.OpenCursors.Over.{walk_over}
+use Rattle.sq_session.proofs.Walks.QuietWalks.{base_at, columns_are, conditions_are, quiet_at, stands_at, target_is}
+use Rattle.sq_session.proofs.Fetching.Reached.{next_is, walks_not, walks_on, walks_to_end}
+use Rattle.sq_session.proofs.Fetching.Shown.{columns_there}
 use Rattle.sq_session.proofs.fetch.fetch_walk.Goals as goal
 
 pub next_of_walk-requires-clause-quiet : goal.next_of_walk-requires-clause-quiet

@@ -1,7 +1,8 @@
+-- Left open for updatable_query: its result; answered by QuietWalks.
 use Rattle.std.proofs.Common.{◌∙◌, Some, ap, length, sym}
 use Rattle.std.proofs.lemmas.Bool.{ltb-true}
 use Rattle.std.proofs.lemmas.Option.{slice_get-get_or}
-use Rattle.sq_session.proofs.QuietWalks.{declared_at}
+use Rattle.sq_session.proofs.Walks.QuietWalks.{declared_at}
 use Rattle.sq_session.proofs.fetch.updatable_query.Goals as goal
 
 pub returns : goal.returns

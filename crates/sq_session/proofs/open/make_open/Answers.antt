@@ -1,7 +1,8 @@
+-- Left open: the calls of opened_over_rows and opened_over, and the clauses kept, opened and read; answered by Asking.
 use Rattle.sq_bound.specs.WellFormed.{kinds_of_parameters}
 use Rattle.sq_catalog.specs.Catalog.{column_kinds}
 use Rattle.sq_session.specs.Schemas.{schemas_of}
-use Rattle.sq_session.proofs.Asking.{rows_kept, updatable_kept}
+use Rattle.sq_session.proofs.Calls.Asking.{rows_kept, updatable_kept}
 use Rattle.sq_session.proofs.open.make_open.Goals as goal
 
 pub opened_over_rows-requires-clause-asked : goal.opened_over_rows-requires-clause-asked

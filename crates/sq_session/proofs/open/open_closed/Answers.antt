@@ -1,18 +1,19 @@
+-- Left open: the call of make_open, and the clauses step, kept, right and read; answered by Asking, Ending, Kept, Metering and others.
 use Rattle.std.proofs.Common.{◌≡◌, Some, ap, get_or, refl, slice_get}
 use Rattle.std.specs.Option.{option_map, option_map_or}
 use Rattle.std.proofs.lemmas.Option.{slice_get-get_or}
 use Rattle.sq_bound.specs.WellFormed.{kinds_of_parameters}
 use Rattle.sq_catalog.specs.Catalog.{column_kinds}
-use Rattle.sq_change.proofs.Obeyed.{keeps_tables}
+use Rattle.sq_change.proofs.Constraints.Obeyed.{keeps_tables}
 use Rattle.sq_session.specs.Kind.{Over, opening, over_of}
 use Rattle.sq_session.specs.Schemas.{schemas_of}
 use Rattle.sq_session.specs.State.{State}
-use Rattle.sq_session.proofs.Asking.{cursor_there}
-use Rattle.sq_session.proofs.Ending.{fault_right}
-use Rattle.sq_session.proofs.Kept.{put_kept}
-use Rattle.sq_session.proofs.Metering.{opened_at}
-use Rattle.sq_session.proofs.Opened.{opens, opens_not}
-use Rattle.sq_session.proofs.QuietWalks.{fits_here}
+use Rattle.sq_session.proofs.Calls.Asking.{cursor_there}
+use Rattle.sq_session.proofs.Calls.Ending.{fault_right}
+use Rattle.sq_session.proofs.OpenCursors.Kept.{put_kept}
+use Rattle.sq_session.proofs.Calls.Metering.{opened_at}
+use Rattle.sq_session.proofs.OpenCursors.Opened.{opens, opens_not}
+use Rattle.sq_session.proofs.Walks.QuietWalks.{fits_here}
 use Rattle.sq_session.proofs.open.open_closed.Goals as goal
 
 pub returns-in-Ok-clause-step : goal.returns-in-Ok-clause-step

@@ -1,4 +1,5 @@
-use Rattle.sq_session.proofs.Holding.{target_there}
+-- Left open for opened_over: what the call of opened_walk asks for; answered by Holding.
+use Rattle.sq_session.proofs.Lasting.Holding.{target_there}
 use Rattle.sq_session.proofs.open.opened_over.Goals as goal
 
 pub opened_walk-requires : goal.opened_walk-requires

@@ -1,12 +1,13 @@
+-- Left open: the call of numbers_of, and the clauses opened and right; answered by Opened and Reading.
 use Rattle.std.proofs.Common.{List, subst, sym}
 use Rattle.sq_value.specs.declared.value.Value.{Value}
 use Rattle.sq_bound.specs.WellFormed.{kinds_of_parameters}
 use Rattle.sq_catalog.specs.Catalog.{bases_there, column_kinds}
-use Rattle.sq_query.proofs.Finds.{target_finds}
+use Rattle.sq_query.proofs.Needs.Finds.{target_finds}
 use Rattle.sq_session.specs.Parameter.{AreGiven}
 use Rattle.sq_session.specs.Schemas.{schemas_of}
-use Rattle.sq_session.proofs.Opened.{numbers_answered, over_fault_of_numbers, over_numbers}
-use Rattle.sq_session.proofs.Reading.{may_read, some_tables}
+use Rattle.sq_session.proofs.OpenCursors.Opened.{numbers_answered, over_fault_of_numbers, over_numbers}
+use Rattle.sq_session.proofs.Calls.Reading.{may_read, some_tables}
 use Rattle.sq_session.proofs.open.opened_over_numbers.Goals as goal
 
 pub numbers_of-found-requires-clause-finds : goal.numbers_of-found-requires-clause-finds

@@ -1,13 +1,14 @@
+-- Left open: the call of ordered_rows, and the clauses opened, rows and right; answered by Opened and others.
 use Rattle.std.proofs.Common.{List, subst, sym}
 use Rattle.sq_value.specs.declared.value.Value.{Value}
 use Rattle.sq_meaning.specs.WellFormed.{AreRowsOf}
 use Rattle.sq_bound.specs.WellFormed.{kinds_of_parameters, kinds_of_query}
 use Rattle.sq_catalog.specs.Catalog.{bases_there, column_kinds}
-use Rattle.sq_query.proofs.Finds.{query_finds}
+use Rattle.sq_query.proofs.Needs.Finds.{query_finds}
 use Rattle.sq_session.specs.Parameter.{AreGiven}
 use Rattle.sq_session.specs.Schemas.{schemas_of}
-use Rattle.sq_session.proofs.Opened.{over_fault_of_rows, over_rows, rows_answered}
-use Rattle.sq_session.proofs.Reading.{may_read, some_tables}
+use Rattle.sq_session.proofs.OpenCursors.Opened.{over_fault_of_rows, over_rows, rows_answered}
+use Rattle.sq_session.proofs.Calls.Reading.{may_read, some_tables}
 use Rattle.sq_session.proofs.open.opened_over_rows.Goals as goal
 
 pub ordered_rows-found-requires-clause-finds : goal.ordered_rows-found-requires-clause-finds

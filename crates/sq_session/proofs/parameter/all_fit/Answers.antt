@@ -1,5 +1,6 @@
+-- Left open for all_fit: its result, and that the loop keeps its invariant; answered by Fitting.
 use Rattle.std.proofs.Common.{◌<◌, arith, length}
-use Rattle.sq_session.proofs.Fitting.{fit_all, fit_next, fit_stops, fit_uneven}
+use Rattle.sq_session.proofs.Parameters.Fitting.{fit_all, fit_next, fit_stops, fit_uneven}
 use Rattle.sq_session.proofs.parameter.all_fit.Goals as goal
 
 pub returns-then-parameters-values : goal.returns-then-parameters-values

@@ -1,4 +1,4 @@
-use Rattle.sq_session.proofs.Fitting.{FitSoFar}
+use Rattle.sq_session.proofs.Parameters.Fitting.{FitSoFar}
 use Rattle.sq_session.proofs.parameter.all_fit.Given as goal
 
 abbrev pub invariant-loop-place : goal.invariant-loop-place

@@ -1,8 +1,9 @@
+-- Left open: the call of started_value, the result, and the loop's invariant; answered by Fitting and others.
 use Rattle.std.proofs.Common.{◌≤◌, rules, length, arith}
 use Rattle.std.proofs.lemmas.List.{length_push}
 use Rattle.std.proofs.lemmas.Slice.Zip.{zip_end, zip_turn}
-use Rattle.sq_session.proofs.Fitting.{fit_at, fit_even}
-use Rattle.sq_session.proofs.Started.{given_all, started_all, started_next}
+use Rattle.sq_session.proofs.Parameters.Fitting.{fit_at, fit_even}
+use Rattle.sq_session.proofs.Parameters.Started.{given_all, started_all, started_next}
 use Rattle.sq_session.proofs.parameter.started_values.Goals as goal
 
 pub started_value-requires : goal.started_value-requires

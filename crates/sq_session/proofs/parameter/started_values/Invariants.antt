@@ -1,5 +1,5 @@
 use Rattle.std.proofs.Common.{length}
-use Rattle.sq_session.proofs.Started.{IsStarted}
+use Rattle.sq_session.proofs.Parameters.Started.{IsStarted}
 use Rattle.sq_session.proofs.parameter.started_values.Given as goal
 
 abbrev pub invariant-loop-parameter : goal.invariant-loop-parameter

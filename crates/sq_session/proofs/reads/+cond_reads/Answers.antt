@@ -1,3 +1,4 @@
+-- Left open for the functions of +cond_reads: the results; answered by Assigned.
 use Rattle.std.proofs.Common.{◌≡◌, ◌∙◌, Bool, List, [], true, sym, ap}
 use Rattle.std.proofs.lemmas.List.Folds.{list_any_at}
 use Rattle.std.specs.List.{list_any}
@@ -6,7 +7,7 @@ use Rattle.sq_bound.specs.declared.condition.BoundConj.{BoundConj}
 use Rattle.sq_bound.specs.declared.condition.BoundTest.{BoundTest}
 use Rattle.sq_bound.specs.declared.statement.BoundAssignment.{BoundAssignment}
 use Rattle.sq_session.specs.Reads.{cond_reads}
-use Rattle.sq_session.proofs.Assigned.{all_taken, reads_terms, reads_tests}
+use Rattle.sq_session.proofs.Walks.Assigned.{all_taken, reads_terms, reads_tests}
 use Rattle.sq_session.proofs.reads.+cond_reads.Goals as goal
 
 abbrev term_at : List BoundAssignment → BoundConj → Bool

@@ -1,8 +1,9 @@
+-- Left open for target_reads: the clause unread; answered by Assigned and Unread.
 use Rattle.std.proofs.Common.{◌∙◌, ap}
 use Rattle.sq_query.specs.Target.{conditions_of}
 use Rattle.sq_session.specs.Reads.{one_reads}
-use Rattle.sq_session.proofs.Assigned.{none_reads}
-use Rattle.sq_session.proofs.Unread.{unread}
+use Rattle.sq_session.proofs.Walks.Assigned.{none_reads}
+use Rattle.sq_session.proofs.Walks.Unread.{unread}
 use Rattle.sq_session.proofs.reads.target_reads.Goals as goal
 
 pub returns-else-views-clause-unread : goal.returns-else-views-clause-unread

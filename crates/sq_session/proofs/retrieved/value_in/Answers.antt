@@ -1,4 +1,5 @@
-use Rattle.sq_session.proofs.Shown.{column_there, value_there}
+-- Left open for value_in: its result; answered by Shown.
+use Rattle.sq_session.proofs.Fetching.Shown.{column_there, value_there}
 use Rattle.sq_session.proofs.retrieved.value_in.Goals as goal
 
 pub returns : goal.returns

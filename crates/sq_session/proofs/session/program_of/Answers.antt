@@ -1,3 +1,4 @@
+-- Left open for program_of: the clauses written and computed; answered without a law.
 use Rattle.sq_session.proofs.session.program_of.Goals as goal
 
 pub returns-clause-written : goal.returns-clause-written

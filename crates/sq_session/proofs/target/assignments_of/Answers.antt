@@ -1,8 +1,9 @@
+-- Left open: the calls of value and set, the result, and the loop's invariant; answered by Taken and Targets.
 use Rattle.std.proofs.Common.{None, ap, arith, sym, ◌∙◌}
 use Rattle.sq_session.specs.Retrieved.{values_of}
 use Rattle.sq_session.specs.Target.{row_set}
-use Rattle.sq_session.proofs.Taken.{taken_here, taken_long}
-use Rattle.sq_session.proofs.Targets.{set_all, set_more, set_stops, value_at}
+use Rattle.sq_session.proofs.Parameters.Taken.{taken_here, taken_long}
+use Rattle.sq_session.proofs.Parameters.Targets.{set_all, set_more, set_stops, value_at}
 use Rattle.sq_session.proofs.target.assignments_of.Goals as goal
 
 pub value-requires : goal.value-requires

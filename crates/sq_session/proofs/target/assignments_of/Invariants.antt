@@ -1,5 +1,5 @@
 use Rattle.sq_session.specs.Retrieved.{values_of}
-use Rattle.sq_session.proofs.Targets.{IsSoFar}
+use Rattle.sq_session.proofs.Parameters.Targets.{IsSoFar}
 use Rattle.sq_session.proofs.target.assignments_of.Given as goal
 
 abbrev pub invariant-loop-place : goal.invariant-loop-place

@@ -1,5 +1,6 @@
+-- Left open for row_retrieved: the clauses reply and right; answered by Taken.
 use Rattle.sq_session.specs.Retrieved.{values_of}
-use Rattle.sq_session.proofs.Taken.{status_allowed, status_replied}
+use Rattle.sq_session.proofs.Parameters.Taken.{status_allowed, status_replied}
 use Rattle.sq_session.proofs.target.row_retrieved.Goals as goal
 
 pub returns-in-Err-Status-clause-reply : goal.returns-in-Err-Status-clause-reply

@@ -1,7 +1,8 @@
+-- Left open for value_taken: the clauses value and others; answered by Outputs.
 use Rattle.std.proofs.Common.{Some, ap, sym, ◌∙◌}
 use Rattle.std.specs.Option.{option_map}
 use Rattle.sq_session.specs.declared.target.Assignment.{Assignment}
-use Rattle.sq_session.proofs.Outputs.{first_to, none_to, others_kept}
+use Rattle.sq_session.proofs.Parameters.Outputs.{first_to, none_to, others_kept}
 use Rattle.sq_session.proofs.target.value_taken.Goals as goal
 
 pub returns-in_err-number-clause-value : goal.returns-in_err-number-clause-value

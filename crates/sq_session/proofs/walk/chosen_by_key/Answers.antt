@@ -1,11 +1,12 @@
+-- Left open: the call of is_chosen, and the clauses first and read; answered by KeyedWalk and Metering.
 use Rattle.std.proofs.Common.{arith, sym}
 use Rattle.sq_catalog.specs.Catalog.{column_kinds}
 use Rattle.sq_meaning.specs.WellFormed.{IsRowOf}
 use Rattle.sq_bound.specs.WellFormed.{base_kinds}
 use Rattle.sq_store.specs.Keys.{key_at}
 use Rattle.sq_store.specs.declared.table.Numbered.{Numbered}
-use Rattle.sq_session.proofs.KeyedWalk.{first_by_key, is_before, is_from, keyed_there, keyed_under, not_before, not_from}
-use Rattle.sq_session.proofs.Metering.{meter_comes}
+use Rattle.sq_session.proofs.Walks.KeyedWalk.{first_by_key, is_before, is_from, keyed_there, keyed_under, not_before, not_from}
+use Rattle.sq_session.proofs.Calls.Metering.{meter_comes}
 use Rattle.sq_session.proofs.walk.chosen_by_key.Goals as goal
 
 pub returns-in_default-clause-first : goal.returns-in_default-clause-first

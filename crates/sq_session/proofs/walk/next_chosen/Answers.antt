@@ -1,12 +1,13 @@
+-- Left open: the call of is_chosen, the clauses first and read, and the loop's invariant; answered by Metering, QuietWalks and TableWalk.
 use Rattle.std.proofs.Common.{◌∙◌, ◌+◌, Bool, ap, arith, find, sym}
 use Rattle.sq_store.specs.Content.{table_at}
 use Rattle.sq_store.specs.declared.table.Numbered.{Numbered}
 use Rattle.sq_store.proofs.Walk.{found_behind}
 use Rattle.sq_query.specs.Target.{conditions_of}
 use Rattle.sq_session.specs.Walk.{is_meant, rows_between}
-use Rattle.sq_session.proofs.Metering.{meter_comes, meter_passes}
-use Rattle.sq_session.proofs.QuietWalks.{found_under as row_under}
-use Rattle.sq_session.proofs.TableWalk.{between_end, between_next, between_past, find_first, find_later, found_positive, found_row}
+use Rattle.sq_session.proofs.Calls.Metering.{meter_comes, meter_passes}
+use Rattle.sq_session.proofs.Walks.QuietWalks.{found_under as row_under}
+use Rattle.sq_session.proofs.Walks.TableWalk.{between_end, between_next, between_past, find_first, find_later, found_positive, found_row}
 use Rattle.sq_session.proofs.walk.next_chosen.Goals as goal
 
 pub returns-then-found-mark-clause-first : goal.returns-then-found-mark-clause-first

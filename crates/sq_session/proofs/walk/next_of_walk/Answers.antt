@@ -1,12 +1,13 @@
+-- Left open: the calls of key, chosen_by_key and next_chosen, and the clauses first and once; answered by Holding and QuietWalks.
 use Rattle.std.proofs.Common.{◌<◌, ℕ, List, arith, length, refl, subst, sym}
 use Rattle.sq_value.specs.declared.value.Value.{Value}
 use Rattle.sq_query.specs.Keyed.{IsKeyedUnder}
 use Rattle.sq_query.specs.Meant.{IsKeyUnder}
-use Rattle.sq_query.proofs.KeyNames.{own_keys}
-use Rattle.sq_query.proofs.KeyTests.{if_some}
-use Rattle.sq_query.proofs.KnownKeys.{not_none}
-use Rattle.sq_session.proofs.Holding.{target_there}
-use Rattle.sq_session.proofs.QuietWalks.{rows_of_base}
+use Rattle.sq_query.proofs.Keys.KeyNames.{own_keys}
+use Rattle.sq_query.proofs.Keys.KeyTests.{if_some}
+use Rattle.sq_query.proofs.Keys.KnownKeys.{not_none}
+use Rattle.sq_session.proofs.Lasting.Holding.{target_there}
+use Rattle.sq_session.proofs.Walks.QuietWalks.{rows_of_base}
 use Rattle.sq_session.proofs.walk.next_of_walk.Goals as goal
 
 pub key-requires-clause-there : goal.key-requires-clause-there

@@ -1,7 +1,8 @@
+-- Left open for listed_walk: what the call of rest_of_walk asks for; answered by QuietWalks.
 use Rattle.std.proofs.Common.{subst}
 use Rattle.sq_bound.specs.Fits.{FitsBody}
 use Rattle.sq_bound.specs.declared.query.CursorBody.{CursorBody}
-use Rattle.sq_session.proofs.QuietWalks.{are_under, over_that}
+use Rattle.sq_session.proofs.Walks.QuietWalks.{are_under, over_that}
 use Rattle.sq_session.proofs.walk_list.listed_walk.Goals as goal
 
 pub rest_of_walk-requires-clause-rows : goal.rest_of_walk-requires-clause-rows

@@ -1,3 +1,4 @@
+-- Left open: the call of listed_walk, the clause lists, and the loop's invariant; answered by GoOn, Over and QuietWalks.
 use Rattle.std.proofs.Common.{◌≡◌, ◌<◌, ◌≤◌, ◌∙◌, ◌++◌, ◌∷◌, [], ap, arith, length, true, slice_index_or, subst, sym}
 use Rattle.sq_catalog.specs.Catalog.{column_kinds}
 use Rattle.sq_module.specs.declared.program.DeclaredCursor.{DeclaredCursor}
@@ -6,9 +7,9 @@ use Rattle.sq_session.specs.Kind.{over_of}
 use Rattle.sq_session.specs.declared.cursor.CursorState.{CursorState}
 use Rattle.sq_session.specs.declared.cursor.CursorState.TheVariants as cursor
 use Rattle.sq_session.specs.declared.walk_list.ListedCursor.{ListedCursor}
-use Rattle.sq_session.proofs.GoOn.{goes_on_listed, goes_on_same, goes_on_walking, idle_next, listed_all, listed_next, none_listed, same_next, some_listed, there_more}
-use Rattle.sq_session.proofs.Over.{as_many, over_here, over_there, walk_there}
-use Rattle.sq_session.proofs.QuietWalks.{fits_here, kept_here}
+use Rattle.sq_session.proofs.OpenCursors.GoOn.{goes_on_listed, goes_on_same, goes_on_walking, idle_next, listed_all, listed_next, none_listed, same_next, some_listed, there_more}
+use Rattle.sq_session.proofs.OpenCursors.Over.{as_many, over_here, over_there, walk_there}
+use Rattle.sq_session.proofs.Walks.QuietWalks.{fits_here, kept_here}
 use Rattle.sq_session.proofs.walk_list.listed_walks.Goals.{in-Walking+in_ok-list+in-Some+in_ok-push-in-Some, in-Walking+in_ok-list+in-None, in_default}
 use Rattle.sq_session.proofs.walk_list.listed_walks.Goals as goal
 

@@ -1,3 +1,4 @@
+-- Left open for numbers_from: its result, and that the loop keeps its invariant; answered by Listing.
 use Rattle.std.proofs.Common.{◌≡◌, ◌∙◌, ◌+◌, ◌++◌, ◌∷◌, [], ℕ, List, Some, None, ap, sym, append_assoc}
 use Rattle.std.proofs.lemmas.List.{append-nil}
 use Rattle.std.specs.Option.{option_map}
@@ -6,7 +7,7 @@ use Rattle.sq_store.specs.declared.table.Numbered.{Numbered}
 use Rattle.sq_query.specs.Table.{numbered_row}
 use Rattle.sq_query.specs.Target.{conditions_of}
 use Rattle.sq_session.specs.Walk.{first_meant, numbers_meant}
-use Rattle.sq_session.proofs.Listing.{numbers_end, numbers_next}
+use Rattle.sq_session.proofs.Walks.Listing.{numbers_end, numbers_next}
 use Rattle.sq_session.proofs.walk_list.numbers_from.Goals as goal
 
 pub loop-numbers-preserved : goal.loop-numbers-preserved

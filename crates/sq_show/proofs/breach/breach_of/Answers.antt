@@ -1,5 +1,6 @@
+-- Left open for breach_of: what the call of cause_in asks for, and its result; answered by OfChange.
 use Rattle.sq_catalog.specs.Catalog.{bases_there, column_kinds}
-use Rattle.sq_query.proofs.Finds.{leaf_finds}
+use Rattle.sq_query.proofs.Needs.Finds.{leaf_finds}
 use Rattle.sq_session.specs.Called.{kind_for}
 use Rattle.sq_session.specs.Schemas.{schemas_of}
 use Rattle.sq_session.specs.State.{state_of}

@@ -1,3 +1,4 @@
+-- Left open for clause_cause: what the call of changed_end asks for; answered by Finding.
 use Rattle.sq_bound.specs.WellFormed.{kinds_of_parameters}
 use Rattle.sq_catalog.specs.Catalog.{bases_there, column_kinds}
 use Rattle.sq_show.proofs.Finding.{change_finds}

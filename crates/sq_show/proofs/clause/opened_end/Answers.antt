@@ -1,3 +1,4 @@
+-- Left open for opened_end: what the call of target_end asks for, and its result; answered by Finding.
 use Rattle.std.proofs.Common.{◌∙◌, Some, ap, length, sym}
 use Rattle.std.proofs.lemmas.Bool.{ltb-true}
 use Rattle.std.proofs.lemmas.Option.{slice_get-get_or}

@@ -1,3 +1,4 @@
+-- Left open for cursor_cause: the clause found; answered by CursorFound.
 use Rattle.sq_session.specs.Kind.{caller_of, updating}
 use Rattle.sq_show.proofs.CursorFound.{of_delete, of_update}
 use Rattle.sq_show.proofs.cursor.cursor_cause.Goals as goal

@@ -1,7 +1,8 @@
+-- Left open: what the calls of insertions, replacements and removals ask for; answered by laws of sq_session.
 use Rattle.sq_bound.specs.WellFormed.{kinds_of_parameters}
 use Rattle.sq_catalog.specs.Catalog.{column_kinds}
 use Rattle.sq_module.specs.Program.{kinds_of_cursors}
-use Rattle.sq_session.proofs.Asking.{may_assign, may_choose, may_give}
+use Rattle.sq_session.proofs.Calls.Asking.{may_assign, may_choose, may_give}
 use Rattle.sq_show.proofs.made.changes_of.Goals as goal
 
 pub insertions-requires-clause-can : goal.insertions-requires-clause-can

@@ -1,6 +1,7 @@
+-- Left open for no_number_cause: what the call of unnumbered asks for; answered by laws of sq_session.
 use Rattle.sq_bound.specs.WellFormed.{kinds_of_parameters}
 use Rattle.sq_module.specs.Program.{kinds_of_cursors}
-use Rattle.sq_session.proofs.Asking.{may_give}
+use Rattle.sq_session.proofs.Calls.Asking.{may_give}
 use Rattle.sq_show.proofs.no_row.no_number_cause.Goals as goal
 
 pub unnumbered-requires-clause-can : goal.unnumbered-requires-clause-can

@@ -1,5 +1,6 @@
+-- Left open for no_row_cause: what the call of chosen_none asks for; answered by laws of sq_session.
 use Rattle.sq_bound.specs.WellFormed.{kinds_of_parameters}
-use Rattle.sq_session.proofs.Asking.{may_choose}
+use Rattle.sq_session.proofs.Calls.Asking.{may_choose}
 use Rattle.sq_show.proofs.no_row.no_row_cause.Goals as goal
 
 pub chosen_none-requires-clause-base : goal.chosen_none-requires-clause-base

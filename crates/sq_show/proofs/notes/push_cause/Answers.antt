@@ -1,3 +1,4 @@
+-- Left open for push_cause: its result; answered by Noted.
 use Rattle.sq_show.proofs.Noted.{added_cause}
 use Rattle.sq_show.proofs.notes.push_cause.Goals as goal
 

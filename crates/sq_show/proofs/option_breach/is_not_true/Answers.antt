@@ -1,3 +1,4 @@
+-- Left open for is_not_true: its result; answered without a law.
 use Rattle.std.proofs.Common.{inl, inr}
 use Rattle.sq_show.proofs.option_breach.is_not_true.Goals as goal
 

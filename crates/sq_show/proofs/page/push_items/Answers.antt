@@ -1,3 +1,4 @@
+-- Left open: the call of trace_action, the result, and the loop's invariant; answered by Paging.
 use Rattle.std.proofs.Common.{◌∙◌, ◌+◌}
 use Rattle.sq_perform.proofs.Prepared.{prepared_at}
 use Rattle.sq_show.specs.Traced.{Told}

@@ -1,10 +1,11 @@
+-- Left open: the calls of add_term and add_specifications, the results, and the loop's invariant; answered by OfQueries.
 use Rattle.std.proofs.Common.{◌≡◌, ◌++◌, ◌∙◌, List, ap, arith, rules, subst, sym}
 use Rattle.std.specs.Prelude.{OnOk, flat_map}
 use Rattle.sq_bound.specs.Joined.{specifications_of, term_specifications, union_specifications}
 use Rattle.sq_bound.specs.declared.condition.BoundSpecification.{BoundSpecification}
 use Rattle.sq_bound.specs.declared.query.BoundUnion.{BoundUnion}
 use Rattle.sq_bound.proofs.JoinedLaws.{term_specifications-Bracketed, term_specifications-Specification}
-use Rattle.sq_query.proofs.QuerySizes.{bracketed_smaller, first_smaller, union_smaller}
+use Rattle.sq_query.proofs.ByUnion.QuerySizes.{bracketed_smaller, first_smaller, union_smaller}
 use Rattle.sq_show.specs.QueryCause.{lent_queries}
 use Rattle.sq_show.proofs.OfQueries.{all_of, first_of, lent_more, next_of}
 use Rattle.sq_show.proofs.query_cause.+add_specifications.Goals as goal

@@ -1,7 +1,7 @@
 use Rattle.std.proofs.Common.{◌≡◌, ◌++◌, drop}
 use Rattle.std.specs.Prelude.{flat_map}
 use Rattle.sq_bound.specs.Joined.{specifications_of, union_specifications}
-use Rattle.sq_query.proofs.QuerySizes.{query_size, term_size}
+use Rattle.sq_query.proofs.ByUnion.QuerySizes.{query_size, term_size}
 use Rattle.sq_show.specs.QueryCause.{lent_queries}
 use Rattle.sq_show.proofs.query_cause.+add_specifications.Given as goal
 

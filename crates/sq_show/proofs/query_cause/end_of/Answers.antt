@@ -1,3 +1,4 @@
+-- Left open for end_of: what the call of inner_end asks for, and its result; answered by OfQueries.
 use Rattle.std.proofs.Common.{List, Option, subst, sym}
 use Rattle.sq_value.specs.declared.value.Value.{Value}
 use Rattle.sq_bound.specs.WellFormed.{kinds_of_parameters}
@@ -6,10 +7,10 @@ use Rattle.sq_ending.specs.Inside.{EndsInside}
 use Rattle.sq_ending.specs.Read.{known_by}
 use Rattle.sq_ending.specs.declared.inside.InnerEnd.{InnerEnd}
 use Rattle.sq_lex.specs.declared.name.Name.{Name}
-use Rattle.sq_query.proofs.Finds.{select_finds}
+use Rattle.sq_query.proofs.Needs.Finds.{select_finds}
 use Rattle.sq_session.specs.Parameter.{AreGiven}
 use Rattle.sq_session.specs.Schemas.{schemas_of}
-use Rattle.sq_session.proofs.Reading.{may_read}
+use Rattle.sq_session.proofs.Calls.Reading.{may_read}
 use Rattle.sq_show.specs.QueryCause.{EndsAt}
 use Rattle.sq_show.proofs.OfQueries.{end_found}
 use Rattle.sq_show.proofs.query_cause.end_of.Goals as goal

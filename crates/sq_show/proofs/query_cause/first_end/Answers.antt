@@ -1,3 +1,4 @@
+-- Left open for first_end: what the call of end_of asks for, and its result; answered by OfQueries.
 use Rattle.std.proofs.Common.{[], IfSome, Ok, Option, Some, subst}
 use Rattle.sq_bound.specs.WellFormed.{IsSelect}
 use Rattle.sq_catalog.specs.Catalog.{column_kinds}

@@ -1,14 +1,15 @@
+-- Left open: the call of specification_rows, and the result; answered by laws of sq_change and other crates.
 use Rattle.std.proofs.Common.{List, [], Ok, subst, sym}
 use Rattle.sq_value.specs.declared.value.Value.{Value}
 use Rattle.sq_bound.specs.WellFormed.{kinds_of_parameters}
 use Rattle.sq_catalog.specs.Catalog.{bases_there, column_kinds}
-use Rattle.sq_change.proofs.Obeyed.{not_nulls_of}
-use Rattle.sq_query.proofs.Finds.{select_finds}
+use Rattle.sq_change.proofs.Constraints.Obeyed.{not_nulls_of}
+use Rattle.sq_query.proofs.Needs.Finds.{select_finds}
 use Rattle.sq_session.specs.Kind.{Selecting}
 use Rattle.sq_session.specs.Parameter.{AreGiven}
 use Rattle.sq_session.specs.Schemas.{schemas_of}
-use Rattle.sq_session.proofs.Reading.{may_read}
-use Rattle.sq_session.proofs.Selected.{IsAnswered, found_meant}
+use Rattle.sq_session.proofs.Calls.Reading.{may_read}
+use Rattle.sq_session.proofs.Calls.Selected.{IsAnswered, found_meant}
 use Rattle.sq_show.proofs.query_rows.rows_of_query.Goals as goal
 
 pub specification_rows-found-requires-clause-finds : goal.specification_rows-found-requires-clause-finds

@@ -1,3 +1,4 @@
+-- Left open for fault_of_value: its result; answered by laws of std.
 use Rattle.std.proofs.Common.{◌<◌, length, refl, arith}
 use Rattle.std.proofs.lemmas.Option.{slice_get_read}
 use Rattle.sq_show.proofs.query_value.fault_of_value.Goals as goal

@@ -1,3 +1,4 @@
+-- Left open for to_breach: its result; answered by laws of std.
 use Rattle.std.proofs.Common.{length, refl}
 use Rattle.std.proofs.lemmas.Option.{slice_get_read}
 use Rattle.sq_show.proofs.reference_breach.to_breach.Goals as goal

@@ -1,3 +1,4 @@
+-- Left open for asked_check: its result; answered by FirstEnd.
 use Rattle.std.proofs.Common.{inl, inr, length, refl}
 use Rattle.std.proofs.lemmas.Option.{slice_get_read}
 use Rattle.sq_change.specs.Made.{seen_by}

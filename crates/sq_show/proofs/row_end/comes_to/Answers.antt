@@ -1,3 +1,4 @@
+-- Left open for comes_to: the clause ends; answered without a law.
 use Rattle.sq_show.proofs.row_end.comes_to.Goals as goal
 
 pub returns-in-Err-Status-clause-ends : goal.returns-in-Err-Status-clause-ends

@@ -1,3 +1,4 @@
+-- Left open for fault_on_row: its result; answered by laws of std.
 use Rattle.std.proofs.Common.{length, refl}
 use Rattle.std.proofs.lemmas.Option.{slice_get_read}
 use Rattle.sq_show.proofs.set_value.fault_on_row.Goals as goal

@@ -1,3 +1,4 @@
+-- Left open for set_fault: its result; answered by OfTargets.
 use Rattle.std.proofs.Common.{map}
 use Rattle.sq_change.specs.Made.{seen_by}
 use Rattle.sq_show.proofs.OfTargets.{set_found}

@@ -1,3 +1,4 @@
+-- Left open for target_fault: its result; answered by laws of std.
 use Rattle.std.proofs.Common.{◌<◌, length, refl, arith}
 use Rattle.std.proofs.lemmas.Option.{slice_get_read}
 use Rattle.sq_show.proofs.target.target_fault.Goals as goal

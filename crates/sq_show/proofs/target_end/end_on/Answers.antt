@@ -1,3 +1,4 @@
+-- Left open for end_on: its result; answered without a law.
 use Rattle.sq_show.proofs.target_end.end_on.Goals as goal
 
 pub returns-in-Err-Status : goal.returns-in-Err-Status

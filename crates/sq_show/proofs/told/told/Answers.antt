@@ -1,3 +1,4 @@
+-- Left open: the call of of_statement, and the clauses is and finds; answered by AlwaysFound and Causes.
 use Rattle.std.proofs.Common.{◌≡◌, true, ap, sym, ◌∙◌, arith}
 use Rattle.std.proofs.lemmas.Grind.{common_steps}
 use Rattle.sq_catalog.specs.Catalog.{column_kinds}
@@ -6,8 +7,8 @@ use Rattle.sq_module.specs.declared.program.ProcedureName.{ProcedureName}
 use Rattle.sq_session.specs.Kind.{fits_at, kind_of}
 use Rattle.sq_session.specs.Parameter.{started_values}
 use Rattle.sq_session.specs.Schemas.{schemas_of}
-use Rattle.sq_session.proofs.Found.{asked_at}
-use Rattle.sq_session.proofs.Named.{fault_is, fits_are, kind_is}
+use Rattle.sq_session.proofs.Calls.Found.{asked_at}
+use Rattle.sq_session.proofs.Calls.Named.{fault_is, fits_are, kind_is}
 use Rattle.sq_show.proofs.AlwaysFound.{any_found, found_of_fault}
 use Rattle.sq_show.proofs.Causes.{as_read, of_call}
 use Rattle.sq_show.proofs.told.told.Goals as goal

@@ -1,11 +1,12 @@
+-- Left open for touched_by: what the call of by_statement asks for; answered by laws of sq_session and std.
 use Rattle.std.proofs.Common.{◌≡◌, true, ap, sym, ◌∙◌, arith}
 use Rattle.std.proofs.lemmas.Grind.{common_steps}
 use Rattle.sq_catalog.specs.Catalog.{column_kinds}
 use Rattle.sq_module.specs.declared.program.BoundProcedure.{BoundProcedure}
 use Rattle.sq_module.specs.declared.program.ProcedureName.{ProcedureName}
 use Rattle.sq_session.specs.Kind.{fits_at}
-use Rattle.sq_session.proofs.Found.{asked_at}
-use Rattle.sq_session.proofs.Named.{fits_are}
+use Rattle.sq_session.proofs.Calls.Found.{asked_at}
+use Rattle.sq_session.proofs.Calls.Named.{fits_are}
 use Rattle.sq_show.proofs.touched.touched_by.Goals as goal
 
 pub by_statement-requires-clause-asked : goal.by_statement-requires-clause-asked

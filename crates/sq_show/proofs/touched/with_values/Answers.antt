@@ -1,5 +1,6 @@
+-- Left open for with_values: what the call of by_target asks for; answered by laws of sq_session.
 use Rattle.sq_bound.specs.WellFormed.{kinds_of_parameters}
-use Rattle.sq_session.proofs.Asking.{may_choose}
+use Rattle.sq_session.proofs.Calls.Asking.{may_choose}
 use Rattle.sq_show.proofs.touched.with_values.Goals as goal
 
 pub by_target-requires-clause-base : goal.by_target-requires-clause-base

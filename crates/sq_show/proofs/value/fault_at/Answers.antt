@@ -1,3 +1,4 @@
+-- Left open for fault_at: its result; answered by laws of std.
 use Rattle.std.proofs.Common.{◌<◌, length, refl, arith}
 use Rattle.std.proofs.lemmas.Option.{slice_get_read}
 use Rattle.sq_show.proofs.value.fault_at.Goals as goal

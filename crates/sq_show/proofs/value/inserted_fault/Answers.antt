@@ -1,3 +1,4 @@
+-- Left open for inserted_fault: its result; answered without a law.
 use Rattle.std.proofs.Common.{refl}
 use Rattle.sq_show.proofs.value.inserted_fault.Goals as goal
 

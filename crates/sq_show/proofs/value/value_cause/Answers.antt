@@ -1,7 +1,8 @@
+-- Left open for value_cause: what the call of set_fault asks for; answered by laws of sq_session.
 use Rattle.sq_bound.specs.WellFormed.{kinds_of_parameters}
 use Rattle.sq_catalog.specs.Catalog.{column_kinds}
 use Rattle.sq_module.specs.Program.{kinds_of_cursors}
-use Rattle.sq_session.proofs.Asking.{may_assign, may_choose}
+use Rattle.sq_session.proofs.Calls.Asking.{may_assign, may_choose}
 use Rattle.sq_show.proofs.value.value_cause.Goals as goal
 
 pub set_fault-requires-clause-can : goal.set_fault-requires-clause-can

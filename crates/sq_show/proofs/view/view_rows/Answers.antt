@@ -1,11 +1,12 @@
+-- Left open: what the call of specification_rows asks for, and the result; answered by ViewRows.
 use Rattle.std.proofs.Common.{List, [], subst, sym}
 use Rattle.sq_meaning.specs.Environment.{Row}
 use Rattle.sq_meaning.specs.Status.{Outcome}
 use Rattle.sq_bound.specs.declared.condition.TablePlace.{TablePlace}
 use Rattle.sq_catalog.specs.Catalog.{bases_there, column_kinds}
 use Rattle.sq_expression.specs.Fault.{HasRows}
-use Rattle.sq_query.proofs.Finds.{select_finds}
-use Rattle.sq_session.proofs.Reading.{may_read}
+use Rattle.sq_query.proofs.Needs.Finds.{select_finds}
+use Rattle.sq_session.proofs.Calls.Reading.{may_read}
 use Rattle.sq_show.proofs.ViewRows.{select_wide, view_meant}
 use Rattle.sq_show.proofs.view.view_rows.Goals as goal
 

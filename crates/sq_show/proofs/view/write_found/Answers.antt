@@ -1,3 +1,4 @@
+-- Left open for write_found: its result; answered by ViewShown.
 use Rattle.std.proofs.Common.{Ok, Err}
 use Rattle.sq_expression.specs.Fault.{status_of}
 use Rattle.sq_session.specs.Schemas.{schemas_of}

@@ -1,3 +1,4 @@
+-- Left open for write_view: its result; answered by ViewShown.
 use Rattle.std.proofs.Common.{ap}
 use Rattle.sq_session.specs.State.{State}
 use Rattle.sq_show.proofs.ViewShown.{base_shown, none_shown, view_shown}

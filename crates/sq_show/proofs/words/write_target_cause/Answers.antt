@@ -1,3 +1,4 @@
+-- Left open for write_target_cause: its result; answered by Worded.
 use Rattle.sq_show.proofs.Worded.{behind}
 use Rattle.sq_show.proofs.words.write_target_cause.Goals as goal
 

@@ -1,3 +1,4 @@
+-- Left open for keys_are_distinct: what the call of rows_are_distinct asks for; answered by Sound.
 use Rattle.std.proofs.Common.{arith}
 use Rattle.sq_store.proofs.Sound.{have_columns}
 use Rattle.sq_store.proofs.key.keys_are_distinct.Goals as goal

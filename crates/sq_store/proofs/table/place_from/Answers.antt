@@ -1,3 +1,4 @@
+-- Left open for place_from: its result; answered by Search.
 -- The place that the search answers is that of the first row at or after the number.
 use Rattle.std.proofs.Common.{Bool, nat_lt, sym, rules}
 use Rattle.std.specs.List.Sorted.{IsPartitionedBy}

@@ -1,3 +1,4 @@
+-- Left open for remove: its result; answered by laws of std.
 use Rattle.std.proofs.Common.{not, nat_eq, rules}
 use Rattle.std.proofs.lemmas.Fn.{filter_same}
 use Rattle.sq_store.proofs.table.remove.Goals as goal

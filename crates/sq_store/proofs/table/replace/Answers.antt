@@ -1,3 +1,4 @@
+-- Left open for replace: its result; answered by Search.
 use Rattle.std.proofs.Common.{◌≡◌, false, nat_eq, slice_get, slice_index_or, arith, sym}
 use Rattle.std.proofs.lemmas.Grind.{common_steps}
 use Rattle.sq_store.specs.Content.{first_among}

@@ -1,3 +1,4 @@
+-- Left open for lines: that the loop keeps its invariant; answered by Joined.
 use Rattle.sq_suite.proofs.Joined.{lines_next}
 use Rattle.sq_suite.proofs.lines.lines.Goals as goal
 

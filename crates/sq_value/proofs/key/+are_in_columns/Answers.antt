@@ -1,3 +1,4 @@
+-- Left open for are_in_columns: its result; answered by Keys.
 use Rattle.std.proofs.Common.{◌&&◌, sym, ap, ◌∙◌}
 use Rattle.std.specs.Cmp.Lexicographic.{pointwise}
 use Rattle.sq_value.specs.Comparison.{is_same}

@@ -1,3 +1,4 @@
+-- Left open for cut_by_items: its result; answered by Patterns.
 use Rattle.std.proofs.Common.{◌∷◌, sym, subst, ap, ◌∙◌}
 use Rattle.sq_value.specs.Pattern.{pattern_items, with_item}
 use Rattle.sq_value.specs.private.Pattern.{AreCutsAsRead}

@@ -1,3 +1,4 @@
+-- Left open for cut_by_nothing: its result; answered by Cutting.
 use Rattle.std.proofs.Common.{◌∙◌, arith}
 use Rattle.sq_value.proofs.Cutting.{nothing_set}
 use Rattle.sq_value.proofs.pattern.cut_by_nothing.Goals as goal

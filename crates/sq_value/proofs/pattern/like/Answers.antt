@@ -1,3 +1,4 @@
+-- Left open for like: the clause cutting; answered by Pieces.
 use Rattle.sq_value.proofs.Pieces.{cuts_are_pieces}
 use Rattle.sq_value.proofs.pattern.like.Goals as goal
 

@@ -1,3 +1,4 @@
+-- Left open for matched: its result; answered by Patterns.
 use Rattle.std.proofs.Common.{◌∙◌}
 use Rattle.sq_value.specs.Pattern.{cut_as_read, pattern_items}
 use Rattle.sq_value.proofs.Patterns.{cut_is}

@@ -1,3 +1,4 @@
+-- Left open for put_before: its result; answered by Cutting.
 use Rattle.std.proofs.Common.{◌≡◌, ◌-◌, ◌∷◌, false, length, get_or, sym, subst, ap, ◌∙◌, arith}
 use Rattle.sq_value.specs.private.Pattern.{AreCuts}
 use Rattle.sq_value.proofs.Cutting.{run_put, one_put, not_a_run}

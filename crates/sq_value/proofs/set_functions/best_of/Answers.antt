@@ -1,3 +1,4 @@
+-- Left open for best_of: its result; answered by Extremes.
 use Rattle.std.proofs.Common.{None, fold, sym, ap, ◌∙◌}
 use Rattle.std.proofs.lemmas.List.{take_all}
 use Rattle.sq_value.specs.private.SetFunctions.{kept_best}

@@ -1,3 +1,4 @@
+-- Left open for total: its result; answered by Totals.
 use Rattle.std.proofs.Common.{pos, ◌+ℤ◌, fold, sym, ap, ◌∙◌}
 use Rattle.std.proofs.lemmas.List.{take_all}
 use Rattle.sq_value.specs.private.SetFunctions.{unscaled_of}

@@ -1,3 +1,4 @@
+-- Left open for push_last_digits: its result; answered by Digits.
 use Rattle.sq_value.proofs.Digits.{digits_pushed}
 use Rattle.sq_value.proofs.spelling.+push_last_digits.Goals as goal
 

@@ -1,3 +1,4 @@
+-- Left open for append_digits: that the loop keeps its invariant; answered by Digits.
 use Rattle.sq_value.proofs.Digits.{one_digit_more}
 use Rattle.sq_value.proofs.spelling.append_digits.Goals as goal
 

@@ -1,3 +1,4 @@
+-- Left open for trees_of: that the loop keeps its invariant; answered by laws of sq_perform.
 use Rattle.sq_perform.proofs.Spelled.{spelled_more}
 use Rattle.sq_tree.specs.Module.{module_tokens, module_depth}
 use Rattle.sqmod.proofs.bind.trees_of.Goals as goal

@@ -1,3 +1,4 @@
+-- Left open for check_request_of: its result; answered by laws of clap.
 use Rattle.std.proofs.Common.{◌∙◌}
 use Rattle.std.specs.Prelude.{codes}
 use Rattle.clap.specs.Words.{found_of}

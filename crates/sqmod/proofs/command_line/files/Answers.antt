@@ -1,3 +1,4 @@
+-- Left open for files: its result; answered by Read.
 use Rattle.std.proofs.Common.{◌∙◌, List, [], ap, map, sym}
 use Rattle.std.proofs.lemmas.Result.{IfOk-weaker}
 use Rattle.std.specs.Prelude.{option_map, unwrap_or}

@@ -1,3 +1,4 @@
+-- Left open: the call of task_of, and the clauses refused and asked; answered by Given and Read.
 use Rattle.std.proofs.Common.{List, map, string_bytes, subst, sym}
 use Rattle.clap.specs.Words.{Row, Text, app_of, fault_of, found_of, rows_of}
 use Rattle.sqmod.specs.CommandLine.{IsGiven, MakesTask, sqmod}

@@ -1,3 +1,4 @@
+-- Left open for selecting_command: the clauses app and local; answered by laws of std.
 use Rattle.std.proofs.Common.{◌∙◌, ◌≡◌, ◌||◌, ap, ap₂, false}
 use Rattle.std.proofs.lemmas.Result.{IfOk-weaker}
 use Rattle.std.specs.Prelude.{codes}

@@ -1,3 +1,4 @@
+-- Left open for test_command: the clauses app and local; answered by laws of std.
 use Rattle.std.proofs.Common.{◌∙◌, ◌||◌, ap₂}
 use Rattle.std.proofs.lemmas.Result.{IfOk-weaker}
 use Rattle.clap.specs.Words.{with_rule}

@@ -1,3 +1,4 @@
+-- Left open for texts_request_of: its result; answered without a law.
 use Rattle.sqmod.proofs.command_line.texts_request_of.Goals as goal
 
 pub returns : goal.returns

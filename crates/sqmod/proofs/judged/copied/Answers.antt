@@ -1,3 +1,4 @@
+-- Left open for copied: its result; answered by Left.
 use Rattle.sqmod.proofs.Left.{sources_copied}
 use Rattle.sqmod.proofs.judged.copied.Goals as goal
 

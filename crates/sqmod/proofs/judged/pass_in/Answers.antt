@@ -1,3 +1,4 @@
+-- Left open for pass_in: its result; answered by Left.
 use Rattle.sqmod.proofs.Left.{are_left_set}
 use Rattle.sqmod.proofs.judged.pass_in.Goals as goal
 

@@ -1,3 +1,4 @@
+-- Left open for shell_request_of: the clause made; answered without a law.
 use Rattle.sqmod.proofs.showing.shell_request_of.Goals as goal
 
 pub returns-clause-made : goal.returns-clause-made

@@ -1,3 +1,4 @@
+-- Left open for trace_request_of: the clause made; answered by laws of clap.
 use Rattle.std.proofs.Common.{◌∙◌}
 use Rattle.std.specs.Prelude.{codes}
 use Rattle.clap.specs.Words.{found_of}

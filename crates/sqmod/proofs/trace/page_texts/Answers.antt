@@ -1,3 +1,4 @@
+-- Left open for page_texts: its result; answered without a law.
 use Rattle.std.proofs.Common.{length}
 use Rattle.sqmod.proofs.trace.page_texts.Goals as goal
 

@@ -1,3 +1,4 @@
+-- Left open for trace_texts: its result; answered without a law.
 use Rattle.std.proofs.Common.{length}
 use Rattle.sqmod.proofs.trace.trace_texts.Goals as goal
 

@@ -1,7 +1,8 @@
+-- Left open for Scope::column: its result; answered by Scopes and Steps.
 use Rattle.sq_binding.specs.Scope.{column_meant}
 use Rattle.sq_binder.specs.Scope.{found_of, scopes_of}
-use Rattle.sq_binder.proofs.Scopes.{column_around, column_here, column_nowhere, fit_fails, stops_around}
-use Rattle.sq_binder.proofs.Steps.{handed_on, stops_by}
+use Rattle.sq_binder.proofs.Clauses.Scopes.{column_around, column_here, column_nowhere, fit_fails, stops_around}
+use Rattle.sq_binder.proofs.OneByOne.Steps.{handed_on, stops_by}
 use Rattle.sq_binder.proofs.scope.Scope.+column.Goals as goal
 
 pub returns-in-Some-default : goal.returns-in-Some-default

@@ -1,7 +1,8 @@
+-- Left open for Scope::only_fit: its result, and that the loop keeps its invariant; answered by Scopes.
 use Rattle.sq_binding.specs.Scope.{fits}
 use Rattle.sq_binder.specs.Scope.{only, scope_of}
 use Rattle.sq_binder.specs.declared.scope.Scope.{out-Scope}
-use Rattle.sq_binder.proofs.Scopes.{fit_next, fit_stops, fits_done}
+use Rattle.sq_binder.proofs.Clauses.Scopes.{fit_next, fit_stops, fits_done}
 use Rattle.sq_binder.proofs.scope.Scope.only_fit.Goals as goal
 
 pub loop-number-preserved : goal.loop-number-preserved

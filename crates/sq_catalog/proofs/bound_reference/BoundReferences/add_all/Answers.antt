@@ -1,11 +1,12 @@
+-- Left open: the clause exact, and that the loop keeps its invariant; answered by ReferencesBound and others.
 use Rattle.std.proofs.Common.{[], subst, sym}
 use Rattle.std.specs.List.{AllZip}
 use Rattle.sq_binding.specs.Reference.{bound_reference}
 use Rattle.sq_catalog.specs.Exact.{declared}
 use Rattle.sq_catalog.specs.Reference.{IsBound, own_seen}
-use Rattle.sq_catalog.proofs.ReferencesBound.{bound_all, bound_next, bound_none, bound_stops}
-use Rattle.sq_catalog.proofs.Turns.{handed_on}
-use Rattle.sq_catalog.proofs.WrittenParts.{zip_read}
+use Rattle.sq_catalog.proofs.CreateTable.ReferencesBound.{bound_all, bound_next, bound_none, bound_stops}
+use Rattle.sq_catalog.proofs.OneByOne.Turns.{handed_on}
+use Rattle.sq_catalog.proofs.CreateTable.WrittenParts.{zip_read}
 use Rattle.sq_catalog.proofs.bound_reference.BoundReferences.add_all.Goals as goal
 
 pub returns-in_err-add-clause-exact : goal.returns-in_err-add-clause-exact

@@ -3,7 +3,7 @@ use Rattle.std.specs.List.{AllZip, list_all}
 use Rattle.sq_binding.specs.Reference.{bound_reference}
 use Rattle.sq_catalog.specs.Exact.{declared}
 use Rattle.sq_catalog.specs.Reference.{IsBound, is_to, keys_with, own_seen}
-use Rattle.sq_catalog.proofs.ReferencesBound.{AreBoundTo}
+use Rattle.sq_catalog.proofs.CreateTable.ReferencesBound.{AreBoundTo}
 use Rattle.sq_catalog.proofs.bound_reference.BoundReferences.add_all.Given as goal
 
 abbrev pub invariant-loop-reference : goal.invariant-loop-reference

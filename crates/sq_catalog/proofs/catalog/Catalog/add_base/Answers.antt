@@ -1,10 +1,11 @@
+-- Left open: the clauses views and exact, and the invariant of self; answered by Added, Entries and others.
 use Rattle.std.proofs.Common.{ap, refl}
 use Rattle.sq_catalog.specs.Catalog.{Catalog}
-use Rattle.sq_catalog.proofs.Added.{counted_all, refer_whole, stand_whole, whole_added}
+use Rattle.sq_catalog.proofs.Growth.Added.{counted_all, refer_whole, stand_whole, whole_added}
 use Rattle.sq_catalog.specs.Exact.{declared, views_declared}
 use Rattle.sq_catalog.specs.Held.{grants_held}
-use Rattle.sq_catalog.proofs.Entries.{base_put}
-use Rattle.sq_catalog.proofs.GainsViews.{views_beside}
+use Rattle.sq_catalog.proofs.Meaning.Entries.{base_put}
+use Rattle.sq_catalog.proofs.Growth.GainsViews.{views_beside}
 use Rattle.sq_catalog.proofs.catalog.Catalog.add_base.Goals as goal
 
 pub invariant_of-self-inside : goal.invariant_of-self-inside

@@ -1,12 +1,13 @@
+-- Left open: the clause exact, and that the loop keeps its invariant; answered by Building, Gains and others.
 use Rattle.std.proofs.Common.{[], sym, subst}
 use Rattle.sq_meaning.specs.SchemaRefusal.{parts_of_schema}
 use Rattle.sq_binding.specs.Declaring.{with_parts}
 use Rattle.sq_catalog.specs.Catalog.{definition_in, table_in}
 use Rattle.sq_catalog.specs.Exact.{StopsAt, declared}
 use Rattle.sq_catalog.specs.Views.{view_in}
-use Rattle.sq_catalog.proofs.Building.{element_made, element_stops, user_made, user_stops}
-use Rattle.sq_catalog.proofs.Gains.{gains_next}
-use Rattle.sq_catalog.proofs.GainsViews.{views_next}
+use Rattle.sq_catalog.proofs.Growth.Building.{element_made, element_stops, user_made, user_stops}
+use Rattle.sq_catalog.proofs.Growth.Gains.{gains_next}
+use Rattle.sq_catalog.proofs.Growth.GainsViews.{views_next}
 use Rattle.sq_catalog.proofs.catalog.Catalog.add_schema.Goals as goal
 
 pub loop-number-init : goal.loop-number-init

@@ -4,7 +4,7 @@ use Rattle.sq_binding.specs.Declaring.{with_parts}
 use Rattle.sq_catalog.specs.Catalog.{Gains, definition_in, table_in}
 use Rattle.sq_catalog.specs.Exact.{declared}
 use Rattle.sq_catalog.specs.Views.{GainsViews, view_in}
-use Rattle.sq_catalog.proofs.Building.{elements_left}
+use Rattle.sq_catalog.proofs.Growth.Building.{elements_left}
 use Rattle.sq_catalog.proofs.catalog.Catalog.add_schema.Given as goal
 
 abbrev pub invariant-loop-number : goal.invariant-loop-number

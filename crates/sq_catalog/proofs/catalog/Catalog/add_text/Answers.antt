@@ -1,12 +1,13 @@
+-- Left open: the clause exact, and that the loop keeps its invariant; answered by Building, Gains and others.
 use Rattle.std.proofs.Common.{◌+◌}
 use Rattle.sq_meaning.specs.SchemaRefusal.{parts_of_schema, parts_of_text}
 use Rattle.sq_binding.specs.Declaring.{with_parts}
 use Rattle.sq_catalog.specs.Catalog.{schema_definitions, schema_tables}
 use Rattle.sq_catalog.specs.Exact.{declared}
 use Rattle.sq_catalog.specs.Views.{schema_views}
-use Rattle.sq_catalog.proofs.Building.{left, left_made, left_stops, parts_made, parts_stop}
-use Rattle.sq_catalog.proofs.Gains.{gains_first, gains_next}
-use Rattle.sq_catalog.proofs.GainsViews.{views_first, views_next}
+use Rattle.sq_catalog.proofs.Growth.Building.{left, left_made, left_stops, parts_made, parts_stop}
+use Rattle.sq_catalog.proofs.Growth.Gains.{gains_first, gains_next}
+use Rattle.sq_catalog.proofs.Growth.GainsViews.{views_first, views_next}
 use Rattle.sq_catalog.proofs.catalog.Catalog.add_text.Goals as goal
 
 pub loop-number-init : goal.loop-number-init

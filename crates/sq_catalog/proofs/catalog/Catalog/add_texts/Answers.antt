@@ -1,12 +1,13 @@
+-- Left open: the clause exact, and that the loop keeps its invariant; answered by Building, Gains and others.
 use Rattle.std.proofs.Common.{[], refl}
 use Rattle.sq_meaning.specs.SchemaRefusal.{parts_of_text, schema_parts}
 use Rattle.sq_binding.specs.Declaring.{with_parts}
 use Rattle.sq_catalog.specs.Catalog.{text_definitions, text_tables}
 use Rattle.sq_catalog.specs.Exact.{declared}
 use Rattle.sq_catalog.specs.Views.{text_views}
-use Rattle.sq_catalog.proofs.Building.{left_made, left_stops}
-use Rattle.sq_catalog.proofs.Gains.{gains_next, gains_none}
-use Rattle.sq_catalog.proofs.GainsViews.{views_next, views_none}
+use Rattle.sq_catalog.proofs.Growth.Building.{left_made, left_stops}
+use Rattle.sq_catalog.proofs.Growth.Gains.{gains_next, gains_none}
+use Rattle.sq_catalog.proofs.Growth.GainsViews.{views_next, views_none}
 use Rattle.sq_catalog.proofs.catalog.Catalog.add_texts.Goals as goal
 
 pub loop-number-init : goal.loop-number-init

@@ -4,7 +4,7 @@ use Rattle.sq_binding.specs.Declaring.{with_parts}
 use Rattle.sq_catalog.specs.Catalog.{Gains, declared_definitions, declared_tables}
 use Rattle.sq_catalog.specs.Exact.{declared}
 use Rattle.sq_catalog.specs.Views.{GainsViews, declared_views}
-use Rattle.sq_catalog.proofs.Building.{left}
+use Rattle.sq_catalog.proofs.Growth.Building.{left}
 use Rattle.sq_catalog.proofs.catalog.Catalog.add_texts.Given as goal
 
 abbrev pub invariant-loop-number : goal.invariant-loop-number

@@ -1,7 +1,8 @@
+-- Left open for Catalog::add_user: the clauses tables and views; answered by Gains and GainsViews.
 use Rattle.std.proofs.Common.{ap}
 use Rattle.sq_catalog.specs.Catalog.{Catalog}
-use Rattle.sq_catalog.proofs.Gains.{gains_kept}
-use Rattle.sq_catalog.proofs.GainsViews.{views_as_before}
+use Rattle.sq_catalog.proofs.Growth.Gains.{gains_kept}
+use Rattle.sq_catalog.proofs.Growth.GainsViews.{views_as_before}
 use Rattle.sq_catalog.proofs.catalog.Catalog.add_user.Goals as goal
 
 pub returns-clause-tables : goal.returns-clause-tables

@@ -1,13 +1,14 @@
+-- Left open: the clauses tables and views, and the invariant of self; answered by Added and others.
 use Rattle.std.proofs.Common.{List, ap, refl, subst, sym}
 use Rattle.sq_bound.specs.declared.names.BaseTable.{BaseTable}
 use Rattle.sq_catalog.specs.Catalog.{Catalog}
 use Rattle.sq_catalog.specs.Stored.{IsNamed, IsStored}
-use Rattle.sq_catalog.proofs.Added.{stand_added}
-use Rattle.sq_catalog.proofs.Extending.{tables_beside, view_beside}
-use Rattle.sq_catalog.proofs.Gains.{gains_kept}
-use Rattle.sq_catalog.proofs.GainsViews.{adds_view}
-use Rattle.sq_catalog.proofs.Listed.{all_inserted}
-use Rattle.sq_catalog.proofs.ViewQueries.{stand_all}
+use Rattle.sq_catalog.proofs.Growth.Added.{stand_added}
+use Rattle.sq_catalog.proofs.Growth.Extending.{tables_beside, view_beside}
+use Rattle.sq_catalog.proofs.Growth.Gains.{gains_kept}
+use Rattle.sq_catalog.proofs.Growth.GainsViews.{adds_view}
+use Rattle.sq_catalog.proofs.OneByOne.Listed.{all_inserted}
+use Rattle.sq_catalog.proofs.CreateView.ViewQueries.{stand_all}
 use Rattle.sq_catalog.proofs.catalog.Catalog.add_view.Goals as goal
 
 pub invariant_of-self : goal.invariant_of-self

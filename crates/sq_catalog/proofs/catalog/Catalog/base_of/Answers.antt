@@ -1,3 +1,4 @@
+-- Left open: the call of assembled, and the clauses checks and exact; answered by Stored and others.
 use Rattle.std.proofs.Common.{◌≡◌, List, length, map, ap, Ok, IfOk, sym, subst, ◌∙◌}
 use Rattle.sq_bound.specs.declared.condition.BoundCond.{BoundCond}
 use Rattle.sq_binding.specs.Seen.{cond_seen}
@@ -8,9 +9,9 @@ use Rattle.sq_catalog.specs.Reference.{found_seen, keys_with, references_made}
 use Rattle.sq_catalog.specs.Table.{AreChecksMade, held_declared}
 use Rattle.sq_catalog.specs.Written.{conditions_lent}
 use Rattle.sq_catalog.specs.declared.reference.FoundReference.{FoundReference}
-use Rattle.sq_catalog.proofs.Stored.{by_keys_at}
-use Rattle.sq_catalog.proofs.TablesMade.{base_is, base_stop, own_here, parts_here, references_here}
-use Rattle.sq_catalog.proofs.Turns.{handed_on}
+use Rattle.sq_catalog.proofs.Growth.Stored.{by_keys_at}
+use Rattle.sq_catalog.proofs.CreateTable.TablesMade.{base_is, base_stop, own_here, parts_here, references_here}
+use Rattle.sq_catalog.proofs.OneByOne.Turns.{handed_on}
 use Rattle.sq_catalog.proofs.catalog.Catalog.base_of.Goals as goal
 
 pub assembled-requires-clause-references : goal.assembled-requires-clause-references

@@ -1,3 +1,4 @@
+-- Left open for Catalog::bound_view: the clauses bound and exact; answered by ViewAlone and ViewFound.
 use Rattle.std.proofs.Common.{ap, sym, subst, ◌∙◌}
 use Rattle.sq_meaning.specs.Spelled.{select_of}
 use Rattle.sq_binding.specs.View.{view_bound}
@@ -5,8 +6,8 @@ use Rattle.sq_binding.specs.CreateView.{or_bad_view}
 use Rattle.sq_catalog.specs.Fault.{Makes}
 use Rattle.sq_catalog.specs.UserTables.{names_in}
 use Rattle.sq_catalog.specs.ViewMade.{view_found}
-use Rattle.sq_catalog.proofs.ViewAlone.{found_alone, view_is_alone}
-use Rattle.sq_catalog.proofs.ViewFound.{answer_is_found}
+use Rattle.sq_catalog.proofs.CreateView.ViewAlone.{found_alone, view_is_alone}
+use Rattle.sq_catalog.proofs.CreateView.ViewFound.{answer_is_found}
 use Rattle.sq_catalog.proofs.catalog.Catalog.bound_view.Goals as goal
 
 pub returns-clause-bound : goal.returns-clause-bound

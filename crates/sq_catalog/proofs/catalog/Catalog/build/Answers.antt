@@ -1,9 +1,10 @@
+-- Left open for Catalog::build: the clauses declares and exact; answered by Declared.
 use Rattle.std.proofs.Common.{◌≡◌, Ok, subst}
 use Rattle.sq_meaning.specs.SchemaRefusal.{schema_parts}
 use Rattle.sq_binding.specs.Catalog as definition
 use Rattle.sq_binding.specs.Declaring.{with_parts}
 use Rattle.sq_catalog.specs.Exact.{StopsAt, declared}
-use Rattle.sq_catalog.proofs.Declared.{declared_all}
+use Rattle.sq_catalog.proofs.Growth.Declared.{declared_all}
 use Rattle.sq_catalog.proofs.catalog.Catalog.build.Goals as goal
 
 pub returns-in-Ok-clause-declares : goal.returns-in-Ok-clause-declares

@@ -1,4 +1,5 @@
-use Rattle.sq_catalog.proofs.Entries.{place_asked}
+-- Left open for Catalog::check_place: the clause exact; answered by Entries.
+use Rattle.sq_catalog.proofs.Meaning.Entries.{place_asked}
 use Rattle.sq_catalog.specs.Exact.{declared, name_in}
 use Rattle.sq_catalog.proofs.catalog.Catalog.check_place.Goals as goal
 

@@ -1,7 +1,8 @@
+-- Left open for Catalog::check_view: the clause exact; answered by ViewMade and Turns.
 use Rattle.sq_catalog.specs.Exact.{declared, name_in}
 use Rattle.sq_catalog.specs.ViewMade.{checked_view, view_found}
-use Rattle.sq_catalog.proofs.ViewMade.{option_stops, place_passes, privilege_stops}
-use Rattle.sq_catalog.proofs.Turns.{handed_on}
+use Rattle.sq_catalog.proofs.CreateView.ViewMade.{option_stops, place_passes, privilege_stops}
+use Rattle.sq_catalog.proofs.OneByOne.Turns.{handed_on}
 use Rattle.sq_catalog.proofs.catalog.Catalog.check_view.Goals as goal
 
 pub returns-in_err-refused_if-clause-exact : goal.returns-in_err-refused_if-clause-exact

@@ -1,10 +1,11 @@
+-- Left open: the clauses exact, checks and checks_are; answered by ChecksMade, TablesMade and Turns.
 use Rattle.std.proofs.Common.{length, ◌∙◌}
 use Rattle.sq_catalog.specs.Draft.{draft_seen}
 use Rattle.sq_catalog.specs.Exact.{base_declared, declared}
 use Rattle.sq_catalog.specs.Written.{conditions_lent}
-use Rattle.sq_catalog.proofs.ChecksMade.{checks_stand, checks_written}
-use Rattle.sq_catalog.proofs.TablesMade.{base_stops, keys_stop, rest_here, rest_stops, table_made}
-use Rattle.sq_catalog.proofs.Turns.{handed_on, stops_same}
+use Rattle.sq_catalog.proofs.CreateTable.ChecksMade.{checks_stand, checks_written}
+use Rattle.sq_catalog.proofs.CreateTable.TablesMade.{base_stops, keys_stop, rest_here, rest_stops, table_made}
+use Rattle.sq_catalog.proofs.OneByOne.Turns.{handed_on, stops_same}
 use Rattle.sq_catalog.proofs.catalog.Catalog.checked_base.Goals as goal
 
 pub returns-in_err-check_keys-clause-exact : goal.returns-in_err-check_keys-clause-exact

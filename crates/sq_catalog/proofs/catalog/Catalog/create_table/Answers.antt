@@ -1,3 +1,4 @@
+-- Left open for Catalog::create_table: the clauses tables and exact; answered by Gains, TablesMade and Turns.
 use Rattle.std.proofs.Common.{[], ◌∷◌, ap, subst, sym, ◌∙◌}
 use Rattle.std.specs.Result.{OnOk}
 use Rattle.sq_meaning.specs.Environment.{TableName}
@@ -8,9 +9,9 @@ use Rattle.sq_catalog.specs.Catalog.{Gains}
 use Rattle.sq_catalog.specs.Exact.{base_declared, declared}
 use Rattle.sq_catalog.specs.Fault.{Stops}
 use Rattle.sq_catalog.specs.declared.catalog.FullName.{FullName}
-use Rattle.sq_catalog.proofs.Gains.{gains_one}
-use Rattle.sq_catalog.proofs.TablesMade.{name_stops, table_created, table_stops}
-use Rattle.sq_catalog.proofs.Turns.{added_makes, handed_on}
+use Rattle.sq_catalog.proofs.Growth.Gains.{gains_one}
+use Rattle.sq_catalog.proofs.CreateTable.TablesMade.{name_stops, table_created, table_stops}
+use Rattle.sq_catalog.proofs.OneByOne.Turns.{added_makes, handed_on}
 use Rattle.sq_catalog.proofs.catalog.Catalog.create_table.Goals as goal
 
 pub returns-clause-tables : goal.returns-clause-tables

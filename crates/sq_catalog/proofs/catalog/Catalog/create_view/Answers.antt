@@ -1,3 +1,4 @@
+-- Left open: the clauses exact and views; answered by GainsViews, ViewMade and Turns.
 use Rattle.std.proofs.Common.{◌≡◌, List, ap, map, subst, ◌∙◌}
 use Rattle.std.specs.Result.{OnOk, is_ok}
 use Rattle.sq_binding.specs.Catalog as definition
@@ -6,9 +7,9 @@ use Rattle.sq_binding.specs.CreateView.{create_view}
 use Rattle.sq_catalog.specs.Catalog.{Catalog}
 use Rattle.sq_catalog.specs.Exact.{declared}
 use Rattle.sq_catalog.specs.Held.{grant_seen, grants_held}
-use Rattle.sq_catalog.proofs.GainsViews.{view_created}
-use Rattle.sq_catalog.proofs.ViewMade.{create_answered, create_stops}
-use Rattle.sq_catalog.proofs.Turns.{handed_on, no_memory}
+use Rattle.sq_catalog.proofs.Growth.GainsViews.{view_created}
+use Rattle.sq_catalog.proofs.CreateView.ViewMade.{create_answered, create_stops}
+use Rattle.sq_catalog.proofs.OneByOne.Turns.{handed_on, no_memory}
 use Rattle.sq_catalog.proofs.catalog.Catalog.create_view.Goals as goal
 
 pub returns-in_err-table-clause-exact : goal.returns-in_err-table-clause-exact

@@ -1,3 +1,4 @@
+-- Left open for Catalog::declared_view: the clause exact; answered by ViewMade.
 use Rattle.std.proofs.Common.{◌≡◌, Ok, ap, subst}
 use Rattle.sq_meaning.specs.declared.refusal.SchemaFault.TheVariants.{NameTwice}
 use Rattle.sq_binding.specs.ElementOutcome.{refused_if}
@@ -6,7 +7,7 @@ use Rattle.sq_binding.specs.CreateView.{declared_view}
 use Rattle.sq_catalog.specs.Exact.{declared, name_in}
 use Rattle.sq_catalog.specs.Fault.{Stops}
 use Rattle.sq_catalog.specs.ViewMade.{view_found}
-use Rattle.sq_catalog.proofs.ViewMade.{declared_made, declared_taken, declared_twice, declared_unbound, view_handed_on}
+use Rattle.sq_catalog.proofs.CreateView.ViewMade.{declared_made, declared_taken, declared_twice, declared_unbound, view_handed_on}
 use Rattle.sq_catalog.proofs.catalog.Catalog.declared_view.Goals as goal
 
 pub returns-in_err-check_new_name-clause-exact : goal.returns-in_err-check_new_name-clause-exact

@@ -1,10 +1,11 @@
+-- Left open for Catalog::draft: the clauses of and exact; answered by TablesMade.
 use Rattle.std.proofs.Common.{Ok, ap, length, map, nat_lt, ◌∙◌, sym}
 use Rattle.sq_catalog.specs.Exact.{declared}
 use Rattle.sq_catalog.specs.Keys.{primaries, primary_among}
 use Rattle.sq_catalog.specs.Reference.{found_seen}
 use Rattle.sq_catalog.specs.Table.{typed_definitions, typed_seen}
 use Rattle.sq_catalog.specs.Written.{conditions_lent}
-use Rattle.sq_catalog.proofs.TablesMade.{draft_is, draft_stops, draft_with, is_draft_of}
+use Rattle.sq_catalog.proofs.CreateTable.TablesMade.{draft_is, draft_stops, draft_with, is_draft_of}
 use Rattle.sq_catalog.proofs.catalog.Catalog.draft.Goals as goal
 
 pub returns-in-Ok-clause-of : goal.returns-in-Ok-clause-of

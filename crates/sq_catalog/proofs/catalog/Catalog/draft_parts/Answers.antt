@@ -1,3 +1,4 @@
+-- Left open for Catalog::draft_parts: the clause exact; answered by Turns.
 use Rattle.std.proofs.Common.{List, map, subst}
 use Rattle.std.specs.Borrow.{Bor}
 use Rattle.sq_tree.specs.declared.schema.ColumnDefinition.{ColumnDefinition}
@@ -12,7 +13,7 @@ use Rattle.sq_catalog.specs.Reference.{found_seen, reference_seen}
 use Rattle.sq_catalog.specs.Table.{names_found, typed_seen}
 use Rattle.sq_catalog.specs.Written.{definitions_lent}
 use Rattle.sq_catalog.specs.declared.written.WrittenKey.{WrittenKey}
-use Rattle.sq_catalog.proofs.Turns.{both_makes}
+use Rattle.sq_catalog.proofs.OneByOne.Turns.{both_makes}
 use Rattle.sq_catalog.proofs.catalog.Catalog.draft_parts.Goals as goal
 
 pub returns-clause-exact : goal.returns-clause-exact

@@ -1,18 +1,19 @@
+-- Left open: the clauses of, named, known, number, exact and described; answered by Known and others.
 use Rattle.std.proofs.Common.{◌≡◌, None, Some, ap, subst, sym, ◌∙◌}
 use Rattle.std.specs.Map.{keys_of, lookup}
 use Rattle.std.specs.Option.{option_or}
 use Rattle.sq_bound.specs.Known.{known_by}
-use Rattle.sq_catalog.proofs.Known.{base_here, view_here}
+use Rattle.sq_catalog.proofs.Meaning.Known.{base_here, view_here}
 use Rattle.sq_bound.specs.WellFormed.{IsViewAmong}
 use Rattle.sq_bound.specs.declared.condition.TablePlace.TheVariants.{Base, View}
 use Rattle.sq_catalog.specs.Catalog.{Catalog, base_meant, is_table, known, known_at, known_first, table_number, view_meant}
 use Rattle.sq_catalog.specs.Stored.{IsNumbered, IsStored, columns_of, seen_of}
-use Rattle.sq_catalog.proofs.Entries.{described_at, entry_at}
-use Rattle.sq_catalog.proofs.Extending.{table_read}
-use Rattle.sq_catalog.proofs.Added.{stands_at}
-use Rattle.sq_catalog.proofs.References.{numbered_here, view_without}
-use Rattle.sq_catalog.proofs.Stored.{named_at, stored_at}
-use Rattle.sq_catalog.proofs.ViewQueries.{base_among, view_read}
+use Rattle.sq_catalog.proofs.Meaning.Entries.{described_at, entry_at}
+use Rattle.sq_catalog.proofs.Growth.Extending.{table_read}
+use Rattle.sq_catalog.proofs.Growth.Added.{stands_at}
+use Rattle.sq_catalog.proofs.CreateTable.References.{numbered_here, view_without}
+use Rattle.sq_catalog.proofs.Growth.Stored.{named_at, stored_at}
+use Rattle.sq_catalog.proofs.CreateView.ViewQueries.{base_among, view_read}
 use Rattle.sq_catalog.proofs.catalog.Catalog.entry.Goals as goal
 
 pub returns-in-Some-clause-of : goal.returns-in-Some-clause-of

@@ -1,3 +1,4 @@
+-- Left open for Catalog::found_in: the clauses exact and named; answered by Turns.
 use Rattle.std.proofs.Common.{ℕ, IfOk, List, ap, length, map, subst, sym, vec_len, ◌∙◌}
 use Rattle.std.specs.Borrow.{Bor}
 use Rattle.sq_lex.specs.declared.name.Name.{Name}
@@ -12,7 +13,7 @@ use Rattle.sq_catalog.specs.Reference.{constraints_lent, found_seen, reference_s
 use Rattle.sq_catalog.specs.Table.{names_found}
 use Rattle.sq_catalog.specs.Written.{definitions_lent, names_at}
 use Rattle.sq_catalog.specs.declared.written.WrittenKey.{WrittenKey}
-use Rattle.sq_catalog.proofs.Turns.{handed_on, stops_then, then_makes}
+use Rattle.sq_catalog.proofs.OneByOne.Turns.{handed_on, stops_then, then_makes}
 use Rattle.sq_catalog.proofs.catalog.Catalog.found_in.Goals as goal
 
 pub returns-in_err-named-clause-exact : goal.returns-in_err-named-clause-exact

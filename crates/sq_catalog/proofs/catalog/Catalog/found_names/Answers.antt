@@ -1,3 +1,4 @@
+-- Left open for Catalog::found_names: the clause exact; answered by Turns.
 use Rattle.std.proofs.Common.{List, map, subst}
 use Rattle.sq_binding.specs.ElementOutcome.{each}
 use Rattle.sq_binding.specs.Position.{positions_of}
@@ -8,7 +9,7 @@ use Rattle.sq_catalog.specs.Reference.{found_seen, reference_seen}
 use Rattle.sq_catalog.specs.Written.{names_at}
 use Rattle.sq_catalog.specs.declared.written.WrittenKey.{WrittenKey}
 use Rattle.sq_catalog.specs.declared.written.WrittenReference.{WrittenReference}
-use Rattle.sq_catalog.proofs.Turns.{both_makes}
+use Rattle.sq_catalog.proofs.OneByOne.Turns.{both_makes}
 use Rattle.sq_catalog.proofs.catalog.Catalog.found_names.Goals as goal
 
 pub returns-clause-exact : goal.returns-clause-exact

@@ -1,3 +1,4 @@
+-- Left open: the clauses tables, views and exact; answered by Gains, GainsViews, Granting and Turns.
 use Rattle.std.proofs.Common.{◌≡◌, List, ap, map, subst, ◌∙◌}
 use Rattle.std.specs.Prelude.{OnOk}
 use Rattle.sq_binding.specs.Catalog.{with_grants}
@@ -6,10 +7,10 @@ use Rattle.sq_catalog.specs.Catalog.{Catalog}
 use Rattle.sq_catalog.specs.Exact.{bases_declared, declared, views_declared}
 use Rattle.sq_catalog.specs.Held.{grant_seen, grants_held}
 use Rattle.sq_catalog.specs.declared.held.Grant.{Grant}
-use Rattle.sq_catalog.proofs.Gains.{gains_none_if}
-use Rattle.sq_catalog.proofs.GainsViews.{views_none_if}
-use Rattle.sq_catalog.proofs.Granting.{catalog_with, makes_granted}
-use Rattle.sq_catalog.proofs.Turns.{stops_then}
+use Rattle.sq_catalog.proofs.Growth.Gains.{gains_none_if}
+use Rattle.sq_catalog.proofs.Growth.GainsViews.{views_none_if}
+use Rattle.sq_catalog.proofs.Rights.Granting.{catalog_with, makes_granted}
+use Rattle.sq_catalog.proofs.OneByOne.Turns.{stops_then}
 use Rattle.sq_catalog.proofs.catalog.Catalog.grant.Goals as goal
 
 pub returns-in-Ok-clause-tables : goal.returns-in-Ok-clause-tables

@@ -1,10 +1,11 @@
+-- Left open for Catalog::grants_if_held: its result; answered by Turns.
 use Rattle.std.proofs.Common.{List, map, subst}
 use Rattle.sq_catalog.specs.Exact.{name_in}
 use Rattle.sq_catalog.specs.Fault.{Makes}
 use Rattle.sq_catalog.specs.Granting.{grants_of}
 use Rattle.sq_catalog.specs.Held.{grant_seen, privilege_of}
 use Rattle.sq_catalog.specs.declared.privilege.Privilege.{Privilege}
-use Rattle.sq_catalog.proofs.Turns.{stops_then, then_makes}
+use Rattle.sq_catalog.proofs.OneByOne.Turns.{stops_then, then_makes}
 use Rattle.sq_catalog.proofs.catalog.Catalog.grants_if_held.Goals as goal
 
 pub returns-in-Ok : goal.returns-in-Ok

@@ -1,8 +1,9 @@
+-- Left open for Catalog::grants_of: its result; answered by Granting and ViewHeld.
 use Rattle.std.proofs.Common.{map}
 use Rattle.sq_catalog.specs.Exact.{declared, entry_declared, name_in, names_in}
 use Rattle.sq_catalog.specs.Held.{grant_seen}
-use Rattle.sq_catalog.proofs.Granting.{makes_there, none_there}
-use Rattle.sq_catalog.proofs.ViewHeld.{entry_names}
+use Rattle.sq_catalog.proofs.Rights.Granting.{makes_there, none_there}
+use Rattle.sq_catalog.proofs.CreateView.ViewHeld.{entry_names}
 use Rattle.sq_catalog.proofs.catalog.Catalog.grants_of.Goals as goal
 
 pub returns-in-Some : goal.returns-in-Some

@@ -1,3 +1,4 @@
+-- Left open for Catalog::grants_over: its result; answered without a law.
 use Rattle.std.proofs.Common.{List, ap, map, subst, true, ◌∙◌}
 use Rattle.sq_lex.specs.declared.name.Name.{Name}
 use Rattle.sq_binding.specs.Catalog.{may}

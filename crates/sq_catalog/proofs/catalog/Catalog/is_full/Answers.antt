@@ -1,8 +1,9 @@
+-- Left open for Catalog::is_full: its result; answered by Entries.
 use Rattle.std.proofs.Common.{◌+◌, ap, length, sym, ◌∙◌}
 use Rattle.std.specs.Prelude.{nat_le}
 use Rattle.sq_catalog.specs.Catalog.{Catalog}
 use Rattle.sq_catalog.specs.Exact.{declared}
-use Rattle.sq_catalog.proofs.Entries.{bases_counted, views_counted}
+use Rattle.sq_catalog.proofs.Meaning.Entries.{bases_counted, views_counted}
 use Rattle.sq_catalog.proofs.catalog.Catalog.is_full.Goals as goal
 
 pub returns : goal.returns

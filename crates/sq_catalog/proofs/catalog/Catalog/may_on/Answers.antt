@@ -1,3 +1,4 @@
+-- Left open for Catalog::may_on: its result; answered by Found and ViewHeld.
 use Rattle.std.proofs.Common.{◌&&◌, ap, sym, ◌∙◌}
 use Rattle.std.specs.List.{list_any}
 use Rattle.sq_meaning.specs.Privileges.{is_on_column}
@@ -5,8 +6,8 @@ use Rattle.sq_binding.specs.Catalog.{gives, owns}
 use Rattle.sq_catalog.specs.Catalog.{Catalog}
 use Rattle.sq_catalog.specs.Exact.{entry_declared, name_in}
 use Rattle.sq_catalog.specs.Held.{privilege_of}
-use Rattle.sq_catalog.proofs.Found.{first_found, second_found}
-use Rattle.sq_catalog.proofs.ViewHeld.{entry_names}
+use Rattle.sq_catalog.proofs.OneByOne.Found.{first_found, second_found}
+use Rattle.sq_catalog.proofs.CreateView.ViewHeld.{entry_names}
 use Rattle.sq_catalog.proofs.catalog.Catalog.may_on.Goals as goal
 
 pub returns-then-owner_holds : goal.returns-then-owner_holds

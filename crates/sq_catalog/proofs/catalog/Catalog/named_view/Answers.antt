@@ -1,11 +1,12 @@
+-- Left open for Catalog::named_view: the clauses written and exact; answered by ViewMade and ViewNames.
 use Rattle.std.proofs.Common.{List, map, ap, ◌∙◌}
 use Rattle.sq_bound.specs.declared.condition.ResultColumn.{ResultColumn}
 use Rattle.sq_catalog.specs.Catalog.{known}
 use Rattle.sq_catalog.specs.Exact.{declared}
 use Rattle.sq_catalog.specs.View.{names_or}
 use Rattle.sq_catalog.specs.declared.view.NewView.{NewView}
-use Rattle.sq_catalog.proofs.ViewMade.{named_made, named_stops}
-use Rattle.sq_catalog.proofs.ViewNames.{views_written}
+use Rattle.sq_catalog.proofs.CreateView.ViewMade.{named_made, named_stops}
+use Rattle.sq_catalog.proofs.CreateView.ViewNames.{views_written}
 use Rattle.sq_catalog.proofs.catalog.Catalog.named_view.Goals as goal
 
 pub returns-in-Ok-clause-written : goal.returns-in-Ok-clause-written

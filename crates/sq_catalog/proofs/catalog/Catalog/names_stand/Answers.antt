@@ -1,5 +1,6 @@
+-- Left open for Catalog::names_stand: its result; answered by UserNames.
 use Rattle.std.proofs.Common.{refl, subst}
-use Rattle.sq_catalog.proofs.UserNames.{Holds, names_stand}
+use Rattle.sq_catalog.proofs.Meaning.UserNames.{Holds, names_stand}
 use Rattle.sq_catalog.proofs.catalog.Catalog.names_stand.Goals as goal
 
 pub returns : goal.returns

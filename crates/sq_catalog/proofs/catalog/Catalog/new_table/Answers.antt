@@ -1,3 +1,4 @@
+-- Left open: the clauses base, references and exact; answered by Bases, References, TablesMade and Turns.
 use Rattle.std.proofs.Common.{vec_len, subst}
 use Rattle.sq_tree.specs.declared.schema.TableDefinition.{TableDefinition}
 use Rattle.sq_binding.specs.Table.{drafted, drafted_table}
@@ -6,10 +7,10 @@ use Rattle.sq_catalog.specs.Exact.{base_declared, declared}
 use Rattle.sq_catalog.specs.Fault.{Makes}
 use Rattle.sq_catalog.specs.Table.{typed_definitions}
 use Rattle.sq_catalog.specs.Written.{conditions_lent}
-use Rattle.sq_catalog.proofs.Bases.{base_made}
-use Rattle.sq_catalog.proofs.References.{references_made}
-use Rattle.sq_catalog.proofs.TablesMade.{if_ok_more}
-use Rattle.sq_catalog.proofs.Turns.{handed_on, stops_then, then_makes}
+use Rattle.sq_catalog.proofs.CreateTable.Bases.{base_made}
+use Rattle.sq_catalog.proofs.CreateTable.References.{references_made}
+use Rattle.sq_catalog.proofs.CreateTable.TablesMade.{if_ok_more}
+use Rattle.sq_catalog.proofs.OneByOne.Turns.{handed_on, stops_then, then_makes}
 use Rattle.sq_catalog.proofs.catalog.Catalog.new_table.Goals as goal
 
 pub returns-clause-base : goal.returns-clause-base

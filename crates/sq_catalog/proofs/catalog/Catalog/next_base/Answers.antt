@@ -1,8 +1,9 @@
+-- Left open for Catalog::next_base: the clauses place and exact; answered by Added and Entries.
 use Rattle.std.proofs.Common.{ap, length, sym, ◌∙◌}
 use Rattle.sq_catalog.specs.Catalog.{Catalog}
 use Rattle.sq_catalog.specs.Exact.{declared}
-use Rattle.sq_catalog.proofs.Added.{described_long}
-use Rattle.sq_catalog.proofs.Entries.{bases_counted}
+use Rattle.sq_catalog.proofs.Growth.Added.{described_long}
+use Rattle.sq_catalog.proofs.Meaning.Entries.{bases_counted}
 use Rattle.sq_catalog.proofs.catalog.Catalog.next_base.Goals as goal
 
 pub returns-clause-place : goal.returns-clause-place

@@ -1,8 +1,9 @@
+-- Left open for Catalog::next_view: the clauses place and exact; answered by Entries and ViewQueries.
 use Rattle.std.proofs.Common.{ap, length, sym, ◌∙◌}
 use Rattle.sq_catalog.specs.Catalog.{Catalog}
 use Rattle.sq_catalog.specs.Exact.{declared}
-use Rattle.sq_catalog.proofs.Entries.{views_counted}
-use Rattle.sq_catalog.proofs.ViewQueries.{queries_long}
+use Rattle.sq_catalog.proofs.Meaning.Entries.{views_counted}
+use Rattle.sq_catalog.proofs.CreateView.ViewQueries.{queries_long}
 use Rattle.sq_catalog.proofs.catalog.Catalog.next_view.Goals as goal
 
 pub returns-clause-place : goal.returns-clause-place

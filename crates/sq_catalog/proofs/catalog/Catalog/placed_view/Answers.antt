@@ -1,7 +1,8 @@
+-- Left open for Catalog::placed_view: the clause exact; answered by ViewMade.
 use Rattle.std.proofs.Common.{ap}
 use Rattle.sq_catalog.specs.Exact.{declared, name_in}
 use Rattle.sq_catalog.specs.ViewMade.{view_found}
-use Rattle.sq_catalog.proofs.ViewMade.{is_made, placed_made, placed_stops}
+use Rattle.sq_catalog.proofs.CreateView.ViewMade.{is_made, placed_made, placed_stops}
 use Rattle.sq_catalog.proofs.catalog.Catalog.placed_view.Goals as goal
 
 pub returns-in_ok-new_view-in-Ok-clause-exact : goal.returns-in_ok-new_view-in-Ok-clause-exact

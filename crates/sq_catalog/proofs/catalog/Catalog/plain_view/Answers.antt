@@ -1,3 +1,4 @@
+-- Left open for Catalog::plain_view: the clause next; answered without a law.
 use Rattle.std.proofs.Common.{rules, refl, ap}
 use Rattle.sq_bound.specs.declared.condition.TablePlace.TheVariants.{View}
 use Rattle.sq_catalog.proofs.catalog.Catalog.plain_view.Goals as goal

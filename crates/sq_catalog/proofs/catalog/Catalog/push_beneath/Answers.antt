@@ -1,6 +1,7 @@
+-- Left open for Catalog::push_beneath: its result; answered by ViewHeld.
 use Rattle.std.proofs.Common.{refl}
 use Rattle.sq_catalog.specs.Exact.{declared}
-use Rattle.sq_catalog.proofs.ViewHeld.{beneath_none, beneath_some, if_ok}
+use Rattle.sq_catalog.proofs.CreateView.ViewHeld.{beneath_none, beneath_some, if_ok}
 use Rattle.sq_catalog.proofs.catalog.Catalog.push_beneath.Goals as goal
 
 pub returns-in-None : goal.returns-in-None

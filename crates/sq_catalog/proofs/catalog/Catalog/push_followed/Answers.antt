@@ -1,3 +1,4 @@
+-- Left open for Catalog::push_followed: its result; answered without a law.
 use Rattle.std.proofs.Common.{Bool, subst}
 use Rattle.std.specs.Result.{OnOk}
 use Rattle.sq_binding.specs.CreateView.{owner_grants}

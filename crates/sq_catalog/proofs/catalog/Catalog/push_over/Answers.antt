@@ -1,6 +1,7 @@
+-- Left open for Catalog::push_over: its result; answered by ViewHeld.
 use Rattle.std.proofs.Common.{ap, sym, ◌∙◌}
 use Rattle.sq_catalog.specs.Exact.{declared, entry_declared, names_in}
-use Rattle.sq_catalog.proofs.ViewHeld.{entry_names, if_ok, over_none, over_some}
+use Rattle.sq_catalog.proofs.CreateView.ViewHeld.{entry_names, if_ok, over_none, over_some}
 use Rattle.sq_catalog.proofs.catalog.Catalog.push_over.Goals as goal
 
 pub returns-in-Some : goal.returns-in-Some

@@ -1,6 +1,7 @@
+-- Left open for Catalog::push_update: its result; answered by ViewHeld.
 use Rattle.sq_binding.specs.Seen.{numbered_of}
 use Rattle.sq_catalog.specs.Exact.{declared, names_in}
-use Rattle.sq_catalog.proofs.ViewHeld.{if_ok, update_none, update_shown}
+use Rattle.sq_catalog.proofs.CreateView.ViewHeld.{if_ok, update_none, update_shown}
 use Rattle.sq_catalog.proofs.catalog.Catalog.push_update.Goals as goal
 
 pub returns-in-Some : goal.returns-in-Some

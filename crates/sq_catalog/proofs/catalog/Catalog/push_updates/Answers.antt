@@ -1,9 +1,10 @@
+-- Left open: the result, and that the loop keeps its invariant; answered by ViewHeld.
 use Rattle.std.proofs.Common.{refl, rules, length, ◌++◌, map}
 use Rattle.std.proofs.lemmas.List.{length_push}
 use Rattle.std.proofs.lemmas.Slice.Zip.{zip_end, zip_turn}
 use Rattle.sq_catalog.specs.Exact.{declared, names_in}
 use Rattle.sq_catalog.specs.Held.{grant_seen}
-use Rattle.sq_catalog.proofs.ViewHeld.{left, left_all, left_next}
+use Rattle.sq_catalog.proofs.CreateView.ViewHeld.{left, left_all, left_next}
 use Rattle.sq_catalog.proofs.catalog.Catalog.push_updates.Goals as goal
 
 pub loop-name-init : goal.loop-name-init

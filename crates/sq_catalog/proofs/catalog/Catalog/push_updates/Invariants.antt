@@ -1,7 +1,7 @@
 use Rattle.std.proofs.Common.{◌≡◌, ◌++◌, drop, length, map}
 use Rattle.sq_catalog.specs.Exact.{declared, names_in}
 use Rattle.sq_catalog.specs.Held.{grant_seen}
-use Rattle.sq_catalog.proofs.ViewHeld.{left}
+use Rattle.sq_catalog.proofs.CreateView.ViewHeld.{left}
 use Rattle.sq_catalog.proofs.catalog.Catalog.push_updates.Given as goal
 
 abbrev pub invariant-loop-name : goal.invariant-loop-name

@@ -1,8 +1,9 @@
+-- Left open for Catalog::table_at: the clauses of, place and there; answered by Added, Extending and others.
 use Rattle.std.proofs.Common.{ap, refl}
 use Rattle.sq_bound.specs.declared.condition.TablePlace.TheVariants.{Base, View}
-use Rattle.sq_catalog.proofs.Added.{base_found, place_read, view_found}
-use Rattle.sq_catalog.proofs.Extending.{of_catalog, tables_read, tables_stored}
-use Rattle.sq_catalog.proofs.ViewQueries.{bases_among, views_read}
+use Rattle.sq_catalog.proofs.Growth.Added.{base_found, place_read, view_found}
+use Rattle.sq_catalog.proofs.Growth.Extending.{of_catalog, tables_read, tables_stored}
+use Rattle.sq_catalog.proofs.CreateView.ViewQueries.{bases_among, views_read}
 use Rattle.sq_catalog.specs.Catalog.{Catalog}
 use Rattle.sq_catalog.proofs.catalog.Catalog.table_at.Goals as goal
 

@@ -1,3 +1,4 @@
+-- Left open: the calls of described and checked_base, and the clauses next, base and exact; answered by Stored, Seen and TablesMade.
 use Rattle.std.proofs.Common.{◌≡◌, List, Ok, length, map, ap, sym, subst, ◌∙◌}
 use Rattle.sq_bound.specs.declared.names.Column.{Column}
 use Rattle.sq_bound.specs.WellFormed.{kinds_of_columns}
@@ -8,9 +9,9 @@ use Rattle.sq_catalog.specs.Exact.{base_declared, declared}
 use Rattle.sq_catalog.specs.Stored.{AreChecksAt}
 use Rattle.sq_catalog.specs.Table.{typed_kinds, typed_seen}
 use Rattle.sq_catalog.specs.declared.typed.TypedColumn.{TypedColumn}
-use Rattle.sq_catalog.proofs.Stored.{next_of}
-use Rattle.sq_catalog.proofs.Seen.{columns_counted, columns_seen, kinds_seen}
-use Rattle.sq_catalog.proofs.TablesMade.{described_base, described_makes}
+use Rattle.sq_catalog.proofs.Growth.Stored.{next_of}
+use Rattle.sq_catalog.proofs.Meaning.Seen.{columns_counted, columns_seen, kinds_seen}
+use Rattle.sq_catalog.proofs.CreateTable.TablesMade.{described_base, described_makes}
 use Rattle.sq_catalog.proofs.catalog.Catalog.table_of.Goals as goal
 
 pub described-requires : goal.described-requires

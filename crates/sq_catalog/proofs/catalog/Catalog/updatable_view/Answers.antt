@@ -1,3 +1,4 @@
+-- Left open for Catalog::updatable_view: the clause over; answered without a law.
 use Rattle.sq_catalog.proofs.catalog.Catalog.updatable_view.Goals as goal
 
 pub returns-in-Ok-clause-over : goal.returns-in-Ok-clause-over

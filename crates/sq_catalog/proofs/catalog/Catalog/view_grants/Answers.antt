@@ -1,5 +1,6 @@
+-- Left open for Catalog::view_grants: its result; answered by ViewHeld.
 use Rattle.sq_catalog.specs.Exact.{declared}
-use Rattle.sq_catalog.proofs.ViewHeld.{view_held}
+use Rattle.sq_catalog.proofs.CreateView.ViewHeld.{view_held}
 use Rattle.sq_catalog.proofs.catalog.Catalog.view_grants.Goals as goal
 
 pub returns : goal.returns

@@ -1,3 +1,4 @@
+-- Left open for Draft::check_keys: the clauses known and exact; answered by NotNull, TablesMade and Turns.
 use Rattle.std.proofs.Common.{Bool, ap, map, subst, sym, ◌∙◌}
 use Rattle.std.specs.List.{list_any}
 use Rattle.sq_meaning.specs.declared.refusal.SchemaFault.TheVariants.{BadKey, NullableKey}
@@ -5,9 +6,9 @@ use Rattle.sq_binding.specs.Key.{has_nullable}
 use Rattle.sq_binding.specs.ElementOutcome.{refused_if}
 use Rattle.sq_catalog.specs.Fault.{Makes}
 use Rattle.sq_catalog.specs.Table.{typed_seen}
-use Rattle.sq_catalog.proofs.NotNull.{known_keys}
-use Rattle.sq_catalog.proofs.TablesMade.{lists_are}
-use Rattle.sq_catalog.proofs.Turns.{on_ok, then_makes}
+use Rattle.sq_catalog.proofs.CreateTable.NotNull.{known_keys}
+use Rattle.sq_catalog.proofs.CreateTable.TablesMade.{lists_are}
+use Rattle.sq_catalog.proofs.OneByOne.Turns.{on_ok, then_makes}
 use Rattle.sq_catalog.proofs.draft.Draft.check_keys.Goals as goal
 
 pub returns-clause-known : goal.returns-clause-known

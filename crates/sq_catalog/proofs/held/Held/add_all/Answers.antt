@@ -1,7 +1,8 @@
+-- Left open for Held::add_all: that the loop keeps its invariant; answered by Pushed.
 use Rattle.std.proofs.Common.{ap, sym, ◌∙◌}
 use Rattle.sq_binding.specs.Catalog.{with_grant}
 use Rattle.sq_catalog.specs.Held.{grant_seen, grants_held}
-use Rattle.sq_catalog.proofs.Pushed.{fold_read}
+use Rattle.sq_catalog.proofs.OneByOne.Pushed.{fold_read}
 use Rattle.sq_catalog.proofs.held.Held.add_all.Goals as goal
 
 pub loop-grant-preserved : goal.loop-grant-preserved

@@ -1,8 +1,9 @@
+-- Left open for Held::gives: its result; answered by Found and Grants.
 use Rattle.std.proofs.Common.{sym, ◌∙◌}
 use Rattle.sq_catalog.specs.Exact.{name_in}
 use Rattle.sq_catalog.specs.Held.{grants_held, privilege_of}
-use Rattle.sq_catalog.proofs.Found.{first_found, second_found}
-use Rattle.sq_catalog.proofs.Grants.{given}
+use Rattle.sq_catalog.proofs.OneByOne.Found.{first_found, second_found}
+use Rattle.sq_catalog.proofs.Rights.Grants.{given}
 use Rattle.sq_catalog.proofs.held.Held.gives.Goals as goal
 
 pub returns-then-has : goal.returns-then-has

@@ -1,5 +1,6 @@
+-- Left open for Held::has: its result; answered by Grants.
 use Rattle.std.proofs.Common.{◌∙◌}
-use Rattle.sq_catalog.proofs.Grants.{any_equal}
+use Rattle.sq_catalog.proofs.Rights.Grants.{any_equal}
 use Rattle.sq_catalog.proofs.held.Held.has.Goals as goal
 
 pub returns : goal.returns

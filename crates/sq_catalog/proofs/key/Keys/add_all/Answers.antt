@@ -1,3 +1,4 @@
+-- Left open: the clause exact, and that the loop keeps its invariant; answered by Listed, Turns and others.
 use Rattle.std.proofs.Common.{◌≡◌, ◌+◌, [], ◌∷◌, List, length, length-append, ap, subst, ◌∙◌}
 use Rattle.std.specs.List.{list_all}
 use Rattle.std.specs.Prelude.{Ok}
@@ -8,9 +9,9 @@ use Rattle.sq_catalog.specs.Fault.{Stops}
 use Rattle.sq_catalog.specs.Keys.{StandAt}
 use Rattle.sq_catalog.specs.Written.{column_count, names_at}
 use Rattle.sq_catalog.specs.declared.written.WrittenKey.{WrittenKey}
-use Rattle.sq_catalog.proofs.Listed.{all_push}
-use Rattle.sq_catalog.proofs.Turns.{handed_on, made_next, made_stops, no_memory}
-use Rattle.sq_catalog.proofs.WrittenParts.{primary_read, two_read, zip_read}
+use Rattle.sq_catalog.proofs.OneByOne.Listed.{all_push}
+use Rattle.sq_catalog.proofs.OneByOne.Turns.{handed_on, made_next, made_stops, no_memory}
+use Rattle.sq_catalog.proofs.CreateTable.WrittenParts.{primary_read, two_read, zip_read}
 use Rattle.sq_catalog.proofs.key.Keys.add_all.Goals as goal
 
 pub returns-in_err-columns-clause-exact : goal.returns-in_err-columns-clause-exact

@@ -4,7 +4,7 @@ use Rattle.sq_bound.specs.Names.{are_positions}
 use Rattle.sq_binding.specs.Position.{positions_of}
 use Rattle.sq_catalog.specs.Keys.{KeysStandAt, primaries, primary_among}
 use Rattle.sq_catalog.specs.Written.{column_count, names_at}
-use Rattle.sq_catalog.proofs.Turns.{IsMadeTo}
+use Rattle.sq_catalog.proofs.OneByOne.Turns.{IsMadeTo}
 use Rattle.sq_catalog.proofs.key.Keys.add_all.Given as goal
 
 abbrev pub invariant-loop-key : goal.invariant-loop-key

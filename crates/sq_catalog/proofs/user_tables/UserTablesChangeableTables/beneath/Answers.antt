@@ -1,3 +1,4 @@
+-- Left open: what the call of beneath_table asks for, and the result; answered without a law.
 use Rattle.std.proofs.Common.{ap, ◌∙◌}
 use Rattle.std.specs.Option.{option_and_then}
 use Rattle.sq_catalog.specs.UserTables.{beneath_in}

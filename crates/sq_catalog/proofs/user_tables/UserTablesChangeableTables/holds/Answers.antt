@@ -1,3 +1,4 @@
+-- Left open for UserTablesChangeableTables::holds: its result; answered without a law.
 use Rattle.std.proofs.Common.{ap, false, ◌∙◌}
 use Rattle.sq_binding.specs.Catalog.{may}
 use Rattle.sq_catalog.specs.Exact.{declared}

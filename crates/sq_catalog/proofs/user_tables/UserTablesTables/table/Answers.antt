@@ -1,8 +1,9 @@
+-- Left open for UserTablesTables::table: its result; answered by UserNames.
 use Rattle.std.proofs.Common.{ap}
 use Rattle.std.specs.Option.{option_map}
 use Rattle.sq_binding.specs.Catalog as definition
 use Rattle.sq_catalog.specs.Exact.{declared}
-use Rattle.sq_catalog.proofs.UserNames.{lent}
+use Rattle.sq_catalog.proofs.Meaning.UserNames.{lent}
 use Rattle.sq_catalog.proofs.user_tables.UserTablesTables.table.Goals as goal
 
 pub returns-in-None : goal.returns-in-None

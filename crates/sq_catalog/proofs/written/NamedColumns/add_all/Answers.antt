@@ -1,8 +1,9 @@
+-- Left open: the clause exact, and that the loop keeps its invariant; answered by Turns and Twice.
 use Rattle.std.proofs.Common.{◌++◌, ◌∷◌, [], ap, arith, ◌∙◌}
 use Rattle.sq_meaning.specs.Schema.{has_name_twice}
 use Rattle.sq_catalog.specs.Written.{names_at}
-use Rattle.sq_catalog.proofs.Turns.{handed_on}
-use Rattle.sq_catalog.proofs.Twice.{added_new, names_next, names_stop, once_more}
+use Rattle.sq_catalog.proofs.OneByOne.Turns.{handed_on}
+use Rattle.sq_catalog.proofs.OneByOne.Twice.{added_new, names_next, names_stop, once_more}
 use Rattle.sq_catalog.proofs.written.NamedColumns.add_all.Goals as goal
 
 pub returns-in_err-add_name-clause-exact : goal.returns-in_err-add_name-clause-exact

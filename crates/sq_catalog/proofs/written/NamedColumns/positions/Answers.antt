@@ -1,11 +1,12 @@
+-- Left open: the clause exact, and that the loop keeps its invariant; answered by Listed, Turns and others.
 use Rattle.std.proofs.Common.{◌≡◌, Some, ap, nat_lt, position, ◌∙◌}
 use Rattle.sq_meaning.specs.Environment.{same_name}
 use Rattle.sq_bound.specs.Names.{are_positions}
 use Rattle.sq_binding.specs.Position.{position_of, positions_of}
 use Rattle.sq_catalog.specs.Written.{column_count, names_at}
-use Rattle.sq_catalog.proofs.Listed.{all_push, below}
-use Rattle.sq_catalog.proofs.Turns.{done_next, done_stops, handed_on}
-use Rattle.sq_catalog.proofs.WrittenParts.{zip_read}
+use Rattle.sq_catalog.proofs.OneByOne.Listed.{all_push, below}
+use Rattle.sq_catalog.proofs.OneByOne.Turns.{done_next, done_stops, handed_on}
+use Rattle.sq_catalog.proofs.CreateTable.WrittenParts.{zip_read}
 use Rattle.sq_catalog.proofs.written.NamedColumns.positions.Goals as goal
 
 pub returns-in_err-position-clause-exact : goal.returns-in_err-position-clause-exact

@@ -1,3 +1,4 @@
+-- Left open for Setting::truth: the clauses truth and right; answered without a law.
 use Rattle.sq_change.proofs.setting.Setting.truth.Goals as goal
 
 pub returns-clause-truth : goal.returns-clause-truth

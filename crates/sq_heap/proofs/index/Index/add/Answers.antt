@@ -1,3 +1,4 @@
+-- Left open for Index::add: the clauses keeps and entered, and the invariant of self; answered by Chains.
 use Rattle.std.proofs.Common.{◌≡◌, ◌∙◌, ◌≤◌, ◌%◌, ap, arith, length, refl, slice_set}
 use Rattle.std.proofs.Math.Nat.{mod-lt}
 use Rattle.std.proofs.lemmas.Grind.{common_steps}

@@ -1,3 +1,4 @@
+-- Left open for Index::new: the invariant of its result; answered by Chains.
 use Rattle.std.proofs.Common.{arith}
 use Rattle.std.proofs.lemmas.Grind.{common_steps}
 use Rattle.sq_heap.proofs.Chains.{within_none}

@@ -1,3 +1,4 @@
+-- Left open for Slots::first_from: that the loop keeps its invariant; answered by Blocks.
 use Rattle.std.proofs.Common.{◌∙◌, ◌+◌, arith, refl}
 use Rattle.sq_heap.specs.declared.slots.TheConstants.{BLOCK}
 use Rattle.sq_heap.proofs.Blocks.{first_past_none}

@@ -1,3 +1,4 @@
+-- Left open for Slots::is_gap: its result; answered by Blocks.
 use Rattle.std.proofs.Common.{◌≡◌, ◌/◌, ◌%◌, arith, slice_index_or}
 use Rattle.std.proofs.lemmas.Grind.{common_steps}
 use Rattle.sq_heap.specs.declared.slots.TheConstants.{BLOCK}

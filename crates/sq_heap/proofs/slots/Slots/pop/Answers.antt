@@ -1,3 +1,4 @@
+-- Left open for Slots::pop: that no number overflows, and the invariant of self; answered by Blocks.
 use Rattle.std.proofs.Common.{◌≡◌, ◌∙◌, ◌≤◌, ◌<◌, ◌-◌, ◌/◌, ◌++◌, ◌∷◌, [], None, ap, arith, length, option_to_list, refl, slice_index_or}
 use Rattle.std.proofs.lemmas.Grind.{common_steps}
 use Rattle.sq_heap.specs.Blocks.{rows_in, rows_of}

@@ -1,3 +1,4 @@
+-- Left open for Slots::push: that no number overflows, and the invariant of self; answered by Blocks.
 use Rattle.std.proofs.Common.{◌≡◌, ◌∙◌, ◌≤◌, ◌<◌, ◌+◌, ◌/◌, ◌++◌, ◌∷◌, [], None, Some, ap, arith, length, refl, slice_index_or, sym}
 use Rattle.std.proofs.lemmas.Grind.{common_steps}
 use Rattle.sq_heap.specs.Blocks.{rows_in}

@@ -1,3 +1,4 @@
+-- Left open for Slots::put: that no number overflows, and the invariant of self; answered by Back and Blocks.
 use Rattle.std.proofs.Common.{◌≡◌, ◌∙◌, ◌≤◌, ◌<◌, ◌+◌, ◌-◌, ◌/◌, ◌^◌, None, ap, arith, get_or, length, refl, slice_index_or, slice_set, sym}
 use Rattle.std.proofs.lemmas.Grind.{common_steps}
 use Rattle.sq_heap.specs.Blocks.{rows_in, rows_of}

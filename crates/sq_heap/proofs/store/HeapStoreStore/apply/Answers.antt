@@ -1,3 +1,4 @@
+-- Left open: the call of apply_to, the clauses distinct and duplicate, and the invariant of self; answered by Heap and KeyAt.
 use Rattle.std.proofs.Common.{Err, ◌≡◌, ◌∙◌, ◌<◌, ◌++◌, ◌∷◌, [], ℕ, List, ap, arith, length, nat_lt, rules, sym, take, true}
 use Rattle.std.specs.List.{list_all}
 use Rattle.std.proofs.lemmas.Grind.{common_steps}

@@ -1,3 +1,4 @@
+-- Left open: what the call of first_with asks for, and the clause row; answered by Heap and KeyAt.
 use Rattle.std.proofs.Common.{◌≡◌, ◌∙◌, ◌<◌, None, arith, length, rules}
 use Rattle.sq_store.specs.Content.{table_at}
 use Rattle.sq_store.specs.Keys.{key_at, with_key}

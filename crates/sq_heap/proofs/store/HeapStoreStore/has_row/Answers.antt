@@ -1,3 +1,4 @@
+-- Left open for HeapStoreStore::has_row: what the call of has_row asks for; answered by Columns and Heap.
 use Rattle.std.proofs.Common.{◌≡◌, ◌∙◌, ◌<◌, ap, arith, length, sym}
 use Rattle.std.specs.List.{list_all}
 use Rattle.sq_store.specs.Keys.{has_columns}

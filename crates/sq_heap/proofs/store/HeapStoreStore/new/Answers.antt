@@ -1,3 +1,4 @@
+-- Left open for HeapStoreStore::new: the invariant of its result; answered by Heap.
 use Rattle.std.proofs.Common.{◌≡◌, ◌∙◌, List, ap, length, refl, sym}
 use Rattle.sq_store.specs.Content.{no_rows}
 use Rattle.sq_store.specs.Keys.{Keys, keys_of}

@@ -1,3 +1,4 @@
+-- Left open for HeapStoreStore::numbers_left: that no number overflows; answered by Heap.
 use Rattle.std.proofs.Common.{◌≡◌, ◌≤◌, ap, arith, length}
 use Rattle.sq_heap.proofs.Heap.{slots_within}
 use Rattle.sq_heap.specs.declared.slots.Slots.{Slots}

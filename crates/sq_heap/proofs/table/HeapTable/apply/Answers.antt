@@ -1,3 +1,4 @@
+-- Left open for HeapTable::apply: what the call of has_distinct_keys asks for; answered by laws of sq_store.
 use Rattle.std.proofs.Common.{◌≡◌, ◌∙◌, List, ap, take}
 use Rattle.sq_store.specs.Content.{changed_by}
 use Rattle.sq_store.specs.Keys.{have_keys}

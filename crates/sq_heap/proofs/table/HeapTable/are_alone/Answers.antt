@@ -1,3 +1,4 @@
+-- Left open: what the call of are_alone asks for, and the result; answered by Back, Columns and others.
 use Rattle.std.proofs.Common.{◌∙◌, ◌-◌, ap, drop, length, take}
 use Rattle.std.specs.List.{list_all}
 use Rattle.std.proofs.lemmas.List.{take_rest}

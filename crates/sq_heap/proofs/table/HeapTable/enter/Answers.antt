@@ -1,3 +1,4 @@
+-- Left open for HeapTable::enter: the invariant of self; answered by Holds.
 use Rattle.sq_heap.specs.Index.{in_all}
 use Rattle.sq_heap.proofs.Holds.{slots_give, undo_gives}
 use Rattle.sq_heap.proofs.table.HeapTable.enter.Goals as goal

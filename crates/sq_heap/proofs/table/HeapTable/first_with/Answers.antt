@@ -1,3 +1,4 @@
+-- Left open: what the call of first_with asks for; answered by Entries, Holds and Keyed.
 use Rattle.std.proofs.Common.{◌≡◌, ◌∙◌, ◌<◌, List, ℕ, ap, arith, length, sym}
 use Rattle.sq_store.specs.Keys.{are_distinct}
 use Rattle.sq_heap.specs.Alone.{slots_have}

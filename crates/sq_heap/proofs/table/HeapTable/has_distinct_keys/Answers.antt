@@ -1,3 +1,4 @@
+-- Left open for HeapTable::has_distinct_keys: its result; answered by Back and Distinct.
 use Rattle.std.proofs.Common.{◌∙◌, drop, length, sym, take}
 use Rattle.sq_heap.specs.Index.{keys_of}
 use Rattle.sq_heap.proofs.Back.{fits_drop}

@@ -1,3 +1,4 @@
+-- Left open for HeapTable::has_row: what the call of has_row asks for; answered by Entries and Holds.
 use Rattle.std.proofs.Common.{◌∙◌, ◌<◌, ap, arith, length}
 use Rattle.sq_heap.specs.Index.{in_all, is_in, slots_hold}
 use Rattle.sq_heap.proofs.Entries.{all_at}

@@ -1,3 +1,4 @@
+-- Left open for HeapTable::push: the invariant of self; answered by Back and Holds.
 use Rattle.std.proofs.Common.{◌≡◌, ◌∙◌, None, Some, ap, arith, length, refl, true}
 use Rattle.sq_heap.specs.Index.{in_all, slots_hold, undo_holds}
 use Rattle.sq_heap.specs.Undo.{fits}

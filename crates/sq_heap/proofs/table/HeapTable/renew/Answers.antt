@@ -1,3 +1,4 @@
+-- Left open for HeapTable::renew: the clause keys, and the invariant of self; answered by Entries and Holds.
 use Rattle.std.proofs.Common.{◌≡◌, ◌∙◌, ap, sym, true}
 use Rattle.sq_heap.specs.Index.{in_all, is_in, slots_hold, undo_holds}
 use Rattle.std.specs.Prelude.{slice_set}

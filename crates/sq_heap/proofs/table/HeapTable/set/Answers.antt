@@ -1,3 +1,4 @@
+-- Left open for HeapTable::set: the invariant of self; answered by Back and Holds.
 use Rattle.std.proofs.Common.{◌∙◌, ap, arith, length}
 use Rattle.sq_heap.specs.Index.{in_all, slots_hold, undo_holds}
 use Rattle.sq_heap.specs.Undo.{fits}

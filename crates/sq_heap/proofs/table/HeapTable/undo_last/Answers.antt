@@ -1,3 +1,4 @@
+-- Left open for HeapTable::undo_last: the invariant of self; answered by Back, Distinct and Holds.
 use Rattle.std.proofs.Common.{◌≡◌, ◌∙◌, ◌-◌, ◌++◌, ◌∷◌, [], List, None, Some, ap, arith, length, option_to_list, slice_set, sym, take, true}
 use Rattle.std.proofs.lemmas.Grind.{common_steps}
 use Rattle.sq_heap.specs.Slots.{Slot}

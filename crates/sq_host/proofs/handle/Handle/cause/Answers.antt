@@ -1,3 +1,4 @@
+-- Left open for Handle::cause: the clause told; answered by Telling.
 use Rattle.sq_host.specs.Host.{leads_to}
 use Rattle.sq_host.proofs.Telling.{puts_no_cause}
 use Rattle.sq_host.proofs.handle.Handle.cause.Goals as goal

@@ -1,3 +1,4 @@
+-- Left open for Handle::why: the clause told; answered by Telling.
 use Rattle.sq_host.specs.Host.{leads_to}
 use Rattle.sq_host.proofs.Telling.{puts_no_fault}
 use Rattle.sq_host.proofs.handle.Handle.why.Goals as goal

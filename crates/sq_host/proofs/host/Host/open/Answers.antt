@@ -1,3 +1,4 @@
+-- Left open for Host::open: the clauses opened and refused; answered by Opened.
 use Rattle.sq_host.proofs.Opened.{opened_by, refused_by}
 use Rattle.sq_host.proofs.host.Host.open.Goals as goal
 

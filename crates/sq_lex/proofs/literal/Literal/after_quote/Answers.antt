@@ -1,3 +1,4 @@
+-- Left open: the clause value, and that the loop keeps its invariant; answered by LiteralLemmas.
 use Rattle.std.proofs.Common.{arith, rules, ◌∙◌, ap, sym, suc, ◌+◌, add-one, get_or}
 use Rattle.sq_lex.proofs.LiteralLemmas.{step_plain, step_two, ends, past_end}
 use Rattle.sq_lex.proofs.literal.Literal.after_quote.Goals as goal

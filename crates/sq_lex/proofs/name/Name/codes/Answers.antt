@@ -1,3 +1,4 @@
+-- Left open for Name::codes: the clause printable; answered by Spelled.
 use Rattle.std.proofs.Common.{subst}
 use Rattle.sq_lex.specs.Name.{IsWordSpelling}
 use Rattle.sq_lex.proofs.Spelled.{word_prints}

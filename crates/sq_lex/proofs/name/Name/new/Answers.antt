@@ -1,3 +1,4 @@
+-- Left open for Name::new: the invariant of its result; answered by Spelled.
 use Rattle.sq_lex.proofs.Spelled.{name_in_place}
 use Rattle.sq_lex.proofs.name.Name.new.Goals as goal
 

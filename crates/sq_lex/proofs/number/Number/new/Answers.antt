@@ -1,3 +1,4 @@
+-- Left open for Number::new: the invariant of its result; answered by Spelled.
 use Rattle.sq_lex.proofs.Spelled.{number_in_place}
 use Rattle.sq_lex.proofs.number.Number.new.Goals as goal
 

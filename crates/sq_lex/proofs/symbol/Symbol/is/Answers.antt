@@ -1,3 +1,4 @@
+-- Left open for Symbol::is: the clause same; answered by SymbolLemmas.
 use Rattle.sq_lex.proofs.SymbolLemmas.{same_symbol_ranks}
 use Rattle.sq_lex.proofs.symbol.Symbol.is.Goals as goal
 

@@ -1,3 +1,4 @@
+-- Left open for Word::is: the clause same; answered by WordLemmas.
 use Rattle.sq_lex.proofs.WordLemmas.{same_ranks}
 use Rattle.sq_lex.proofs.word.Word.is.Goals as goal
 

@@ -1,3 +1,4 @@
+-- Left open: what the call of known asks for, and the result; answered by Opening.
 use Rattle.std.proofs.Common.{ap, length, sym, ◌∙◌}
 use Rattle.std.specs.Option.{option_and_then}
 use Rattle.sq_module.specs.Named.{cursor_at}

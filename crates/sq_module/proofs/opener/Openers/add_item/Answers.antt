@@ -1,3 +1,4 @@
+-- Left open for Openers::add_item: its result; answered by Openers.
 use Rattle.std.proofs.Common.{sym}
 use Rattle.sq_module.proofs.Openers.{on_both, openers_next, openers_same}
 use Rattle.sq_module.proofs.opener.Openers.add_item.Goals as goal

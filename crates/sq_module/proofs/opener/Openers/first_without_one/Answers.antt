@@ -1,3 +1,4 @@
+-- Left open for Openers::first_without_one: its result; answered by Places.
 use Rattle.std.proofs.Common.{arith, sym}
 use Rattle.sq_module.specs.Refusal.{has_open_count}
 use Rattle.sq_module.proofs.Places.{none_found, place_found}

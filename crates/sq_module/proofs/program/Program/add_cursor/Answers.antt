@@ -1,3 +1,4 @@
+-- Left open for Program::add_cursor: the clause adds; answered by Fitting and Places.
 use Rattle.std.proofs.Common.{◌∙◌, None, Some, ap, refl, sym}
 use Rattle.indexmap.specs.IndexMap.{insert_entry}
 use Rattle.sq_meaning.specs.Environment.{same_name}

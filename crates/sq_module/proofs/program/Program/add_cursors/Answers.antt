@@ -1,3 +1,4 @@
+-- Left open: the clause opened, and that the loop keeps its invariant; answered by Apart, Named and others.
 use Rattle.std.proofs.Common.{[], ◌∙◌, refl, subst, sym}
 use Rattle.std.proofs.lemmas.List.{append-nil}
 use Rattle.sq_catalog.specs.Catalog.{column_kinds, known}

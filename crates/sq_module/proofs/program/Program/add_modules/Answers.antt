@@ -1,3 +1,4 @@
+-- Left open: the call of add_module, and the loop's invariant; answered by Apart and Written.
 use Rattle.std.proofs.Common.{[], arith, refl}
 use Rattle.std.proofs.lemmas.Grind.{common_steps}
 use Rattle.sq_module.proofs.Apart.{admitted_at, some_next}

@@ -1,3 +1,4 @@
+-- Left open for Program::add_opened: the clause opened; answered by Added, Named, Openers and Opening.
 use Rattle.std.proofs.Common.{◌∙◌, ap, refl, sym, take}
 use Rattle.std.specs.Borrow.{Bor}
 use Rattle.std.specs.Option.{option_map}

@@ -1,3 +1,4 @@
+-- Left open: what the call of add_procedures asks for, and the result; answered by Named and Written.
 use Rattle.std.proofs.Common.{◌∙◌, ap, subst, sym}
 use Rattle.std.specs.Map.{keys_of}
 use Rattle.indexmap.specs.IndexMap.{IndexMap}

@@ -1,3 +1,4 @@
+-- Left open: the clauses in_order, written and computed; answered by Fitting, Computed and Written.
 use Rattle.std.proofs.Common.{length, refl}
 use Rattle.std.proofs.lemmas.Result.{on_ok_weaker}
 use Rattle.sq_catalog.specs.Catalog.{column_kinds, known}

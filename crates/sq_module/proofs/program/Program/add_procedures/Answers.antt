@@ -1,3 +1,4 @@
+-- Left open: the call of add_procedure, and the loop's invariant; answered by Written.
 use Rattle.std.proofs.Common.{◌∙◌, arith, length, subst, sym}
 use Rattle.std.proofs.lemmas.Grind.{common_steps}
 use Rattle.sq_catalog.specs.Catalog.{column_kinds, known}

@@ -1,3 +1,4 @@
+-- Left open: the call of add_modules, and the clauses written, computed, fits and well_formed; answered by Fitting.
 use Rattle.std.proofs.Common.{ap, subst, sym}
 use Rattle.std.specs.List.{list_any}
 use Rattle.sq_catalog.specs.Catalog.{known}

@@ -1,4 +1,5 @@
-use Rattle.sq_grammar.proofs.Many.{all_done}
+-- Left open for Grammar::all_added: the clause value; answered by laws of sq_grammar.
+use Rattle.sq_grammar.proofs.Reading.Many.{all_done}
 use Rattle.sq_phrase.proofs.expression.Grammar.all_added.Goals as goal
 
 pub returns-clause-value : goal.returns-clause-value

@@ -1,3 +1,4 @@
+-- Left open for Grammar::primary: the clause value; answered by First.
 use Rattle.std.proofs.Common.{◌≡◌, ◌∙◌, sym, ap, subst, Some, Ok}
 use Rattle.sq_tree.specs.declared.expr.Primary.TheVariants as primary
 use Rattle.sq_grammar.specs.Reads.{Reads, Stops}

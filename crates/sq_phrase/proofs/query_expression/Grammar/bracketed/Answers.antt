@@ -1,7 +1,8 @@
+-- Left open for Grammar::bracketed: the clause value; answered by laws of sq_grammar.
 use Rattle.sq_grammar.specs.Reading.{opening_bracket}
 use Rattle.sq_grammar.specs.Expr.{close}
 use Rattle.sq_grammar.specs.Query.{bracketed, inside}
-use Rattle.sq_grammar.proofs.Stops.{stops_after, stops_here}
+use Rattle.sq_grammar.proofs.Ends.Stops.{stops_after, stops_here}
 use Rattle.sq_phrase.proofs.query_expression.Grammar.bracketed.Goals as goal
 
 pub returns-in-Err-clause-value : goal.returns-in-Err-clause-value

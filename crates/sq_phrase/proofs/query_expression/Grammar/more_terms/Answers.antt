@@ -1,4 +1,5 @@
-use Rattle.sq_grammar.proofs.Many.{all_ends}
+-- Left open for Grammar::more_terms: the clause value; answered by laws of sq_grammar.
+use Rattle.sq_grammar.proofs.Reading.Many.{all_ends}
 use Rattle.sq_phrase.proofs.query_expression.Grammar.more_terms.Goals as goal
 
 pub returns-clause-value : goal.returns-clause-value

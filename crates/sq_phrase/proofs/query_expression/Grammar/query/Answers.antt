@@ -1,8 +1,9 @@
+-- Left open for Grammar::query: the clause value; answered by laws of sq_grammar.
 use Rattle.sq_lex.specs.declared.lexeme.Lexeme.TheVariants as lexeme
 use Rattle.sq_lex.specs.declared.word.Word.TheVariants as word
 use Rattle.sq_grammar.specs.Reading.{all, behind}
 use Rattle.sq_grammar.specs.Query.{level, query_term, union_term, inside}
-use Rattle.sq_grammar.proofs.Stops.{stops_after, stops_here}
+use Rattle.sq_grammar.proofs.Ends.Stops.{stops_after, stops_here}
 use Rattle.sq_phrase.proofs.query_expression.Grammar.query.Goals as goal
 
 pub returns-in-Err-clause-value : goal.returns-in-Err-clause-value

@@ -1,3 +1,4 @@
+-- Left open: the results, the clauses plain and adds, and the loops' invariants; answered by Added and InsideTables.
 use Rattle.std.proofs.Common.{◌∙◌, List, [], ap, sym, refl, map, fold}
 use Rattle.sq_meaning.specs.Syntax.{conds}
 use Rattle.sq_bound.specs.Condition.{cond_of, conj_of, test_of, clause_of, select_of}
@@ -8,8 +9,8 @@ use Rattle.sq_bound.specs.declared.condition.BoundConj.{BoundConj}
 use Rattle.sq_bound.specs.declared.condition.BoundSpecification.{out-BoundSpecification}
 use Rattle.sq_bound.specs.declared.condition.BoundTest.{BoundTest}
 use Rattle.sq_query.specs.Needed.{places_in, with_table, clause_tables, cond_tables, conds_tables, inside_tables, specification_tables}
-use Rattle.sq_query.proofs.Added.{added_both, added_more, adds_last, adds_same, items_added, tables_of_other, tables_of_cond, tables_of_conj, tables_of_test, tables_of_compared, tables_of_in, tables_of_exists, tables_of_bracketed}
-use Rattle.sq_query.proofs.InsideTables.{inside_grouped, inside_ungrouped, items_and_inside}
+use Rattle.sq_query.proofs.Needs.Added.{added_both, added_more, adds_last, adds_same, items_added, tables_of_other, tables_of_cond, tables_of_conj, tables_of_test, tables_of_compared, tables_of_in, tables_of_exists, tables_of_bracketed}
+use Rattle.sq_query.proofs.Needs.InsideTables.{inside_grouped, inside_ungrouped, items_and_inside}
 use Rattle.sq_bound.specs.declared.condition.Predicate.TheVariants as bound
 use Rattle.sq_condition.proofs.Conditions.{plain_term, plain_test, plain_predicate, plain_bracketed, with_compared, with_in, with_exists}
 use Rattle.sq_query.proofs.needed.Needed.+needed_of_cond.Goals as goal

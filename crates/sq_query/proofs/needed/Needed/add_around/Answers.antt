@@ -1,3 +1,4 @@
+-- Left open for Needed::add_around: its result; answered by Added and InsideTables.
 use Rattle.std.proofs.Common.{◌∙◌, [], ap, fold, map}
 use Rattle.sq_bound.specs.Condition.{clause_of, select_of}
 use Rattle.sq_bound.specs.SetFunction.{call_of}
@@ -5,8 +6,8 @@ use Rattle.sq_bound.specs.declared.condition.BoundSpecification.{out-BoundSpecif
 use Rattle.sq_bound.specs.declared.condition.Grouping.{out-Grouping}
 use Rattle.sq_query.specs.Inner.{around_tables}
 use Rattle.sq_query.specs.Needed.{clause_tables, places_in, with_table}
-use Rattle.sq_query.proofs.Added.{added_both, adds_last}
-use Rattle.sq_query.proofs.InsideTables.{around_grouped, around_ungrouped}
+use Rattle.sq_query.proofs.Needs.Added.{added_both, adds_last}
+use Rattle.sq_query.proofs.Needs.InsideTables.{around_grouped, around_ungrouped}
 use Rattle.sq_query.proofs.needed.Needed.add_around.Goals as goal
 
 pub returns-in-Some : goal.returns-in-Some

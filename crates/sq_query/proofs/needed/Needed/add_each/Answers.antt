@@ -1,6 +1,7 @@
+-- Left open for Needed::add_each: its result; answered by Added.
 use Rattle.std.proofs.Common.{refl}
 use Rattle.sq_query.specs.Needed.{places_in}
-use Rattle.sq_query.proofs.Added.{items_added}
+use Rattle.sq_query.proofs.Needs.Added.{items_added}
 use Rattle.sq_query.proofs.needed.Needed.add_each.Goals as goal
 
 pub returns : goal.returns

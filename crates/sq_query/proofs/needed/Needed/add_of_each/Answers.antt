@@ -1,8 +1,9 @@
+-- Left open for Needed::add_of_each: its result, and that the loop keeps its invariant; answered by Added.
 use Rattle.std.proofs.Common.{◌∙◌, [], ap, fold, refl, sym}
 use Rattle.sq_bound.specs.Condition.{test_of}
 use Rattle.sq_query.specs.Inner.{tests_tables}
 use Rattle.sq_query.specs.Needed.{cond_tables, places_in, with_table}
-use Rattle.sq_query.proofs.Added.{added_all, added_more, tables_of_test}
+use Rattle.sq_query.proofs.Needs.Added.{added_all, added_more, tables_of_test}
 use Rattle.sq_query.proofs.needed.Needed.add_of_each.Goals as goal
 
 pub loop-test-preserved : goal.loop-test-preserved

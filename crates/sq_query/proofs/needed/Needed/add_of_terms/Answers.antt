@@ -1,8 +1,9 @@
+-- Left open for Needed::add_of_terms: its result, and that the loop keeps its invariant; answered by Added.
 use Rattle.std.proofs.Common.{[], fold, refl}
 use Rattle.sq_bound.specs.Condition.{conj_of}
 use Rattle.sq_query.specs.Inner.{terms_tables}
 use Rattle.sq_query.specs.Needed.{cond_tables, places_in, with_table}
-use Rattle.sq_query.proofs.Added.{added_all, added_more}
+use Rattle.sq_query.proofs.Needs.Added.{added_all, added_more}
 use Rattle.sq_query.proofs.needed.Needed.add_of_terms.Goals as goal
 
 pub loop-term-preserved : goal.loop-term-preserved

@@ -1,7 +1,8 @@
+-- Left open: the clauses more, known, earlier and closed; answered by Added and NeededViews.
 use Rattle.std.proofs.lemmas.Result.{on_ok_weaker}
 use Rattle.sq_query.specs.Needed.{specification_tables}
-use Rattle.sq_query.proofs.Added.{needs_more}
-use Rattle.sq_query.proofs.NeededViews.{view_closed, view_earlier, view_known}
+use Rattle.sq_query.proofs.Needs.Added.{needs_more}
+use Rattle.sq_query.proofs.Needs.NeededViews.{view_closed, view_earlier, view_known}
 use Rattle.sq_query.proofs.needed.Needed.add_of_view.Goals as goal
 
 pub returns-clause-more : goal.returns-clause-more

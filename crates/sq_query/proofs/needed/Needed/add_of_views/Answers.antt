@@ -1,9 +1,10 @@
+-- Left open: the call of add_of_view, the clauses known and closed, and the loop's invariant; answered by Added and NeededViews.
 use Rattle.std.proofs.Common.{◌≡◌, ◌∙◌, ◌+◌, ◌-◌, ◌<◌, arith, ap, sym, subst}
 use Rattle.std.specs.List.{list_any}
 use Rattle.sq_bound.specs.declared.condition.TablePlace.TheVariants.{View}
 use Rattle.sq_query.specs.declared.needed.Needed.{Needed}
-use Rattle.sq_query.proofs.Added.{is}
-use Rattle.sq_query.proofs.NeededViews.{GoesOn, goes_on_with, goes_on_without, goes_to_end}
+use Rattle.sq_query.proofs.Needs.Added.{is}
+use Rattle.sq_query.proofs.Needs.NeededViews.{GoesOn, goes_on_with, goes_on_without, goes_to_end}
 use Rattle.sq_query.proofs.needed.Needed.add_of_views.Goals as goal
 use Rattle.sq_query.proofs.needed.Needed.add_of_views.Goals.{then-is_among+in_ok-add_of_view, else-is_among}
 

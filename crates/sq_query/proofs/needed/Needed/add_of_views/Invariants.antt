@@ -1,4 +1,4 @@
-use Rattle.sq_query.proofs.NeededViews.{GoesOn}
+use Rattle.sq_query.proofs.Needs.NeededViews.{GoesOn}
 use Rattle.sq_query.proofs.needed.Needed.add_of_views.Given as goal
 
 abbrev pub invariant-loop-behind : goal.invariant-loop-behind

@@ -1,3 +1,4 @@
+-- Left open for Needed::contains: the clauses yes and no; answered without a law.
 use Rattle.std.proofs.Common.{◌∙◌, ap, nat_eq, subst, sym, true≢false}
 use Rattle.std.specs.List.{list_any}
 use Rattle.sq_query.specs.Needed.{IsNeeded}

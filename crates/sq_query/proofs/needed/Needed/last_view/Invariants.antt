@@ -1,6 +1,6 @@
 use Rattle.std.proofs.Common.{◌≡◌, ◌≤◌, ℕ, true, take}
 use Rattle.std.specs.List.{list_any}
-use Rattle.sq_query.proofs.Added.{is}
+use Rattle.sq_query.proofs.Needs.Added.{is}
 use Rattle.sq_query.proofs.needed.Needed.last_view.Given as goal
 
 abbrev pub invariant-loop-view : goal.invariant-loop-view

@@ -1,5 +1,6 @@
+-- Left open for Needed::of_condition: the clauses reads and known; answered by Added.
 use Rattle.sq_bound.specs.Condition.{cond_of}
-use Rattle.sq_query.proofs.Added.{cond_needed, cond_known, none_known}
+use Rattle.sq_query.proofs.Needs.Added.{cond_needed, cond_known, none_known}
 use Rattle.sq_query.proofs.needed.Needed.of_condition.Goals as goal
 
 pub returns-clause-reads : goal.returns-clause-reads

@@ -1,5 +1,6 @@
+-- Left open for Needed::of_specification: the clauses reads and known; answered by Added.
 use Rattle.sq_bound.specs.Condition.{select_of}
-use Rattle.sq_query.proofs.Added.{select_needed, select_known, none_known}
+use Rattle.sq_query.proofs.Needs.Added.{select_needed, select_known, none_known}
 use Rattle.sq_query.proofs.needed.Needed.of_specification.Goals as goal
 
 pub returns-clause-reads : goal.returns-clause-reads

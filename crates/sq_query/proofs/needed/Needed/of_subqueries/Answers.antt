@@ -1,6 +1,7 @@
+-- Left open for Needed::of_subqueries: the clauses reads, known and none; answered by Added.
 use Rattle.sq_bound.specs.Condition.{select_of}
 use Rattle.sq_query.specs.Needed.{inside_tables}
-use Rattle.sq_query.proofs.Added.{inside_known, inside_needed, none_added, none_known}
+use Rattle.sq_query.proofs.Needs.Added.{inside_known, inside_needed, none_added, none_known}
 use Rattle.sq_query.proofs.needed.Needed.of_subqueries.Goals as goal
 
 pub returns-clause-reads : goal.returns-clause-reads

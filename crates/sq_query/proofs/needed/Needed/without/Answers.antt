@@ -1,7 +1,8 @@
+-- Left open for Needed::without: its result; answered by InnerSearch.
 use Rattle.std.proofs.Common.{not, rules}
 use Rattle.std.proofs.lemmas.Fn.{filter_same}
 use Rattle.sq_query.specs.Items.{is_found}
-use Rattle.sq_query.proofs.InnerSearch.{fewer_left, kept_left, none_left}
+use Rattle.sq_query.proofs.FoundByKey.InnerSearch.{fewer_left, kept_left, none_left}
 use Rattle.sq_query.proofs.needed.Needed.without.Goals as goal
 
 pub returns : goal.returns

@@ -1,3 +1,4 @@
+-- Left open: the call of call, the clauses step, faults, failures and 3 more, and the invariant of self; answered by BesideLaws.
 use Rattle.sq_run.proofs.Steps.BesideLaws.{all_hold, call_keeps, fits_old, memory_old}
 use Rattle.sq_run.proofs.machine.Processor.call.Goals as goal
 

@@ -1,3 +1,4 @@
+-- Left open for Processor::fault: its result; answered by BesideLaws.
 use Rattle.std.proofs.Common.{ap, ◌∙◌}
 use Rattle.std.specs.Prelude.{is_some}
 use Rattle.sq_run.specs.Processor.{Machine, has_fault}

@@ -1,3 +1,4 @@
+-- Left open for Processor::fits: its result; answered by BesideLaws.
 use Rattle.std.proofs.Common.{ap, ◌∙◌}
 use Rattle.sq_run.specs.Processor.{Machine, takes}
 use Rattle.sq_run.proofs.Steps.BesideLaws.{fits_is}

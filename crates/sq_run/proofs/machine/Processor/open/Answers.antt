@@ -1,3 +1,4 @@
+-- Left open: the call of start, the clauses opened and 2 more, and the invariant of the result; answered by BesideLaws and Opened.
 use Rattle.sq_perform.specs.Texts.{texts}
 use Rattle.sq_run.proofs.Steps.BesideLaws.{accepted_by, all_hold, beside_first}
 use Rattle.sq_run.proofs.Texts.Opened.{opens, opens_lawful, refuses}

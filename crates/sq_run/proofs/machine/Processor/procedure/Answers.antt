@@ -1,3 +1,4 @@
+-- Left open for Processor::procedure: its result; answered by BesideLaws.
 use Rattle.std.proofs.Common.{ap, ◌∙◌}
 use Rattle.sq_run.specs.Processor.{Machine, number_of}
 use Rattle.sq_run.proofs.Steps.BesideLaws.{number_is}

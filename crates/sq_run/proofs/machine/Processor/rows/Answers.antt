@@ -1,3 +1,4 @@
+-- Left open for Processor::rows: its result; answered by BesideLaws.
 use Rattle.std.proofs.Common.{ap, ◌∙◌}
 use Rattle.sq_run.specs.Processor.{Machine, rows_of}
 use Rattle.sq_run.proofs.Steps.BesideLaws.{rows_is}

@@ -1,3 +1,4 @@
+-- Left open for Processor::session: its result; answered without a law.
 use Rattle.std.proofs.Common.{subst}
 use Rattle.sq_run.specs.Beside.{IsBeside}
 use Rattle.sq_run.specs.Processor.{Machine}

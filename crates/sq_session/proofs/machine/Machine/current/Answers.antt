@@ -1,6 +1,7 @@
+-- Left open for Machine::current: what the call of number_there asks for; answered by Holding and Over.
 use Rattle.std.proofs.Common.{◌<◌, arith, length}
-use Rattle.sq_session.proofs.Holding.{positioned_cursor, positioned_there}
-use Rattle.sq_session.proofs.Over.{as_many}
+use Rattle.sq_session.proofs.Lasting.Holding.{positioned_cursor, positioned_there}
+use Rattle.sq_session.proofs.OpenCursors.Over.{as_many}
 use Rattle.sq_session.proofs.machine.Machine.current.Goals as goal
 
 pub number_there-requires-clause-cursor : goal.number_there-requires-clause-cursor

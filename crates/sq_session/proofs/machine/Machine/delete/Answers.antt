@@ -1,3 +1,4 @@
+-- Left open: the call of delete, and the clauses right, step and read; answered by Changing and others.
 use Rattle.std.proofs.Common.{◌≡◌, ◌∙◌, List, Ok, Err, ap, arith, refl, rules, slice_set, subst, sym}
 use Rattle.std.specs.List.{slice_index_or}
 use Rattle.std.proofs.lemmas.List.{places, with_items_is}
@@ -19,10 +20,10 @@ use Rattle.sq_session.specs.Step.{seen_in}
 use Rattle.sq_session.specs.State.{State, cursor_at, off_row, with_cursor}
 use Rattle.sq_session.specs.declared.cursor.CursorState.{CursorState}
 use Rattle.sq_session.specs.declared.cursor.CursorState.TheVariants as cursor
-use Rattle.sq_session.proofs.Changing.{deletes_done, deletes_not, left_behind, same_but_tables}
-use Rattle.sq_session.proofs.Ending.{fault_right}
-use Rattle.sq_session.proofs.Asking.{consistent, may_choose}
-use Rattle.sq_session.proofs.Metering.{delete_read}
+use Rattle.sq_session.proofs.Calls.Changing.{deletes_done, deletes_not, left_behind, same_but_tables}
+use Rattle.sq_session.proofs.Calls.Ending.{fault_right}
+use Rattle.sq_session.proofs.Calls.Asking.{consistent, may_choose}
+use Rattle.sq_session.proofs.Calls.Metering.{delete_read}
 use Rattle.sq_session.proofs.machine.Machine.delete.Goals as goal
 use Rattle.sq_session.proofs.machine.Machine.delete.Goals.{in-Positioned, in_default-target}
 

@@ -1,3 +1,4 @@
+-- Left open: what the call of insert asks for, and the clauses right and step; answered by Asking and others.
 use Rattle.std.proofs.Common.{◌≡◌, List, Ok, Err, rules, subst, sym}
 use Rattle.sq_value.specs.declared.value.Value.{Value}
 use Rattle.sq_bound.specs.Fits.{AreInDomains}
@@ -14,9 +15,9 @@ use Rattle.sq_session.specs.Parameter.{AreGiven}
 use Rattle.sq_session.specs.Schemas.{schemas_of}
 use Rattle.sq_session.specs.Step.{seen_in}
 use Rattle.sq_session.specs.State.{State}
-use Rattle.sq_session.proofs.Asking.{consistent, may_give}
-use Rattle.sq_session.proofs.Changing.{inserts_done, inserts_not}
-use Rattle.sq_session.proofs.Ending.{fault_right}
+use Rattle.sq_session.proofs.Calls.Asking.{consistent, may_give}
+use Rattle.sq_session.proofs.Calls.Changing.{inserts_done, inserts_not}
+use Rattle.sq_session.proofs.Calls.Ending.{fault_right}
 use Rattle.sq_session.proofs.machine.Machine.insert.Goals as goal
 
 pub insert-inserted-requires-clause-can : goal.insert-inserted-requires-clause-can

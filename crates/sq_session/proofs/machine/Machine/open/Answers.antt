@@ -1,6 +1,7 @@
+-- Left open for Machine::open: the clause read; answered by Metering.
 use Rattle.sq_session.specs.Kind.{over_at}
 use Rattle.sq_session.specs.Step.{ending}
-use Rattle.sq_session.proofs.Metering.{however, none_read}
+use Rattle.sq_session.proofs.Calls.Metering.{however, none_read}
 use Rattle.sq_session.proofs.machine.Machine.open.Goals as goal
 
 pub returns-in-Closed-clause-read : goal.returns-in-Closed-clause-read

@@ -1,22 +1,23 @@
+-- Left open: the calls of specification_rows and only_row_retrieved, and the clauses step, right and read; answered by Ending and others.
 use Rattle.std.proofs.Common.{◌≡◌, ◌≤◌, ◌+◌, List, Ok, Err, subst, sym, true}
 use Rattle.sq_value.specs.declared.value.Value.{Value}
 use Rattle.sq_meaning.specs.WellFormed.{AreRowsOf}
 use Rattle.sq_bound.specs.Fits.{AreInDomains, keys_of_bases, not_nulls_hold}
 use Rattle.sq_bound.specs.WellFormed.{kinds_of_parameters, kinds_of_select}
 use Rattle.sq_catalog.specs.Catalog.{bases_there, column_kinds}
-use Rattle.sq_change.proofs.Obeyed.{not_nulls_of}
+use Rattle.sq_change.proofs.Constraints.Obeyed.{not_nulls_of}
 use Rattle.sq_query.specs.Keyed.{IsKeyedSelect}
-use Rattle.sq_query.proofs.Finds.{select_finds}
+use Rattle.sq_query.proofs.Needs.Finds.{select_finds}
 use Rattle.sq_session.specs.Kind.{selecting}
 use Rattle.sq_session.specs.Parameter.{AreGiven}
 use Rattle.sq_session.specs.Schemas.{schemas_of}
 use Rattle.sq_session.specs.State.{State}
 use Rattle.sq_session.specs.Step.{SelectIsMeant}
-use Rattle.sq_session.proofs.Ending.{fault_right}
-use Rattle.sq_session.proofs.Metering.{select_read}
-use Rattle.sq_session.proofs.Reading.{may_read, some_tables}
-use Rattle.sq_session.proofs.Selected.{IsAnswered, found_meant, selects_from, selects_none}
-use Rattle.sq_session.proofs.Taken.{rows_taken}
+use Rattle.sq_session.proofs.Calls.Ending.{fault_right}
+use Rattle.sq_session.proofs.Calls.Metering.{select_read}
+use Rattle.sq_session.proofs.Calls.Reading.{may_read, some_tables}
+use Rattle.sq_session.proofs.Calls.Selected.{IsAnswered, found_meant, selects_from, selects_none}
+use Rattle.sq_session.proofs.Parameters.Taken.{rows_taken}
 use Rattle.sq_session.proofs.machine.Machine.select.Goals as goal
 
 pub specification_rows-found-requires-clause-finds : goal.specification_rows-found-requires-clause-finds

@@ -1,3 +1,4 @@
+-- Left open: the call of update, and the clauses right, step and read; answered by Asking and others.
 use Rattle.std.proofs.Common.{◌≡◌, ◌∙◌, List, Ok, Err, ap, arith, rules, subst, sym}
 use Rattle.std.proofs.lemmas.List.{places, with_items_is}
 use Rattle.sq_value.specs.declared.value.Value.{Value}
@@ -17,12 +18,12 @@ use Rattle.sq_session.specs.Parameter.{AreGiven}
 use Rattle.sq_session.specs.Schemas.{schemas_of}
 use Rattle.sq_session.specs.Step.{seen_in, walks_listed}
 use Rattle.sq_session.specs.State.{State}
-use Rattle.sq_session.proofs.Asking.{consistent, may_assign, may_choose}
+use Rattle.sq_session.proofs.Calls.Asking.{consistent, may_assign, may_choose}
 use Rattle.sq_session.specs.Cursors.{go_on, put_all}
 use Rattle.sq_session.specs.declared.cursor.CursorState.{CursorState}
-use Rattle.sq_session.proofs.Changing.{put_as_many, same_but_tables, updates_done, updates_not}
-use Rattle.sq_session.proofs.Ending.{fault_right}
-use Rattle.sq_session.proofs.Metering.{update_read}
+use Rattle.sq_session.proofs.Calls.Changing.{put_as_many, same_but_tables, updates_done, updates_not}
+use Rattle.sq_session.proofs.Calls.Ending.{fault_right}
+use Rattle.sq_session.proofs.Calls.Metering.{update_read}
 use Rattle.sq_session.proofs.machine.Machine.update.Goals as goal
 
 pub update-updated-requires-clause-can : goal.update-updated-requires-clause-can

@@ -1,5 +1,6 @@
+-- Left open for RetrievedRow::value: what the call of value_in asks for, and its result; answered by Shown.
 use Rattle.std.proofs.Common.{Some, ap, ◌∙◌}
-use Rattle.sq_session.proofs.Shown.{place_there, positions_there, shown_in, shown_whole}
+use Rattle.sq_session.proofs.Fetching.Shown.{place_there, positions_there, shown_in, shown_whole}
 use Rattle.sq_session.proofs.retrieved.RetrievedRow.value.Goals as goal
 
 pub value_in-requires-clause-there : goal.value_in-requires-clause-there

@@ -1,5 +1,6 @@
+-- Left open for TableRows::len: that no number overflows; answered by TableWalk.
 use Rattle.std.proofs.Common.{arith, ap, length}
-use Rattle.sq_session.proofs.TableWalk.{rows_counted}
+use Rattle.sq_session.proofs.Walks.TableWalk.{rows_counted}
 use Rattle.sq_session.proofs.rows.TableRows.len.Goals as goal
 
 pub overflow_add-count : goal.overflow_add-count

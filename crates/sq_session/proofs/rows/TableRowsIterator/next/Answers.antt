@@ -1,3 +1,4 @@
+-- Left open: the clauses steps and goes, and that no number overflows; answered by laws of sq_store.
 use Rattle.std.proofs.Common.{length, arith, ap, sym, ◌∙◌}
 use Rattle.sq_store.specs.Content.{table_at}
 use Rattle.sq_store.proofs.Walk.{rows_from_none, walked, walked_below}

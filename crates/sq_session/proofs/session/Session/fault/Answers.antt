@@ -1,8 +1,9 @@
+-- Left open for Session::fault: its result; answered by Named.
 use Rattle.std.proofs.Common.{ap, sym, ◌∙◌}
 use Rattle.sq_module.specs.declared.program.BoundProcedure.{BoundProcedure}
 use Rattle.sq_module.specs.declared.program.ProcedureName.{ProcedureName}
 use Rattle.sq_session.specs.Kind.{fault_at}
-use Rattle.sq_session.proofs.Named.{fault_is}
+use Rattle.sq_session.proofs.Calls.Named.{fault_is}
 use Rattle.sq_session.proofs.session.Session.fault.Goals as goal
 
 pub returns-in-Err : goal.returns-in-Err

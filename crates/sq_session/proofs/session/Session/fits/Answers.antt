@@ -1,10 +1,11 @@
+-- Left open for Session::fits: its result; answered by Named.
 use Rattle.std.proofs.Common.{ap, map, sym, ◌∙◌}
 use Rattle.sq_meaning.specs.Script.{fit}
 use Rattle.sq_module.specs.declared.program.BoundProcedure.{BoundProcedure}
 use Rattle.sq_module.specs.declared.program.ProcedureName.{ProcedureName}
 use Rattle.sq_session.specs.Kind.{fits_at}
 use Rattle.sq_session.specs.Parameter.{declared}
-use Rattle.sq_session.proofs.Named.{fits_are}
+use Rattle.sq_session.proofs.Calls.Named.{fits_are}
 use Rattle.sq_session.proofs.session.Session.fits.Goals as goal
 
 pub returns-in-Some : goal.returns-in-Some

@@ -1,3 +1,4 @@
+-- Left open for Session::inside: the clause whole; answered without a law.
 use Rattle.std.proofs.Common.{subst, sym}
 use Rattle.sq_catalog.specs.Catalog.{column_kinds}
 use Rattle.sq_session.specs.Cursors.{IsWhole}

@@ -1,10 +1,11 @@
+-- Left open: the clauses start, numbers, procedures and written; answered by Closed, Named and Over.
 use Rattle.std.proofs.Common.{ap, length, subst, sym, true, ◌∙◌, ◌≡◌}
 use Rattle.sq_session.specs.Cursors.{are_over}
 use Rattle.sq_session.specs.Session.{names_of}
 use Rattle.sq_session.specs.State.{AreClosed, State}
-use Rattle.sq_session.proofs.Closed.{replicated_closed}
-use Rattle.sq_session.proofs.Named.{names_are, of_modules}
-use Rattle.sq_session.proofs.Over.{start_over}
+use Rattle.sq_session.proofs.OpenCursors.Closed.{replicated_closed}
+use Rattle.sq_session.proofs.Calls.Named.{names_are, of_modules}
+use Rattle.sq_session.proofs.OpenCursors.Over.{start_over}
 use Rattle.sq_session.proofs.session.Session.new.Goals as goal
 
 pub returns-in_ok-with_program-in-Ok-clause-start : goal.returns-in_ok-with_program-in-Ok-clause-start

@@ -1,6 +1,7 @@
+-- Left open for Session::procedure: its result; answered by Named.
 use Rattle.std.proofs.Common.{ap, sym, ◌∙◌}
 use Rattle.sq_session.specs.Session.{procedure_number}
-use Rattle.sq_session.proofs.Named.{number_is}
+use Rattle.sq_session.proofs.Calls.Named.{number_is}
 use Rattle.sq_session.proofs.session.Session.procedure.Goals as goal
 
 pub returns : goal.returns

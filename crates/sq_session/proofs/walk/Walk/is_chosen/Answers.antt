@@ -1,6 +1,7 @@
+-- Left open: the call of is_chosen, the result, and that a place is unreachable; answered by QuietWalks.
 use Rattle.sq_catalog.specs.Catalog.{bases_there, column_kinds}
-use Rattle.sq_query.proofs.Finds.{target_finds}
-use Rattle.sq_session.proofs.QuietWalks.{meant, no_status}
+use Rattle.sq_query.proofs.Needs.Finds.{target_finds}
+use Rattle.sq_session.proofs.Walks.QuietWalks.{meant, no_status}
 use Rattle.sq_session.proofs.walk.Walk.is_chosen.Goals as goal
 
 pub is_chosen-requires : goal.is_chosen-requires

@@ -1,3 +1,4 @@
+-- Left open for Walk::key: the clause found, and that a place is unreachable; answered without a law.
 use Rattle.sq_catalog.specs.Catalog.{column_kinds}
 use Rattle.sq_session.proofs.walk.Walk.key.Goals as goal
 

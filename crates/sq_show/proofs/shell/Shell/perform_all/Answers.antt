@@ -1,3 +1,4 @@
+-- Left open: the call of perform, the clause added, and the loop's invariant; answered by Adding and Noting.
 use Rattle.std.proofs.Common.{◌≡◌, ◌++◌, ap, ◌∙◌, refl, length, arith}
 use Rattle.sq_perform.proofs.Prepared.{prepared_at}
 use Rattle.sq_show.proofs.Adding.{adds_all, adds_more, adds_none}

@@ -1,3 +1,4 @@
+-- Left open for ListStoreStore::find_key: what the call of first_with asks for; answered by Sound.
 use Rattle.std.proofs.Common.{◌≡◌, ◌∙◌, List, ℕ, ap, get_or, true}
 use Rattle.sq_store.specs.Content.{table_at}
 use Rattle.sq_store.specs.Keys.{have_keys, keys_at}

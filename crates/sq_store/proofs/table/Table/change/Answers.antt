@@ -1,3 +1,4 @@
+-- Left open for Table::change: the clause rising; answered by Rises and Search.
 use Rattle.std.proofs.Common.{◌≡◌, ◌∙◌, List, ap, filter, map, nat_eq, not}
 use Rattle.sq_store.specs.declared.table.Numbered.{Numbered}
 use Rattle.sq_store.specs.Rising.{rising_between}

@@ -1,3 +1,4 @@
+-- Left open: the calls of append_digits and new, the result, and that no number overflows; answered by Digits.
 use Rattle.std.proofs.Common.{◌≡◌, ◌^◌, ◌<◌, pos, w64, length, arith, ap, sym, ◌∙◌}
 use Rattle.std.specs.Str.Parse.{digits_value_after}
 use Rattle.std.specs.List.{before_first}

@@ -1,0 +1,25 @@
+-- Queries and statements are bound exactly where the rules find no fault in them.
+pub mod Accepted
+pub mod Accepts
+pub mod Apart
+pub mod ChangedTold
+pub mod CheckAccepted
+pub mod ColumnsTold
+pub mod CursorAccepted
+pub mod DeleteAccepted
+pub mod FetchTold
+pub mod InsertAccepted
+pub mod InsertTold
+pub mod OrderTold
+pub mod OrientationTold
+pub mod ProcedureAccepted
+pub mod RowAccepted
+pub mod RowsTold
+pub mod SourceTold
+pub mod StatementAccepted
+pub mod TargetsTold
+pub mod Tells
+pub mod Told
+pub mod UpdateAccepted
+pub mod ValuesTold
+pub mod ViewAccepted

@@ -1,0 +1,14 @@
+-- A text is bound to what it becomes where its names are placed.
+pub mod MoreKnown
+pub mod Placed
+pub mod PlacedChange
+pub mod PlacedCursor
+pub mod PlacedInsert
+pub mod PlacedParts
+pub mod PlacedQuery
+pub mod PlacedStatement
+pub mod PlacedTargets
+pub mod PlacedUnion
+pub mod PlacedView
+pub mod SameParameters
+pub mod Unprivileged

@@ -1,0 +1,13 @@
+-- What is bound is well formed at the levels of its scopes, and means what the definitions see of it.
+pub mod BoundLaws
+pub mod CondsStand
+pub mod ExprsStand
+pub mod Levels
+pub mod QueriesStand
+pub mod SeenExprs
+pub mod SeenLevels
+pub mod SeenNotes
+pub mod SeenNumbers
+pub mod SeenQueries
+pub mod SeenTrees
+pub mod SelectsStand

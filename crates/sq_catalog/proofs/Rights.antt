@@ -1,0 +1,3 @@
+-- What GRANT adds.
+pub mod Granting
+pub mod Grants

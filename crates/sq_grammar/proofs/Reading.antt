@@ -1,0 +1,3 @@
+-- How the code reads: items again and again, and words by their ranks.
+pub mod Many
+pub mod Ranks

@@ -1,0 +1,20 @@
+-- A condition names a row by a key, and a search by the key finds what a scan of all rows finds.
+pub mod AddedRows
+pub mod EqualTests
+pub mod KeyColumns
+pub mod KeyLacked
+pub mod KeyNames
+pub mod KeyOut
+pub mod KeySearch
+pub mod KeyTests
+pub mod KeyValues
+pub mod KeyedRows
+pub mod KeysOn
+pub mod KeysSearch
+pub mod KnownKeys
+pub mod NamedRows
+pub mod NamedTests
+pub mod NotedKeys
+pub mod OnlyOne
+pub mod Searched
+pub mod ShortestKnown

@@ -1,0 +1,152 @@
+-- Rows that keys find one after another, each at its place by its number, are those of the table that have one of the keys.
+use Rattle.std.proofs.Common.{◌≡◌, ◌∙◌, ℕ, zero, suc, ◌+◌, ◌<◌, ◌≤◌, nat_eq, nat_le, Bool, true, false, ◌||◌, List, [], ◌∷◌, ◌++◌, cond, find, length, map, take, slice_index_or, Option, Some, None, Bor, Result, Ok, Err, refl, sym, ap, subst, arith}
+use Rattle.std.specs.Prelude.{IfOk, filter, if◌then◌else◌, nat_lt}
+use Rattle.std.specs.List.{AllByRecursion, insert, list_any}
+use Rattle.std.proofs.lemmas.Bool.{eq-eqb, le-ltb, lt-ltb, ne_eqb}
+use Rattle.std.proofs.lemmas.List.{take_more}
+use Rattle.std.proofs.lemmas.List.Folds.{list_any-append}
+use Rattle.sq_value.specs.declared.value.Value.{Value}
+use Rattle.sq_store.specs.Keys.{has_key}
+use Rattle.sq_store.specs.Rising.{rising_between}
+use Rattle.sq_store.specs.declared.table.Numbered.{Numbered}
+use Rattle.sq_meaning.specs.Environment.{Row}
+use Rattle.sq_bound.proofs.QuietTruths.{both_right}
+use Rattle.sq_condition.proofs.Conditions.{neither_left, neither_right}
+use Rattle.sq_query.specs.Several.{added, has_one_of}
+use Rattle.sq_query.specs.Table.{numbered_row}
+use Rattle.sq_query.proofs.Targets.NumbersThere.{all_from}
+use Rattle.sq_query.proofs.Keys.OnlyOne.{AtMostOne, found_is}
+
+-- ---- a row at its place
+
+step_over : (r x : Numbered) (rows : List Numbered) → x.number < r.number → added r (x ∷ rows) ≡ x ∷ added r rows
+step_over r x rows below = ap (λ b. if b then x ∷ added r rows else (if nat_eq x.number r.number then x ∷ rows else r ∷ x ∷ rows)) (lt-ltb x.number r.number below)
+
+found_there : (r x : Numbered) (rows : List Numbered) → x.number ≡ r.number → added r (x ∷ rows) ≡ x ∷ rows
+found_there r x rows same =
+    ap (λ b. if b then x ∷ added r rows else (if nat_eq x.number r.number then x ∷ rows else r ∷ x ∷ rows)) (le-ltb x.number r.number (omega (arith, same)))
+    ∙ ap (λ b. if b then x ∷ rows else r ∷ x ∷ rows) (eq-eqb x.number r.number same)
+
+goes_before : (r x : Numbered) (rows : List Numbered) → r.number < x.number → added r (x ∷ rows) ≡ r ∷ x ∷ rows
+goes_before r x rows above =
+    ap (λ b. if b then x ∷ added r rows else (if nat_eq x.number r.number then x ∷ rows else r ∷ x ∷ rows)) (le-ltb x.number r.number (omega (arith, above)))
+    ∙ ap (λ b. if b then x ∷ rows else r ∷ x ∷ rows) (ne_eqb x.number r.number (λ same. omega (arith, above, same)))
+
+module _ (r : ℕ × Bor Row) where
+  abbrev pub AreBelow : List (ℕ × Bor Row) → Type 0
+  AreBelow rows = AllByRecursion (λ x. x.0 < r.0) rows
+
+  abbrev seen : List (ℕ × Bor Row) → List Numbered
+  seen rows = map numbered_row rows
+
+  pub placed_last : (rows : List (ℕ × Bor Row)) → AreBelow rows → seen (insert rows (length rows) r) ≡ added (numbered_row r) (seen rows)
+  placed_last [] below = refl
+  placed_last (x ∷ rows) below = ap (λ ys. numbered_row x ∷ ys) (placed_last rows below.1) ∙ sym (step_over (numbered_row r) (numbered_row x) (seen rows) below.0)
+
+  pub placed_before : (rows : List (ℕ × Bor Row)) (i : ℕ) (x : ℕ × Bor Row) → i < length rows → x ≡ slice_index_or rows i x → r.0 < x.0 → AreBelow (take i rows) → seen (insert rows i r) ≡ added (numbered_row r) (seen rows)
+  placed_before [] i x within at above below = absurd (omega arith)
+  placed_before (y ∷ rows) zero x within at above below = sym (goes_before (numbered_row r) (numbered_row y) (seen rows) (subst (λ (z : ℕ × Bor Row). r.0 < z.0) at above))
+  placed_before (y ∷ rows) (suc i) x within at above below =
+      ap (λ ys. numbered_row y ∷ ys) (placed_before rows i x (omega arith) at above below.1) ∙ sym (step_over (numbered_row r) (numbered_row y) (seen rows) below.0)
+
+  pub placed_there : (rows : List (ℕ × Bor Row)) (i : ℕ) (x : ℕ × Bor Row) → i < length rows → x ≡ slice_index_or rows i x → r.0 ≡ x.0 → AreBelow (take i rows) → added (numbered_row r) (seen rows) ≡ seen rows
+  placed_there [] i x within at same below = absurd (omega arith)
+  placed_there (y ∷ rows) zero x within at same below = found_there (numbered_row r) (numbered_row y) (seen rows) (sym (same ∙ ap (λ (z : ℕ × Bor Row). z.0) at))
+  placed_there (y ∷ rows) (suc i) x within at same below =
+      step_over (numbered_row r) (numbered_row y) (seen rows) below.0 ∙ ap (λ ys. numbered_row y ∷ ys) (placed_there rows i x (omega arith) at same below.1)
+
+-- ---- the rows of a table that pass one of two tests
+
+module _ (P h : Numbered → Bool) where
+  abbrev either_of : Numbered → Bool
+  either_of r = P r || h r
+
+  none_more : (rows : List Numbered) → list_any h rows ≡ false → filter either_of rows ≡ filter P rows
+  none_more [] none = refl
+  none_more (x ∷ rows) none =
+      by (P x) ∙ ap (λ ys. cond (P x) (x ∷ ys) ys) (none_more rows (neither_right (h x) (list_any h rows) none))
+    where
+      by : (p : Bool) → cond (p || h x) (x ∷ filter either_of rows) (filter either_of rows) ≡ cond p (x ∷ filter either_of rows) (filter either_of rows)
+      by true = refl
+      by false = ap (λ b. cond b (x ∷ filter either_of rows) (filter either_of rows)) (neither_left (h x) (list_any h rows) none)
+
+  none_found : (rows : List Numbered) → find h rows ≡ None → list_any h rows ≡ false
+  none_found [] none = refl
+  none_found (x ∷ rows) none = by (h x) none (none_found rows)
+    where
+      by : (b : Bool) → cond b (Some x) (find h rows) ≡ None → (find h rows ≡ None → list_any h rows ≡ false) → (b || list_any h rows) ≡ false
+      by true is later = cc
+      by false is later = later is
+
+  -- no row passes the second
+  pub none_added : (rows : List Numbered) → find h rows ≡ None → filter P rows ≡ filter either_of rows
+  none_added rows none = sym (none_more rows (none_found rows none))
+
+  filtered_all : (Q : Numbered → Type 0) (rows : List Numbered) → AllByRecursion Q rows → AllByRecursion Q (filter P rows)
+  filtered_all Q [] all = tt
+  filtered_all Q (x ∷ rows) all = by (P x) (filtered_all Q rows all.1)
+    where
+      by : (p : Bool) → AllByRecursion Q (filter P rows) → AllByRecursion Q (cond p (x ∷ filter P rows) (filter P rows))
+      by true later = (all.0, later)
+      by false later = later
+
+  -- before rows with higher numbers
+  first_of : (x : Numbered) (rows : List Numbered) → AllByRecursion (λ (r : Numbered). x.number + 1 ≤ r.number) rows → added x rows ≡ x ∷ rows
+  first_of x [] above = refl
+  first_of x (y ∷ rows) above = goes_before x y rows (omega (arith, above.0))
+
+  -- one row passes the second
+  pub one_added : (r : Numbered) (low : ℕ) (rows : List Numbered) (next : ℕ) → rising_between low rows next ≡ true → AtMostOne h rows → find h rows ≡ Some r → added r (filter P rows) ≡ filter either_of rows
+  one_added r low [] next rises one is = cc
+  one_added r low (x ∷ rows) next rises one is =
+      let rest = both_right (nat_le low x.number) (rising_between (x.number + 1) rows next) rises in
+      by (h x) refl (P x) refl is (all_from (x.number + 1) rows next rest) (one_added r (x.number + 1) rows next rest one.1)
+    where
+      by : (b : Bool) → h x ≡ b → (p : Bool) → P x ≡ p → cond b (Some x) (find h rows) ≡ Some r → AllByRecursion (λ (s : Numbered). x.number + 1 ≤ s.number) rows → (find h rows ≡ Some r → added r (filter P rows) ≡ filter either_of rows)
+          → added r (cond p (x ∷ filter P rows) (filter P rows)) ≡ cond (p || b) (x ∷ filter either_of rows) (filter either_of rows)
+      by true holds true passes found above later =
+          let same : x ≡ r = cc in
+          subst (λ (s : Numbered). added s (x ∷ filter P rows) ≡ x ∷ filter either_of rows) same
+          (found_there x x (filter P rows) refl ∙ ap (λ ys. x ∷ ys) (sym (none_more rows (one.0 holds))))
+      by true holds false passes found above later =
+          let same : x ≡ r = cc in
+          subst (λ (s : Numbered). added s (filter P rows) ≡ x ∷ filter either_of rows) same
+          (first_of x (filter P rows) (filtered_all (λ (s : Numbered). x.number + 1 ≤ s.number) rows above) ∙ ap (λ ys. x ∷ ys) (sym (none_more rows (one.0 holds))))
+      by false holds true passes found above later =
+          let higher = found_is (λ (s : Numbered). x.number + 1 ≤ s.number) h rows r above found in
+          step_over r x (filter P rows) (omega (arith, higher)) ∙ ap (λ ys. x ∷ ys) (later found)
+      by false holds false passes found above later = later found
+
+-- ---- one key more
+
+or_none : (b : Bool) → (b || false) ≡ b
+or_none true = refl
+or_none false = refl
+
+one_more_value : (columns : List ℕ) (values : List Value) (i : ℕ) (v : Value) → i < length values → v ≡ slice_index_or values i v → (r : Numbered)
+    → (has_one_of columns (take i values) r || has_key columns (v ∷ []) r) ≡ has_one_of columns (take (i + 1) values) r
+one_more_value columns values i v within at r =
+    let has : Value → Bool = λ w. has_key columns (w ∷ []) r in
+    sym (ap (list_any has) (take_more values i v within ∙ ap (λ (w : Value). take i values ++ w ∷ []) (sym at)) ∙ list_any-append has (take i values) (v ∷ [])
+    ∙ ap (λ b. list_any has (take i values) || b) (or_none (has v)))
+
+pub next_value : (columns : List ℕ) (values : List Value) (i : ℕ) (v : Value) (rows : List Numbered) → i < length values → v ≡ slice_index_or values i v
+    → filter (λ r. has_one_of columns (take i values) r || has_key columns (v ∷ []) r) rows ≡ filter (has_one_of columns (take (i + 1) values)) rows
+next_value columns values i v rows within at = λ j. filter (λ r. one_more_value columns values i v within at r j) rows
+
+-- what is added by a key
+pub added_by_key : {E : Type 0} (done : Result (Unit {0}) E) (h : Numbered → Bool) (r : Numbered) (old new rows : List Numbered) (next : ℕ) → rising_between 1 rows next ≡ true → AtMostOne h rows → find h rows ≡ Some r → IfOk done (λ d. new ≡ added r old)
+    → IfOk done (λ d. (has : Numbered → Bool) → old ≡ filter has rows → new ≡ filter (λ s. has s || h s) rows)
+added_by_key (Err e) h r old new rows next rises one is grown = tt
+added_by_key (Ok d) h r old new rows next rises one is grown = λ has was. grown ∙ ap (added r) was ∙ one_added has h r 1 rows next rises one is
+
+pub none_yet : (columns : List ℕ) (rows : List Numbered) → [] ≡ filter (has_one_of columns []) rows
+none_yet columns [] = refl
+none_yet columns (r ∷ rows) = none_yet columns rows
+
+-- a row that was put at its place
+pub put_there : {E : Type 0} (done : Result (Unit {0}) E) (r : ℕ × Bor Row) (place : ℕ) (old seen_then new : List (ℕ × Bor Row)) → IfOk done (λ d. new ≡ insert old place r) → seen_then ≡ old
+    → map numbered_row (insert seen_then place r) ≡ added (numbered_row r) (map numbered_row seen_then) → IfOk done (λ d. map numbered_row new ≡ added (numbered_row r) (map numbered_row old))
+put_there (Err e) r place old seen_then new put same is = tt
+put_there (Ok d) r place old seen_then new put same is =
+    ap (map numbered_row) put ∙ subst (λ (l : List (ℕ × Bor Row)). map numbered_row (insert l place r) ≡ added (numbered_row r) (map numbered_row l)) same is

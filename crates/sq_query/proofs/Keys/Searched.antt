@@ -1,0 +1,298 @@
+-- A query specification whose WHERE clause names a row of its only base table by a key has the rows that it has over that row alone.
+use Rattle.std.proofs.Common.{◌≡◌, ◌∙◌, ℕ, Bool, true, false, List, [], ◌∷◌, Option, Some, None, Result, cond, find, map, slice_get, refl, sym, ap, subst, Ok, Err}
+use Rattle.std.specs.Prelude.{IfOk, if◌then◌else◌, nat_eq, option_to_list}
+use Rattle.std.specs.List.{AllByRecursion}
+use Rattle.std.specs.Option.{option_map}
+use Rattle.std.proofs.lemmas.Bool.{eq-eqb, eqb-true}
+use Rattle.std.proofs.lemmas.List.Concat.{flat_map_single}
+use Rattle.std.proofs.lemmas.Simd.{map-map}
+use Rattle.sq_lex.specs.declared.name.Name.{Name}
+use Rattle.sq_value.specs.declared.domain.Kind.{Kind}
+use Rattle.sq_value.specs.declared.value.Value.{Value}
+use Rattle.sq_store.specs.Content.{Content, table_at}
+use Rattle.sq_store.specs.Keys.{Keys, are_keyed, has_key, key_at, keys_at, with_key}
+use Rattle.sq_store.specs.declared.table.Numbered.{Numbered}
+use Rattle.sq_store.specs.declared.table.Table.{Table}
+use Rattle.sq_meaning.specs.Environment.{Env, Line, Row, outermost}
+use Rattle.sq_meaning.specs.Placed.{Placed, by_place}
+use Rattle.sq_meaning.specs.Query.{is_true, rows, truth}
+use Rattle.sq_meaning.specs.Rows.{product}
+use Rattle.sq_meaning.specs.Status.{Outcome, and_then, kept, well_formed}
+use Rattle.sq_meaning.specs.Syntax.{SelectList, expressions, present, select}
+use Rattle.sq_meaning.specs.Tables.{rows_in}
+use Rattle.sq_meaning.specs.WellFormed.{AreRowsOf, Fits, IsDeclaredAt, IsRowOf, WellFormedSelect, kinds_by_place}
+use Rattle.sq_meaning.proofs.OutcomeLaws.{kept_map}
+use Rattle.sq_bound.specs.Condition.{Groups, PlacedSelect, clause_of, cond_of, groups_if, groups_of, select_by, select_of}
+use Rattle.sq_bound.specs.Expression.{expr_of}
+use Rattle.sq_bound.specs.Fits.{keys_of_bases, not_nulls_hold}
+use Rattle.sq_bound.specs.WellFormed.{IsSelect, TableKinds, base_kinds}
+use Rattle.sq_bound.specs.declared.condition.BoundCond.{BoundCond}
+use Rattle.sq_bound.specs.declared.condition.BoundSpecification.{BoundSpecification, out-BoundSpecification}
+use Rattle.sq_bound.specs.declared.condition.TablePlace.{TablePlace}
+use Rattle.sq_bound.specs.declared.condition.TablePlace.TheVariants.{Base, View}
+use Rattle.sq_bound.specs.declared.names.BaseTable.{BaseTable}
+use Rattle.sq_bound.proofs.ConditionLaws.{select_of-out}
+use Rattle.sq_condition.specs.Specification.{as_line}
+use Rattle.sq_condition.proofs.Lone.{clause_alone}
+use Rattle.sq_expression.specs.Fault.{IsAnswered}
+use Rattle.sq_expression.specs.Frame.{inputs_of, lent, view_outcome}
+use Rattle.sq_expression.specs.declared.fault.Fault.{Fault}
+use Rattle.sq_expression.specs.declared.fault.Fault.TheVariants as fault
+use Rattle.sq_expression.specs.declared.table.BaseRows.{BaseRows}
+use Rattle.sq_expression.specs.declared.table.ViewRows.{ViewRows}
+use Rattle.sq_query.specs.Key.{IsKeyOn, StandsOn}
+use Rattle.sq_query.specs.Keyed.{IsKeyedBy, IsKeyedSelect}
+use Rattle.sq_query.specs.Needed.{IsNeeded, ReadsInside, ReadsSelect}
+use Rattle.sq_query.specs.Row.{outside}
+use Rattle.sq_query.specs.Search.{AreBeside, IsOver, IsOverBase, IsReadByKey, IsReadFor, IsReadWith, IsWhere, rows_by_key, with_rows}
+use Rattle.sq_query.specs.Table.{AreOfStore, ReadsAsMeant, rows_among, rows_read}
+use Rattle.sq_query.specs.Target.{is_true_of}
+use Rattle.sq_query.specs.Union.{AreFitting}
+use Rattle.sq_query.specs.declared.key.KnownKey.{KnownKey}
+use Rattle.sq_query.specs.declared.needed.Needed.{Needed}
+use Rattle.sq_query.specs.declared.search.Search.{Search}
+use Rattle.sq_query.specs.declared.view.Tables.{Tables}
+use Rattle.sq_query.proofs.Keys.KeySearch.{decided, rows_kept}
+use Rattle.sq_query.proofs.Needs.NeededViews.{inside_weaker}
+use Rattle.sq_query.proofs.Keys.OnlyOne.{found_is}
+use Rattle.sq_query.proofs.Needs.SameTables.{same_over, wanted_of}
+use Rattle.sq_query.proofs.Targets.WalkedRows.{there_within}
+
+-- ---- the tree of such a query specification
+
+abbrev groups_in : BoundSpecification → Groups
+groups_in q = groups_if (option_map groups_of (out-BoundSpecification q).grouping)
+
+-- over one table, with this WHERE clause
+abbrev over_where : BoundSpecification → TablePlace → BoundCond → PlacedSelect
+over_where q t own = select_by (out-BoundSpecification q).distinct (out-BoundSpecification q).list (t ∷ []) (present (cond_of [] own)) (groups_in q)
+
+tree_of : (q : BoundSpecification) (t : TablePlace) (own : BoundCond) → IsOver q t → IsWhere q own → select_of q ≡ over_where q t own
+tree_of q t own over is_where =
+    select_of-out q ∙ (λ i. select_by (out-BoundSpecification q).distinct (out-BoundSpecification q).list (over i) (clause_of [] (is_where i)) (groups_in q))
+
+-- the only table of a query specification is read
+pub only_read : (P : TablePlace → Type 0) (q : BoundSpecification) (t : TablePlace) → IsOver q t → ReadsSelect P (select_of q) → P t
+only_read P q t over reads =
+    let from : AllByRecursion P (out-BoundSpecification q).from.tables = (subst (ReadsSelect P) (select_of-out q) reads).0 in
+    (subst (AllByRecursion P) over from).0
+
+-- the tables of the subqueries of a query specification are read
+pub inside_read : (P : TablePlace → Type 0) (q : PlacedSelect) → ReadsSelect P q → ReadsInside P q
+inside_read P (select distinct list from filter by having) reads = (reads.1, reads.2)
+
+both_read : (P : TablePlace → Type 0) (q : BoundSpecification) (t : TablePlace) (own : BoundCond) → IsOver q t → IsWhere q own → P t → ReadsInside P (select_of q) → ReadsSelect P (select_of q)
+both_read P q t own over is_where first inside =
+    let tree = tree_of q t own over is_where in
+    let others = subst (ReadsInside P) tree inside in
+    subst (ReadsSelect P) (sym tree) ((first, tt), others.0, others.1)
+
+-- the WHERE clause of a query specification may stand on the rows of its only table
+pub where_stands : (columns : TableKinds) (parameters : List Kind) (q : BoundSpecification) (t : TablePlace) (own : BoundCond) → IsOver q t → IsWhere q own → IsSelect columns parameters [] q → StandsOn columns parameters t own
+where_stands columns parameters q t own over is_where well rows_of =
+    (subst (WellFormedSelect (by_place rows_of) (kinds_by_place columns parameters) (IsDeclaredAt parameters) []) (tree_of q t own over is_where) (well.stands rows_of)).2
+
+-- ---- over other rows of its table, of which WHERE keeps the same
+
+module _ (tables few : TablePlace → Outcome (List Row)) (q : BoundSpecification) (t : TablePlace) (own : BoundCond) (over : IsOver q t) (is_where : IsWhere q own) (values : List Value) (caller : Name)
+    (others : ReadsInside (λ u. tables u ≡ few u) (select_of q)) where
+  abbrev env : Env (Unit {0})
+  env = outermost (inputs_of values) caller
+
+  abbrev list : SelectList (Placed TablePlace)
+  list = expressions (map (expr_of (groups_in q).functions) (out-BoundSpecification q).list)
+
+  -- WHERE on a line
+  abbrev pub line_test : Line → Outcome Bool
+  line_test line = is_true (truth (by_place tables) (cond_of [] own) (outside line values caller))
+
+  abbrev wanted : Line → Outcome Bool
+  wanted = wanted_of tables few (out-BoundSpecification q).distinct list t (present (cond_of [] own)) (groups_in q).columns (groups_in q).having env tables
+
+  wanted_on : (found : List Row) → kept wanted (product (found ∷ [])) ≡ kept line_test (map as_line found)
+  wanted_on found = (λ i. kept (λ line. is_true (clause_alone tables (tt ∷ []) line env (Some own) i)) (product (found ∷ []))) ∙ ap (kept line_test) (flat_map_single as_line found)
+
+  pub same_over_few : (all found : List Row) → tables t ≡ Ok all → few t ≡ Ok found → kept line_test (map as_line all) ≡ kept line_test (map as_line found)
+      → rows (by_place tables) (select_of q) env ≡ rows (by_place few) (select_of q) env
+  same_over_few all found whole some same =
+      let tree = tree_of q t own over is_where in
+      let inside = subst (ReadsInside (λ u. tables u ≡ few u)) tree others in
+      subst (λ (s : PlacedSelect). rows (by_place tables) s env ≡ rows (by_place few) s env) (sym tree)
+      (same_over tables few (out-BoundSpecification q).distinct list t (present (cond_of [] own)) (groups_in q).columns (groups_in q).having env all found whole some inside.0 inside.1
+      (wanted_on all ∙ same ∙ sym (wanted_on found)))
+
+-- ---- one row instead of all
+
+only_kept : {A : Type 0} (test : A → Outcome Bool) (has : A → Bool) (o : Option A) → kept test (option_to_list o) ≡ decided test has o
+only_kept test has None = refl
+only_kept test has (Some x) = refl
+
+abbrev line_on : Numbered → Line
+line_on r = r.row ∷ []
+
+lines_on : (found : List Numbered) → map as_line (map (λ (r : Numbered). r.row) found) ≡ map line_on found
+lines_on found = map-map as_line (λ (r : Numbered). r.row) found
+
+module _ (tables : TablePlace → Outcome (List Row)) (columns : TableKinds) (parameters : List Kind) (values : List Value) (caller : Name) (given : IsRowOf parameters values)
+    (bases : List BaseTable) (content : Content) (keys : List Keys) (place : ℕ) (b : BaseTable) (own : BoundCond) (known : KnownKey) (k : IsKeyOn place own content keys values caller known)
+    (at : slice_get bases place ≡ Some b) (kinds_are : columns (Base place) ≡ Ok (base_kinds b)) (stands : StandsOn columns parameters (Base place) own) (keys_are : keys ≡ keys_of_bases bases) (nulls : not_nulls_hold bases content ≡ true)
+    (rows_are : AllByRecursion (λ (r : Numbered). IsRowOf (base_kinds b) r.row) (table_at content place).rows) (keyed : are_keyed keys content ≡ true) where
+  abbrev all_rows : List Numbered
+  all_rows = (table_at content place).rows
+
+  abbrev found_row : Option Numbered
+  found_row = with_key (table_at content place) (key_at keys place known.key) known.values
+
+  abbrev row_test : Numbered → Outcome Bool
+  row_test = is_true_of tables values caller own
+
+  abbrev has_it : Numbered → Bool
+  has_it = has_key (key_at keys place known.key) known.values
+
+  abbrev test_on : Line → Outcome Bool
+  test_on line = is_true (truth (by_place tables) (cond_of [] own) (outside line values caller))
+
+  lines_kept : kept test_on (map line_on all_rows) ≡ kept test_on (map line_on (option_to_list found_row))
+  lines_kept =
+      kept_map line_on test_on all_rows
+      ∙ ap (λ (o : Outcome (List Numbered)). and_then o (λ found. Ok (map line_on found)))
+      (rows_kept tables columns parameters values caller given bases content keys place b own known k at kinds_are stands keys_are nulls rows_are keyed ∙ sym (only_kept row_test has_it found_row))
+      ∙ sym (kept_map line_on test_on (option_to_list found_row))
+
+  -- the found row is of the kinds of the table's columns
+  pub found_fits : AreRowsOf (base_kinds b) (rows_by_key content keys place known)
+  found_fits = by found_row refl
+    where
+      by : (o : Option Numbered) → found_row ≡ o → AreRowsOf (base_kinds b) (map (λ (r : Numbered). r.row) (option_to_list o))
+      by None e = tt
+      by (Some r) e = (found_is (λ (s : Numbered). IsRowOf (base_kinds b) s.row) has_it all_rows r rows_are e, tt)
+
+  all_stored : AreOfStore content tables → tables (Base place) ≡ Ok (rows_in (table_at content place))
+  all_stored stored = stored place ∙ ap (λ (o : Outcome Table). and_then o (λ t. Ok (rows_in t))) (there_within content place k.table)
+
+  pub same_by_key : (q : BoundSpecification) (few : TablePlace → Outcome (List Row)) → IsOverBase q place → IsWhere q own → AreOfStore content tables → few (Base place) ≡ Ok (rows_by_key content keys place known)
+      → ReadsInside (λ t. tables t ≡ few t) (select_of q) → rows (by_place tables) (select_of q) (outermost (inputs_of values) caller) ≡ rows (by_place few) (select_of q) (outermost (inputs_of values) caller)
+  same_by_key q few over is_where stored some others =
+      same_over_few tables few q (Base place) own over is_where values caller others (rows_in (table_at content place)) (rows_by_key content keys place known) (all_stored stored) some
+      (ap (kept test_on) (lines_on all_rows) ∙ lines_kept ∙ sym (ap (kept test_on) (lines_on (option_to_list found_row))))
+
+-- ---- tables of which one has other rows
+
+pub with_own : (t : TablePlace) (own : Outcome (List Row)) (tables : TablePlace → Outcome (List Row)) → with_rows t own tables t ≡ own
+with_own (Base n) own tables = ap (λ (b : Bool). if b then own else tables (Base n)) (eq-eqb n n refl)
+with_own (View n) own tables = ap (λ (b : Bool). if b then own else tables (View n)) (eq-eqb n n refl)
+
+module _ (own : Outcome (List Row)) (tables : TablePlace → Outcome (List Row)) where
+  with_other : (t u : TablePlace) → (t ≡ u → ⊥) → tables u ≡ with_rows t own tables u
+  with_other (Base m) (View n) apart = refl
+  with_other (View m) (Base n) apart = refl
+  with_other (Base m) (Base n) apart = by (nat_eq m n) refl
+    where
+      by : (b : Bool) → nat_eq m n ≡ b → tables (Base n) ≡ (if b then own else tables (Base n))
+      by false e = refl
+      by true e = absurd (apart (ap (λ (p : ℕ). Base p) (eqb-true m n e)))
+  with_other (View m) (View n) apart = by (nat_eq m n) refl
+    where
+      by : (b : Bool) → nat_eq m n ≡ b → tables (View n) ≡ (if b then own else tables (View n))
+      by false e = refl
+      by true e = absurd (apart (ap (λ (p : ℕ). View p) (eqb-true m n e)))
+
+  pub with_others : (t : TablePlace) (needed : Needed) → (IsNeeded needed t → ⊥) → (u : TablePlace) → IsNeeded needed u → tables u ≡ with_rows t own tables u
+  with_others t needed apart u here = with_other t u (λ same. apart (subst (IsNeeded needed) (sym same) here))
+
+  pub with_fitting : (columns : TableKinds) (t : TablePlace) → Fits AreRowsOf (columns t) own → AreFitting columns tables → AreFitting columns (with_rows t own tables)
+  with_fitting columns (Base m) of_kinds fits (View n) = fits (View n)
+  with_fitting columns (View m) of_kinds fits (Base n) = fits (Base n)
+  with_fitting columns (Base m) of_kinds fits (Base n) = by (nat_eq m n) refl
+    where
+      by : (b : Bool) → nat_eq m n ≡ b → Fits AreRowsOf (columns (Base n)) (if b then own else tables (Base n))
+      by false e = fits (Base n)
+      by true e = subst (λ (p : ℕ). Fits AreRowsOf (columns (Base p)) own) (eqb-true m n e) of_kinds
+  with_fitting columns (View m) of_kinds fits (View n) = by (nat_eq m n) refl
+    where
+      by : (b : Bool) → nat_eq m n ≡ b → Fits AreRowsOf (columns (View n)) (if b then own else tables (View n))
+      by false e = fits (View n)
+      by true e = subst (λ (p : ℕ). Fits AreRowsOf (columns (View p)) own) (eqb-true m n e) of_kinds
+
+-- ---- what was read
+
+-- a base table that stands before the others is found first
+module _ (own : BaseRows) (bases : List BaseRows) (views : List ViewRows) (place : ℕ) (found : List Row) (at : own.place ≡ place) (are : lent own.rows.items ≡ found) where
+  pub own_first : rows_among (own ∷ bases) views (Base place) ≡ Ok found
+  own_first =
+      ap (λ (b : Bool). and_then (well_formed (cond b (Some own) (find (λ t. nat_eq t.place place) bases))) (λ t. Ok (lent t.rows.items))) (eq-eqb own.place place at)
+      ∙ ap (λ (rs : List Row). let is : Outcome (List Row) = Ok rs in is) are
+
+  others_behind : (tables : TablePlace → Outcome (List Row)) (t : TablePlace) → rows_among bases views t ≡ tables t → rows_among (own ∷ bases) views t ≡ with_rows (Base place) (Ok found) tables t
+  others_behind tables (View n) h = h
+  others_behind tables (Base n) h =
+      ap (λ (p : ℕ). and_then (well_formed (cond (nat_eq p n) (Some own) (find (λ t. nat_eq t.place n) bases))) (λ t. Ok (lent t.rows.items))) at ∙ by (nat_eq place n)
+    where
+      by : (b : Bool) → and_then (well_formed (cond b (Some own) (find (λ t. nat_eq t.place n) bases))) (λ t. Ok (lent t.rows.items)) ≡ (if b then Ok found else tables (Base n))
+      by true = ap (λ (rs : List Row). let is : Outcome (List Row) = Ok rs in is) are
+      by false = h
+
+pub read_by_key : (content : Content) (keys : List Keys) (search : Search) (tables : TablePlace → Outcome (List Row)) (own : BaseRows) (read : Tables) (r : Result Tables Fault) → own.place ≡ search.base
+    → lent own.rows.items ≡ rows_by_key content keys search.base search.key → ReadsAsMeant search.others (rows_read read) tables → IfOk r (λ all. all.bases.items ≡ own ∷ read.bases.items) → IfOk r (λ all. all.views.items ≡ read.views.items)
+    → IfOk r (IsReadByKey content keys search tables)
+read_by_key content keys search tables own read (Err e) at are as_meant bases views = tt
+read_by_key content keys search tables own read (Ok all) at are as_meant bases views =
+    let found = rows_by_key content keys search.base search.key in record {
+      own_is = (λ i. rows_among (bases i) (views i) (Base search.base)) ∙ own_first own read.bases.items read.views.items search.base found at are;
+      others_are = λ t here. (λ i. rows_among (bases i) (views i) t) ∙ others_behind own read.bases.items read.views.items search.base found at are tables t (as_meant t here);
+    }
+
+-- a view that stands before the others is found, and they are behind it
+module _ (own : ViewRows) (bases : List BaseRows) (views : List ViewRows) (place : ℕ) (found : Outcome (List Row)) (at : own.place ≡ place) (are : view_outcome own.rows.items own.failure ≡ found) where
+  pub view_first : rows_among bases (own ∷ views) (View place) ≡ found
+  view_first = ap (λ (b : Bool). and_then (well_formed (cond b (Some own) (find (λ t. nat_eq t.place place) views))) (λ t. view_outcome t.rows.items t.failure)) (eq-eqb own.place place at) ∙ are
+
+  behind_view : (tables : TablePlace → Outcome (List Row)) (t : TablePlace) → rows_among bases views t ≡ tables t → rows_among bases (own ∷ views) t ≡ with_rows (View place) found tables t
+  behind_view tables (Base n) h = h
+  behind_view tables (View n) h =
+      ap (λ (p : ℕ). and_then (well_formed (cond (nat_eq p n) (Some own) (find (λ t. nat_eq t.place n) views))) (λ t. view_outcome t.rows.items t.failure)) at ∙ by (nat_eq place n)
+    where
+      by : (b : Bool) → and_then (well_formed (cond b (Some own) (find (λ t. nat_eq t.place n) views))) (λ t. view_outcome t.rows.items t.failure) ≡ (if b then found else tables (View n))
+      by true = are
+      by false = h
+
+pub read_with_view : (view : ℕ) (found : Outcome (List Row)) (others : Needed) (tables : TablePlace → Outcome (List Row)) (own : ViewRows) (read : Tables) (r : Result Tables Fault) → own.place ≡ view → view_outcome own.rows.items own.failure ≡ found
+    → ReadsAsMeant others (rows_read read) tables → IfOk r (λ all. all.bases.items ≡ read.bases.items) → IfOk r (λ all. all.views.items ≡ own ∷ read.views.items) → IfOk r (IsReadWith (View view) found others tables)
+read_with_view view found others tables own read (Err e) at are as_meant bases views = tt
+read_with_view view found others tables own read (Ok all) at are as_meant bases views = record {
+  own_is = (λ i. rows_among (bases i) (views i) (View view)) ∙ view_first own read.bases.items read.views.items view found at are;
+  others_are = λ t here. (λ i. rows_among (bases i) (views i) t) ∙ behind_view own read.bases.items read.views.items view found at are tables t (as_meant t here);
+}
+
+-- a refusal of memory is an answer
+pub answered_memory : (e : Fault) → e ≡ fault.NoMemory → IsAnswered {A = Tables} (Err e)
+answered_memory e is = subst (λ (f : Fault). IsAnswered {A = Tables} (Err f)) (sym is) tt
+
+-- over other rows of its only table, where it has the same rows
+pub read_of_search : (columns : TableKinds) (tables : TablePlace → Outcome (List Row)) (q : BoundSpecification) (values : List Value) (caller : Name) (t : TablePlace) (found : Outcome (List Row)) (own : BoundCond) (others : Needed) (r : Result Tables Fault)
+    → IsOver q t → IsWhere q own → AreBeside q t others → AreFitting columns tables → Fits AreRowsOf (columns t) found
+    → (ReadsInside (λ u. tables u ≡ with_rows t found tables u) (select_of q)
+    → rows (by_place tables) (select_of q) (outermost (inputs_of values) caller) ≡ rows (by_place (with_rows t found tables)) (select_of q) (outermost (inputs_of values) caller))
+    → IfOk r (IsReadWith t found others tables) → IfOk r (IsReadFor columns tables q values caller)
+read_of_search columns tables q values caller t found own others (Err e) over is_where beside fitting fits same read = tt
+read_of_search columns tables q values caller t found own others (Ok all) over is_where beside fitting fits same read =
+    let few = with_rows t found tables in record {
+      rows_of = few;
+      fitting = with_fitting found tables columns t fits fitting;
+      read = both_read (λ u. rows_read all u ≡ few u) q t own over is_where (read.own_is ∙ sym (with_own t found tables)) (inside_weaker (IsNeeded others) (λ u. rows_read all u ≡ few u) read.others_are (select_of q) beside.reads);
+      same = sym (same (inside_weaker (IsNeeded others) (λ u. tables u ≡ few u) (with_others found tables t others beside.apart) (select_of q) beside.reads));
+    }
+
+-- ---- one that names a row by a key whose values are known
+
+same_base : (q : BoundSpecification) (m n : ℕ) → IsOverBase q m → IsOverBase q n → m ≡ n
+same_base q m n first second = let same : Base m ∷ [] ≡ Base n ∷ [] = sym first ∙ second in cc
+
+same_where : (q : BoundSpecification) (a b : BoundCond) → IsWhere q a → IsWhere q b → a ≡ b
+same_where q a b first second = let same : Some a ≡ Some b = sym first ∙ second in cc
+
+pub keyed_where : (q : BoundSpecification) (keys : List Keys) (parameters : List Value) (user : Name) (place : ℕ) (own : BoundCond) → IsKeyedSelect q keys parameters user → IsOverBase q place → IsWhere q own
+    → IsKeyedBy (keys_at keys place) own parameters user
+keyed_where q keys parameters user place own keyed over is_where =
+    subst (λ (c : BoundCond). IsKeyedBy (keys_at keys place) c parameters user) (same_where q keyed.own own keyed.is_where is_where)
+    (subst (λ (p : ℕ). IsKeyedBy (keys_at keys p) keyed.own parameters user) (same_base q keyed.place place keyed.over over) keyed.by_key)

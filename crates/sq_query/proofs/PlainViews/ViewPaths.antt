@@ -1,0 +1,161 @@
+-- The views of a path, each found by its place (ISO/IEC 9075:1992, 11.19).
+use Rattle.std.proofs.Common.{◌≡◌, ◌∙◌, ℕ, ◌<◌, List, [], ◌∷◌, Option, Some, None, Result, ap, length, refl, sym, subst, Ok, Err}
+use Rattle.std.specs.Prelude.{IfOk, IfSome, IsSomeAnd, slice_get}
+use Rattle.std.specs.List.{AllZip}
+use Rattle.std.specs.declared.alloc.AllocError.{AllocError}
+use Rattle.sq_lex.specs.declared.name.Name.{Name}
+use Rattle.sq_value.specs.declared.value.Value.{Value}
+use Rattle.sq_store.specs.Keys.{Keys, key_at, keys_at}
+use Rattle.sq_meaning.specs.Environment.{Row}
+use Rattle.sq_meaning.specs.Status.{Outcome, and_then, well_formed}
+use Rattle.sq_meaning.specs.WellFormed.{HasValue}
+use Rattle.sq_bound.specs.WellFormed.{IsSelect, TableKinds, before_view}
+use Rattle.sq_bound.specs.declared.condition.BoundCond.{BoundCond}
+use Rattle.sq_bound.specs.declared.condition.BoundSpecification.{BoundSpecification, out-BoundSpecification}
+use Rattle.sq_bound.specs.declared.condition.TablePlace.{TablePlace}
+use Rattle.sq_bound.specs.declared.condition.TablePlace.TheVariants.{Base, View}
+use Rattle.sq_bound.specs.declared.names.View.{View as BoundView}
+use Rattle.sq_expression.specs.Fault.{IsRight}
+use Rattle.sq_expression.specs.Frame.{view_outcome}
+use Rattle.sq_expression.specs.declared.fault.Fault.{Fault}
+use Rattle.sq_expression.specs.declared.table.ViewRows.{ViewRows}
+use Rattle.sq_query.specs.Key.{IsNamedBy}
+use Rattle.sq_query.specs.Search.{IsOver, with_rows}
+use Rattle.sq_query.specs.Shown.{AreRight, AreShown, IsPath, IsPlainOver, IsPlainView, IsShownKey, ShowsAt, Shows, first_of, shown_of}
+use Rattle.sq_query.specs.Table.{IsViewAt, rows_of_view}
+use Rattle.sq_query.specs.declared.key.KnownKey.{KnownKey}
+use Rattle.sq_query.proofs.Keys.KnownKeys.{same_some}
+use Rattle.sq_query.proofs.Needs.NeededViews.{reads_known, stands_before}
+use Rattle.sq_query.proofs.Keys.Searched.{only_read}
+use Rattle.sq_query.proofs.PlainViews.ThroughViews.{before_same}
+
+-- ---- the table under a view
+
+-- a query specification is over one table alone
+pub same_table : (q : BoundSpecification) (t u : TablePlace) → IsOver q t → IsOver q u → t ≡ u
+same_table q t u first second = let same : t ∷ [] ≡ u ∷ [] = sym first ∙ second in cc
+
+pub over_views : (q : BoundSpecification) (m n : ℕ) → IsOver q (View m) → IsOver q (View n) → m ≡ n
+over_views q m n first second = let same : View m ≡ View n = same_table q (View m) (View n) first second in cc
+
+pub over_bases : (q : BoundSpecification) (m n : ℕ) → IsOver q (Base m) → IsOver q (Base n) → m ≡ n
+over_bases q m n first second = let same : Base m ≡ Base n = same_table q (Base m) (Base n) first second in cc
+
+pub over_either : (q : BoundSpecification) (m n : ℕ) → IsOver q (Base m) → IsOver q (View n) → ⊥
+over_either q m n first second = let same : Base m ≡ View n = same_table q (Base m) (View n) first second in cc
+
+module _ (columns : TableKinds) (view : ℕ) (q : BoundSpecification) (t : TablePlace) (well : IsSelect (before_view view columns) [] [] q) (over : IsOver q t) where
+  under_before : HasValue (before_view view columns t)
+  under_before = only_read (λ u. HasValue (before_view view columns u)) q t over (reads_known (before_view view columns) [] [] q well)
+
+  pub under_known : HasValue (columns t)
+  under_known = subst HasValue (before_same columns view t under_before) under_before
+
+-- a view stands behind the one that its query is over
+pub under_earlier : (columns : TableKinds) (view under : ℕ) (q : BoundSpecification) → IsSelect (before_view view columns) [] [] q → IsOver q (View under) → under < view
+under_earlier columns view under q well over = stands_before columns view (View under) (under_before columns view q (View under) well over)
+
+-- ---- paths
+
+pub plain_view : (columns : TableKinds) (queries : List BoundSpecification) (view : ℕ) (t : TablePlace) (v : BoundView) → slice_get queries view ≡ Some v.query → IsViewAt columns view v → IsPlainOver v.query t → IsPlainView columns queries view t
+plain_view columns queries view t v among is plain = record { query = v.query; is_query = among; well = is.0; kinds_are = is.1; plain = plain }
+
+-- one view more
+pub path_more : (columns : TableKinds) (queries : List BoundSpecification) (view under : ℕ) (o : Option ℕ) → IsPlainView columns queries view (View under) → IfSome o (λ base. (views : List ℕ) × IsPath columns queries (under ∷ views) base)
+    → IfSome o (λ base. (views : List ℕ) × IsPath columns queries (view ∷ views) base)
+path_more columns queries view under None v path = tt
+path_more columns queries view under (Some base) v path = (under ∷ path.0, (v, path.1))
+
+module _ (columns : TableKinds) (queries : List BoundSpecification) (view base : ℕ) (q : BoundSpecification) (among : slice_get queries view ≡ Some q) where
+  over_same : (t : TablePlace) → (v : IsPlainView columns queries view t) → IsOver q t
+  over_same t v = subst (λ (s : BoundSpecification). IsOver s t) (same_some v.query q (slice_get queries view) v.is_query among) v.plain.over
+
+  -- a query that is over a view is over the next one of the path
+  pub next_view : (under : ℕ) → IsOver q (View under) → (views : List ℕ) → IsPath columns queries (view ∷ views) base → (others : List ℕ) × (views ≡ under ∷ others)
+  next_view under over [] path = absurd (over_either q base under (over_same (Base base) path.0) over)
+  next_view under over (v ∷ views) path = (views, ap (λ (n : ℕ). n ∷ views) (over_views q v under (over_same (View v) path.0) over))
+
+  -- a query that is over no view ends the path
+  pub no_view_next : ((under : ℕ) → IsOver q (View under) → ⊥) → (views : List ℕ) → IsPath columns queries (view ∷ views) base → views ≡ []
+  no_view_next none [] path = refl
+  no_view_next none (v ∷ views) path = absurd (none v (over_same (View v) path.0))
+
+-- ---- one column through views
+
+-- one view more
+pub column_more : (columns : TableKinds) (queries : List BoundSpecification) (view under between column : ℕ) (o : Option (ℕ × ℕ)) → IsPlainView columns queries view (View under) → ShowsAt queries view (between ∷ []) (column ∷ [])
+    → IfSome o (λ found. (views : List ℕ) × IsPath columns queries (under ∷ views) found.0 × AreShown queries (under ∷ views) (found.1 ∷ []) (between ∷ []))
+    → IfSome o (λ found. (views : List ℕ) × IsPath columns queries (view ∷ views) found.0 × AreShown queries (view ∷ views) (found.1 ∷ []) (column ∷ []))
+column_more columns queries view under between column None v at below = tt
+column_more columns queries view under between column (Some found) v at below = (under ∷ below.0, (v, below.1), (between ∷ [], below.2, at))
+
+-- the views of a path, as those between a table and the base table under it
+pub column_from : (columns : TableKinds) (queries : List BoundSpecification) (table : TablePlace) (view column : ℕ) (o : Option (ℕ × ℕ)) → table ≡ View view
+    → IfSome o (λ found. (views : List ℕ) × IsPath columns queries (view ∷ views) found.0 × AreShown queries (view ∷ views) (found.1 ∷ []) (column ∷ []))
+    → IfSome o (λ found. (views : List ℕ) × (table ≡ first_of views found.0) × IsPath columns queries views found.0 × AreShown queries views (found.1 ∷ []) (column ∷ []))
+column_from columns queries table view column None is below = tt
+column_from columns queries table view column (Some found) is below = (view ∷ below.0, is, below.1, below.2)
+
+-- ---- columns that are shown
+
+module _ (queries : List BoundSpecification) (view : ℕ) (q : BoundSpecification) (among : slice_get queries view ≡ Some q) (own : List ℕ) where
+  pub shows_at : (between columns : List ℕ) → AllZip (Shows (out-BoundSpecification q).list) between columns → ShowsAt queries view between columns
+  shows_at between columns zipped = subst (λ (o : Option BoundSpecification). IfSome o (λ s. AllZip (Shows (out-BoundSpecification s).list) between columns)) (sym among) zipped
+
+  pub shown_first : (r : Result (Option (List ℕ)) AllocError) → IfOk r (λ found. IfSome found (AllZip (Shows (out-BoundSpecification q).list) own)) → IfOk r (λ found. IfSome found (AreShown queries (view ∷ []) own))
+  shown_first (Err e) h = tt
+  shown_first (Ok None) h = tt
+  shown_first (Ok (Some columns)) h = (own, refl, shows_at own columns h)
+
+  pub shown_next : (views : List ℕ) (between : Option (List ℕ)) (r : Result (Option (List ℕ)) AllocError) → IfSome between (AreShown queries views own)
+      → IfOk r (λ found. IfSome found (λ shown. IsSomeAnd between (λ columns. AllZip (Shows (out-BoundSpecification q).list) columns shown))) → IfOk r (λ found. IfSome found (AreShown queries (view ∷ views) own))
+  shown_next views between (Err e) are h = tt
+  shown_next views between (Ok None) are h = tt
+  shown_next views None (Ok (Some columns)) are h = absurd h
+  shown_next views (Some below) (Ok (Some columns)) are h = (below, are, shows_at below columns h)
+
+-- columns that there are
+pub some_zipped : (R : ℕ → ℕ → Type 0) (o : Option (List ℕ)) (own : List ℕ) (r : Result (Option (List ℕ)) AllocError) → o ≡ Some own → IfOk r (λ found. IfSome found (AllZip R own))
+    → IfOk r (λ found. IfSome found (λ shown. IsSomeAnd o (λ columns. AllZip R columns shown)))
+some_zipped R o own (Err e) is h = tt
+some_zipped R o own (Ok None) is h = tt
+some_zipped R o own (Ok (Some shown)) is h = subst (λ (p : Option (List ℕ)). IsSomeAnd p (λ columns. AllZip R columns shown)) (sym is) h
+
+-- a key whose columns are shown
+pub key_shown : (queries : List BoundSpecification) (views : List ℕ) (base : ℕ) (own : BoundCond) (keys : List Keys) (parameters : List Value) (user : Name) (number : ℕ) (columns : List ℕ) (r : Result (Option KnownKey) Fault) → number < length (keys_at keys base)
+    → AreShown queries views (key_at keys base number) columns → IfOk r (λ found. IfSome found (λ known. (known.key ≡ number) × IsNamedBy columns own parameters user known.values))
+    → IfOk r (λ found. IfSome found (IsShownKey queries views base own keys parameters user))
+key_shown queries views base own keys parameters user number columns (Err e) within are h = tt
+key_shown queries views base own keys parameters user number columns (Ok None) within are h = tt
+key_shown queries views base own keys parameters user number columns (Ok (Some known)) within are h = record {
+  key = subst (λ (n : ℕ). n < length (keys_at keys base)) (sym h.0) within;
+  columns = columns;
+  shown = subst (λ (n : ℕ). AreShown queries views (key_at keys base n) columns) (sym h.0) are;
+  by_columns = h.1;
+}
+
+-- ---- rows that are shown
+
+module _ (own : List Row) (tables : TablePlace → Outcome (List Row)) (user : Name) (columns : TableKinds) (queries : List BoundSpecification) (base : ℕ) where
+  abbrev pub few_of : List ℕ → TablePlace → Outcome (List Row)
+  few_of views = with_rows (first_of views base) (shown_of own tables user queries base views) tables
+
+  abbrev pub IsShownOf : Result ViewRows Fault → Outcome (List Row) → Type 0
+  IsShownOf r o = IfOk r (λ found. view_outcome found.rows.items found.failure ≡ o)
+
+  -- what a view's query has over what the next view shows is what the view shows
+  pub rows_shown_of : (view : ℕ) (views : List ℕ) (r : Result ViewRows Fault) → IsPath columns queries (view ∷ views) base → AreRight own tables user queries base (view ∷ views)
+      → ((q : BoundSpecification) → slice_get queries view ≡ Some q → IsPlainOver q (first_of views base) → IsRight (rows_of_view (few_of views) user q) → IsShownOf r (rows_of_view (few_of views) user q))
+      → IsShownOf r (shown_of own tables user queries base (view ∷ views))
+  rows_shown_of view views r path right shows =
+      let v = path.0 in
+      let same = ap (λ (o : Option BoundSpecification). and_then (well_formed o) (rows_of_view (few_of views) user)) v.is_query in
+      subst (IsShownOf r) (sym same) (shows v.query v.is_query v.plain (subst (λ (o : Outcome (List Row)). IsRight o) same right.0))
+
+-- the same of rows that are told otherwise
+pub shown_alike : (tables : TablePlace → Outcome (List Row)) (user : Name) (columns : TableKinds) (queries : List BoundSpecification) (view : ℕ) (own found : List Row) (place base : ℕ) (P : Outcome (List Row) → Type 0) → place ≡ base → own ≡ found
+    → ((views : List ℕ) → IsPath columns queries (view ∷ views) place → AreRight own tables user queries place (view ∷ views) → P (shown_of own tables user queries place (view ∷ views)))
+    → (views : List ℕ) → IsPath columns queries (view ∷ views) base → AreRight found tables user queries base (view ∷ views) → P (shown_of found tables user queries base (view ∷ views))
+shown_alike tables user columns queries view own found place base P at are shows =
+    subst (λ (n : ℕ). (views : List ℕ) → IsPath columns queries (view ∷ views) n → AreRight found tables user queries n (view ∷ views) → P (shown_of found tables user queries n (view ∷ views))) at
+    (subst (λ (rows : List Row). (views : List ℕ) → IsPath columns queries (view ∷ views) place → AreRight rows tables user queries place (view ∷ views) → P (shown_of rows tables user queries place (view ∷ views))) are shows)

@@ -1,0 +1,3 @@
+-- The order of rows.
+pub mod Sorting
+pub mod StableSort
