@@ -309,6 +309,57 @@ def counted(rest, filled):
                calls("HOW (*)", [()] * JOINS), asked("COUNT(*)", rest, [()] * JOINS))
 
 
+def sought(columns, rest, filled, n):
+    """A query of one number, asked for each key."""
+    return Row(filled, f"PROCEDURE ONE (SQLCODE, :K INTEGER, :A INTEGER); SELECT {columns} INTO :A {rest.format(':K')};\n",
+               calls("ONE ({}, *)", keys(n)), asked(columns, rest, keys(n)))
+
+
+def one_of_two(n):
+    return sought("COUNT(*)", "FROM R WHERE K IN ({}, 0)", {"R": one_more(n)}, n)
+
+
+def one_or_another(n):
+    return sought("COUNT(*)", "FROM R WHERE K = {} OR K = 0", {"R": one_more(n)}, n)
+
+
+def by_a_sum(n):
+    return sought("A", "FROM R WHERE K = {} + 1", {"R": one_more(n)}, n)
+
+
+def joined_by_one_of_two(n):
+    return sought("COUNT(*)", "FROM P, R WHERE P.K IN ({}, 0) AND R.K = P.A", {"P": one_more(n), "R": one_more(n)}, n)
+
+
+def children(n):
+    return sought("COUNT(*)", "FROM C WHERE A = {}", {"P": one_more(n), "C": to_themselves(n)}, n)
+
+
+def parent_and_children(n):
+    return sought("COUNT(*)", "FROM P, C WHERE P.K = {} AND C.A = P.K", {"P": one_more(n), "C": to_themselves(n)}, n)
+
+
+def sought_in_having(n):
+    rest = "FROM P WHERE K = {0} HAVING COUNT(*) <= (SELECT COUNT(*) FROM R WHERE R.K = {0})"
+    return sought("COUNT(*)", rest, {"P": one_more(n), "R": one_more(n)}, n)
+
+
+def first_updated(n):
+    """Each time the cursor is opened, the first row is updated in a column that the cursor tests."""
+    procedures = (cursor("SELECT K, A FROM R WHERE A >= 0") + "PROCEDURE CLX (SQLCODE); CLOSE X;\n"
+                  "PROCEDURE UPX (SQLCODE); UPDATE R SET A = A + 1 WHERE CURRENT OF X;\n")
+
+    def work(db):
+        answers = []
+        for _ in range(n):
+            found = db.execute("SELECT K, A FROM R WHERE A >= 0 ORDER BY K").fetchone()
+            answers.extend(found)
+            db.execute("UPDATE R SET A = A + 1 WHERE K = ?", found[:1])
+        return answers + answers_to(db, [query.prepared() for query in sums_of("R")])
+    turns = "".join("CALL M.OPX;\nCALL M.FEX (*, *);\nCALL M.UPX;\nCALL M.CLX;\n" for _ in range(n))
+    return Row({"R": pairs(n)}, procedures, turns + calls("", [], "R"), Beside(work, None))
+
+
 def joined_by_key(n):
     rest = "FROM P, R WHERE P.K = {} AND R.K = P.A"
     return Row({"P": pairs(n), "R": pairs(n)},
@@ -380,6 +431,14 @@ ROWS = {
     f"scan with one test, {SCANS} calls": lambda n: scanned("S", n),
     f"the same of a view, {SCANS} calls": lambda n: scanned("W", n),
     "join of two tables by key": joined_by_key,
+    "SELECT INTO by IN with two keys": one_of_two,
+    "SELECT INTO by OR of two keys": one_or_another,
+    "SELECT INTO by a sum that is a key": by_a_sum,
+    "join of two tables by IN with two keys": joined_by_one_of_two,
+    "SELECT INTO of the children of a row": children,
+    "join of a row with its children": parent_and_children,
+    "SELECT INTO where HAVING has a subquery by key": sought_in_having,
+    "OPEN, FETCH, positioned UPDATE of a column that is tested, CLOSE": first_updated,
     "SELECT INTO by key where a subquery has a row by key": selected_where_there,
     "UPDATE by key where a subquery has a row by key": updated_where_there,
     "the same under OR, with a subquery in the subquery": selected_where_there_twice,
