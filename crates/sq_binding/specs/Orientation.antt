@@ -19,7 +19,8 @@ use Rattle.sq_binding.specs.Whole.{must_hold}
 -- a number that is written without a point, or a parameter of scale 0
 abbrev pub distance_bound : List Declared → Position → Outcome Distance
 distance_bound parameters (position.Number n) =
-    if has_point n.number then Err fault.BadOrientation else Ok (distance.Number (number_with_sign n).unscaled)
+    if has_point n.number then Err fault.BadOrientation
+    else Ok (distance.Number (number_with_sign n).unscaled)
 distance_bound parameters (position.Parameter name) = do
   at ← parameter_named parameters name
   _ ← must_hold (is_whole_domain at.1) fault.BadOrientation

@@ -241,7 +241,8 @@ single_row (row ∷ next ∷ others) = Err status.CardinalityViolation
 
 abbrev pub selected_row : Running → SelectStatement → Outcome Row
 selected_row r s = do
-  found ← rows (reading_in (setting r)) (select_of_statement r.in_module.authorization s) (outer_env (setting r))
+  found ← rows (reading_in (setting r)) (select_of_statement r.in_module.authorization s)
+      (outer_env (setting r))
   single_row found
 
 abbrev pub select_reply : Running → SelectStatement → Outcome Row → Reply

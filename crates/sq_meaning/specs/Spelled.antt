@@ -94,7 +94,8 @@ number_with_sign n = signed_by n.sign (spelled_number n.number)
 
 -- the whole number that a precision, a scale or a length is, if it is written without a point
 abbrev pub spelled_whole : List ℕ → Option ℕ
-spelled_whole spelling = if has_point spelling then None else Some (unsigned_abs (spelled_number spelling).unscaled)
+spelled_whole spelling =
+    if has_point spelling then None else Some (unsigned_abs (spelled_number spelling).unscaled)
 
 -- a precision is from 1 to 18 and 18 if it is omitted, a scale at most that and 0 if it is omitted (own rule)
 abbrev pub exact_domain : Option ℕ → Option ℕ → Option Domain

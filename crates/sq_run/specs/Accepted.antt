@@ -15,7 +15,8 @@ use Rattle.sq_run.specs.Answer.{Task, answered, task_of}
 use Rattle.sq_perform.specs.Texts.{AllSpell, Spells, SpellsTree}
 
 -- the trees of accepted texts
-pub record Accepted (row_numbers : ℕ) (schemas modules : List Bytes) (script : Bytes) (task : Task) : Type 0 where
+pub record Accepted (row_numbers : ℕ) (schemas modules : List Bytes) (script : Bytes) (task : Task)
+    : Type 0 where
   pub schema_trees : List SchemaText
   pub schemas_spell : AllSpell schema_tokens schema_depth schemas schema_trees
   pub schemas_accepted : first_schema_refusal schema_trees ≡ None
@@ -36,6 +37,9 @@ AcceptedSpellTrees row_numbers schemas modules script =
 -- no text spells two trees
 unfoldable pub TextsHaveOneTree : Type 0
 TextsHaveOneTree =
-    ((text : Bytes) (a b : SchemaText) → Spells text (schema_tokens a) → Spells text (schema_tokens b) → a ≡ b)
-    × ((text : Bytes) (a b : ModuleText) → Spells text (module_tokens a) → Spells text (module_tokens b) → a ≡ b)
-    × ((text : Bytes) (a b : ScriptText) → Spells text (script_tokens a) → Spells text (script_tokens b) → a ≡ b)
+    ((text : Bytes) (a b : SchemaText) → Spells text (schema_tokens a) → Spells text (schema_tokens b)
+    → a ≡ b)
+    × ((text : Bytes) (a b : ModuleText) → Spells text (module_tokens a) → Spells text (module_tokens b)
+    → a ≡ b)
+    × ((text : Bytes) (a b : ScriptText) → Spells text (script_tokens a) → Spells text (script_tokens b)
+    → a ≡ b)

@@ -123,7 +123,8 @@ accepted_modules modules = do
 abbrev pub accepted_script : Elements → List ModuleText → Bytes → Result ScriptText Refusal
 accepted_script elements modules script = do
   text ← read_text script_rule 0 script
-  accepted_unless (option_map (refused_script text) (first_script_refusal elements modules text.tree)) text.tree
+  accepted_unless (option_map (refused_script text) (first_script_refusal elements modules text.tree))
+      text.tree
 
 -- ---- all texts
 

@@ -11,7 +11,8 @@ IsRefusal answer old new refusal = (answer ≡ Err refusal) × (new ≡ old)
 
 -- A run that ends has written its whole report. A refused one has written nothing. Where the output failed it had taken the first
 -- bytes of the report, which has more. Where memory ran out, the report of the first items was written, of which there are more.
-unfoldable pub Answers : Result Task RunFault → Option (List ℕ) → Option (List ℕ) → Result (Unit {0}) RunFault → Type 0
+unfoldable pub Answers : Result Task RunFault → Option (List ℕ) → Option (List ℕ) → Result (Unit {0}) RunFault
+    → Type 0
 Answers answer old new (Ok done) = (task : Task) × (answer ≡ Ok task) × Appends old new (whole_report task)
 Answers answer old new (Err (SchemaRefused refusal)) = IsRefusal answer old new (SchemaRefused refusal)
 Answers answer old new (Err (ModuleRefused refusal)) = IsRefusal answer old new (ModuleRefused refusal)

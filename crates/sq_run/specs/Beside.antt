@@ -13,7 +13,8 @@ use Rattle.sq_perform.specs.Run.{IsOpened}
 use Rattle.sq_run.specs.Processor.{Machine, after_call}
 
 -- what a session may answer to a call of the procedure with this number, and the session after it
-pub record Called (s : Session) (number : ℕ) (values : List Value) (reply : Reply) (t : Session) : Type 0 where
+pub record Called (s : Session) (number : ℕ) (values : List Value) (reply : Reply) (t : Session)
+    : Type 0 where
   pub fits : fits_at s.procedures number values ≡ true
   pub may : MayCall s.schemas (kind_at s.procedures number) values s.state
       (record { status = reply.status; outputs = reply.outputs }) t.state

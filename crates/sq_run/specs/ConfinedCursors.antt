@@ -50,7 +50,8 @@ LooksAlike one other _ _ = ⊥
 pub record AlikeTo (p : Program) (m : ModuleText) (s t : State) : Type 0 where
   pub tables : LookAlike p.elements m.authorization s.tables t.tables
   pub cursors : (name : Name) → LooksAlike (shown_under (target_named p.elements m name) s.tables)
-      (shown_under (target_named p.elements m name) t.tables) (cursor_at s m.name name) (cursor_at t m.name name)
+      (shown_under (target_named p.elements m name) t.tables)
+      (cursor_at s m.name name) (cursor_at t m.name name)
 
 abbrev pub is_of_cursor : Statement → Bool
 is_of_cursor (statement.Open name) = true

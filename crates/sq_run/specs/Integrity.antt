@@ -41,10 +41,13 @@ pub record IsRowWith (places : List ℕ) (before : Table) (new : Numbered) : Typ
 
 -- A base table is changed through the table or view of this name by a user who holds the privilege on that name: INSERT
 -- where rows are added, DELETE where some go, and where some get other values, UPDATE on each column that does.
-pub data IsAllowed (elements : Elements) (user : Name) (name : TableName) (before after : Table) : Type 0 where
-  inserts : holds elements user name Privilege.insert ≡ true → (rows : List Row) → after ≡ with_rows before rows
+pub data IsAllowed (elements : Elements) (user : Name) (name : TableName) (before after : Table)
+    : Type 0 where
+  inserts : holds elements user name Privilege.insert ≡ true → (rows : List Row)
+      → after ≡ with_rows before rows
       → IsAllowed elements user name before after
-  deletes : holds elements user name Privilege.delete ≡ true → (numbers : List ℕ) → after ≡ without before numbers
+  deletes : holds elements user name Privilege.delete ≡ true → (numbers : List ℕ)
+      → after ≡ without before numbers
       → IsAllowed elements user name before after
   updates : (columns : List Name)
       → AllByRecursion (λ c. holds elements user name (Privilege.update c) ≡ true) columns → (places : List ℕ)
@@ -69,7 +72,8 @@ is_rollback _ = false
 
 -- a call of a procedure whose statement is ROLLBACK
 abbrev pub rolls_back : Program → Call → Bool
-rolls_back p c = is_some_and (λ q. is_rollback q.statement) (procedure_called p.modules c.in_module c.procedure)
+rolls_back p c =
+    is_some_and (λ q. is_rollback q.statement) (procedure_called p.modules c.in_module c.procedure)
 
 pub data Changes (p : Program) (s : State) (c : Call) : Type 0 where
   nothing : (stepped p s c).tables ≡ s.tables → Changes p s c

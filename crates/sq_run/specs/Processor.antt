@@ -78,7 +78,8 @@ number_of p in_module name = position (is_called in_module name) (all_procedures
 
 -- whether there are as many values as parameters, each of which can store its own (12.4)
 abbrev pub takes : Program → ℕ → List Value → Bool
-takes p number values = option_map_or (λ e. fit (declared_parameters e.1) values) (procedure_at p number) false
+takes p number values =
+    option_map_or (λ e. fit (declared_parameters e.1) values) (procedure_at p number) false
 
 -- ---- a call
 
@@ -95,7 +96,8 @@ after_call m number values =
     record m { state = option_map_or (stepped m.program m.state) (call_at m.program number values) m.state }
 
 -- A call of the procedure with this number answers as the machine does, and is the machine's step.
-pub record IsStep (m : Machine) (number : ℕ) (values : List Value) (reply : Reply) (after : Machine) : Type 0 where
+pub record IsStep (m : Machine) (number : ℕ) (values : List Value) (reply : Reply) (after : Machine)
+    : Type 0 where
   pub call : Call
   pub is : call_at m.program number values ≡ Some call
   pub replies : told reply ≡ replied m.program m.state call
@@ -140,11 +142,14 @@ number_at m in_module cursor = number_on (cursor_at m.state in_module.name curso
 -- A call of this procedure of a module, in whose statement the rules find no fault: UPDATE, DELETE and SELECT INTO that
 -- name their row by a key read one at most, and OPEN of a quiet cursor reads none. A FETCH that takes an updatable cursor
 -- from the row of one number, or from no row, to that of another reads one at least, and no more than the numbers differ.
-pub record ReadsFew (m : Machine) (values : List Value) (e : ModuleText × Procedure) (count : ℕ) (after : Machine) : Type 0 where
-  pub changes : is_keyed_statement m.program.elements e.0.authorization (inputs values e.1) e.1.statement ≡ true → count ≤ 1
+pub record ReadsFew (m : Machine) (values : List Value) (e : ModuleText × Procedure) (count : ℕ)
+    (after : Machine) : Type 0 where
+  pub changes : is_keyed_statement m.program.elements e.0.authorization (inputs values e.1) e.1.statement ≡ true
+      → count ≤ 1
   pub selects : (q : Select) → e.1.statement ≡ statement.Select q
       → is_keyed_select m.program.elements e.0.authorization (inputs values e.1) q ≡ true → count ≤ 1
-  pub opens : (name : Name) (c : Cursor) → e.1.statement ≡ statement.Open name → cursor_named e.0 name ≡ Some c
+  pub opens : (name : Name) (c : Cursor) → e.1.statement ≡ statement.Open name
+      → cursor_named e.0 name ≡ Some c
       → is_quiet_cursor (surroundings_of m.program.elements e.0 e.1) c ≡ true → count ≡ 0
   pub fetches : (f : Fetch) (c : Cursor) (number : ℕ) → e.1.statement ≡ statement.Fetch f
       → cursor_named e.0 f.cursor ≡ Some c → number_at after e.0 f.cursor ≡ Some number

@@ -43,7 +43,8 @@ sum_of_numbers (n ∷ ns) = number_or_fault (in_range n.scale (total (n ∷ ns))
 -- the mean has it too, and is truncated toward zero (own rule)
 abbrev pub mean_of_numbers : List Number → Result Value ArithmeticFault
 mean_of_numbers [] = Ok Null
-mean_of_numbers (n ∷ ns) = number_or_fault (in_range n.scale (int_div (total (n ∷ ns)) (pos (length (n ∷ ns)))))
+mean_of_numbers (n ∷ ns) =
+    number_or_fault (in_range n.scale (int_div (total (n ∷ ns)) (pos (length (n ∷ ns)))))
 
 abbrev pub summed : List Value → Result Value ArithmeticFault
 summed vs = sum_of_numbers (numbers vs)

@@ -32,7 +32,8 @@ text_part (Num n) = []
 text_part (Chars t) = t
 
 abbrev by_parts : Value → Value → Ordering
-by_parts = then_cmp (on kind_rank nat_cmp) (then_cmp (on number_part numbers_compared) (on text_part texts_compared))
+by_parts =
+    then_cmp (on kind_rank nat_cmp) (then_cmp (on number_part numbers_compared) (on text_part texts_compared))
 
 parts_total : IsTotalOrder by_parts
 parts_total = then_total (on_total kind_rank nat_cmp_total)
