@@ -3,7 +3,7 @@
 ghost use Rattle.std.specs.Prelude.{◌≡◌, ◌+◌, ◌<◌, ◌≤◌, ◌^◌, length};
 ghost use Rattle.sq_lex.specs.Position as spec;
 
-/// Where a byte stands in a text.
+/// The place of a byte in a text.
 #[derive(Clone, Copy, Debug)]
 pub struct Position {
     /// From 0.
