@@ -1,5 +1,5 @@
-//! How trees are spelled: the list of a tree's tokens, how many they are, how deep round brackets nest, and where the
-//! parts of a text begin.
+//! The spelling of trees: the list of a tree's tokens, their number, the depth of round brackets, and the places
+//! where the parts of a text begin.
 #![tactic(auto)]
 
 mod cond;
