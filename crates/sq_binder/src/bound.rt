@@ -10,7 +10,6 @@ use sq_items::Items;
 use sq_value::Kind;
 use std::alloc::Global;
 
-/// What binding a value expression answers.
 pub type ExprResult = Result<Bound, Stop>;
 
 /// A bound value expression, the kind of its values, and what it brings along.
