@@ -74,6 +74,7 @@ pub(crate) fn has_null(row: &[Value], columns: &[usize]) -> bool
     false
 }
 
+/// Whether the value is null.
 pub fn is_null(value: &Value) -> bool
     ensures { result ≡ is_null value.now }
 {

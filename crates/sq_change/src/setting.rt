@@ -30,6 +30,7 @@ pub struct Setting<'a, N: Names, S: Store> {
 }
 
 impl<'a, N: Names, S: Store> Setting<'a, N, S> {
+    /// The setting of these parts.
     pub fn new(
         alloc: Global,
         names: &'a N,
