@@ -21,7 +21,7 @@ pub(crate) struct Members {
     kinds: Kinds,
 }
 
-/// Which kinds of values there are.
+/// The kinds of values that occur.
 #[derive(Clone, Copy)]
 struct Kinds {
     nulls: bool,
