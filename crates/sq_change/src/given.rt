@@ -247,7 +247,7 @@ fn given_at<'a>(columns: &[ObjectColumn], given: &'a [Value], place: usize) -> O
     Some(&given[listed])
 }
 
-/// Where the column at a place is listed.
+/// The position in the list of the column at a place.
 fn listed_at(columns: &[ObjectColumn], place: usize) -> Option<usize>
     ensures { result ≡ position (λ column. nat_eq column.position place) columns.now }
 {

@@ -29,7 +29,7 @@ pub fn row_put(change: &Change) -> Option<&Row>
     }
 }
 
-/// The row of a table that a change takes out or puts another in place of, if it is there.
+/// The row of a table that a change takes out or replaces, if it exists.
 pub(crate) fn row_changed<'a, S: Store>(
     store: &'a S,
     table: usize,

@@ -1,4 +1,4 @@
-//! What a statement reads.
+//! The inputs of a statement.
 
 ghost use Rattle.std.specs.Prelude.{◌≡◌, List, IfErr};
 ghost use Rattle.std.specs.Option.{option_copied};

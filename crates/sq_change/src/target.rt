@@ -36,8 +36,7 @@ pub fn leaf_under(target: &ChangeTarget) -> &Leaf
     }
 }
 
-/// The numbers of the rows: of those that the search condition keeps, of which there has to be one, or of the row that a
-/// cursor is on.
+/// The numbers of the rows that the search condition keeps, at least one, or of the row that a cursor is on.
 pub(crate) fn numbers_changed<N: Names, S: Store>(
     setting: &Setting<'_, N, S>,
     target: &ChangeTarget,
