@@ -1,5 +1,5 @@
-//! The output of a report: an output that takes bytes or fails, one over any writer of std, and the loop that
-//! writes a whole text to it.
+//! The output of a report: a trait for what takes bytes or fails, an output over any writer of std, and the
+//! loop that writes a whole text.
 #![tactic(auto)]
 
 mod out;
