@@ -24,7 +24,7 @@ abbrev pub followed : List Token → Result (List Token) LexFault → Result (Li
 followed tokens (Ok more) = Ok (tokens ++ more)
 followed tokens (Err fault) = Err fault
 
--- the piece at the front of the bytes at a position, and then the tokens of what is left behind it
+-- the piece at the front of the bytes at a position, and then the tokens of the bytes after it
 abbrev pub with_piece : Position → List ℕ → Piece → (ℕ → Result (List Token) LexFault)
     → Result (List Token) LexFault
 with_piece position bytes (piece.Separator size) rest = rest size
@@ -32,7 +32,7 @@ with_piece position bytes (piece.Token size lexeme) rest =
     followed (token_at position lexeme ∷ []) (rest size)
 with_piece position bytes (piece.Fault at kind) rest = Err (fault_at (past position (take at bytes)) kind)
 
--- the tokens of the bytes at a position, where the first `left` bytes still belong to the piece before
+-- the tokens of the bytes at a position, if the first `left` bytes still belong to the piece before
 abbrev pub tokens_from : Position → ℕ → List ℕ → Result (List Token) LexFault
 tokens_from position left [] = Ok []
 tokens_from position (suc left) (b ∷ bytes) = tokens_from (next position b) left bytes

@@ -4,7 +4,7 @@ ghost use Rattle.std.specs.Prelude.{◌≡◌, ◌<◌, ◌≤◌, true, length,
 ghost use Rattle.std.specs.List.{prefix_len};
 ghost use Rattle.sq_lex.specs.Characters as spec;
 
-/// A kind of character of which runs are read.
+/// A kind of character whose runs are read.
 #[derive(Clone, Copy, Debug)]
 pub enum Class {
     /// Letters, digits and `_`.
