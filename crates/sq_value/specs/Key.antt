@@ -1,4 +1,4 @@
--- Keys: values by which rows are found. Two keys are equal where they have one length and are the same in each place.
+-- Keys: values by which rows are found. Two keys are equal if they have one length and are the same in each place.
 use Rattle.std.specs.Prelude.{ℕ, List, ◌++◌, ◌<◌, map, slice_index_or, All, length}
 use Rattle.std.specs.Hash as fed
 use Rattle.std.specs.Hash.{HashWrites}

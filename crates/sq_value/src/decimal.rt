@@ -110,7 +110,7 @@ impl Decimal {
         }
     }
 
-    /// The order by value, whatever the scales. At the same scale it is that of the unscaled values.
+    /// The order by value, whatever the scales. At the same scale it is the order of the unscaled values.
     #[tactic(auto, using(crate::specs::laws::NumberOrder::compared_alike))]
     pub fn cmp(self, other: Decimal) -> Ordering
         ensures { result ≡ numbers_compared self other }

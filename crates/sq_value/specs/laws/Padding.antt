@@ -6,7 +6,7 @@ use Rattle.std.specs.Ordering.{nat_cmp, ordering_then}
 use Rattle.std.specs.Cmp.Lexicographic.{slice_cmp}
 use Rattle.sq_value.specs.Comparison.{texts_compared, padded}
 
--- the comparison from the front, where a list that has ended goes on with blanks
+-- the comparison from the front, as if a list that has ended went on with blanks
 abbrev pub from_front : List ℕ → List ℕ → Ordering
 from_front [] [] = Equal
 from_front [] (y ∷ ys) = ordering_then (nat_cmp 32 y) (from_front [] ys)
