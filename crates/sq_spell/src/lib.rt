@@ -1,5 +1,5 @@
-//! The spelling of trees: the list of a tree's tokens, their number, the depth of round brackets, and the places
-//! where the parts of a text begin.
+//! The spelling of trees: a tree's tokens, their number, the depth of round brackets, and the first tokens of
+//! the parts of a text.
 #![tactic(auto)]
 
 mod cond;
