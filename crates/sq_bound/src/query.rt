@@ -44,8 +44,8 @@ pub struct SortColumn {
     pub descending: bool,
 }
 
-/// The rows of a base table that a statement or cursor may change: the rows that meet the conditions of the views in
-/// between, and then its own.
+/// The rows of a base table that a statement or cursor may change: they meet the conditions of the views in between, and
+/// then its own.
 #[derive(Drop)]
 pub struct Target {
     /// The table or view that is named.
@@ -55,10 +55,10 @@ pub struct Target {
     pub leaf: Shared<Leaf>,
     /// The condition on a row of the base table.
     pub condition: Option<BoundCond>,
-    /// The key of the base table whose columns the condition's first tests compare, each with a literal or a parameter: one
-    /// with the fewest columns, if there are more. The condition is one term, and no view is in between.
+    /// The key of the base table whose columns the condition's first tests compare, each with a literal or a parameter. It
+    /// has the fewest columns, if there are several. The condition is one term, and no view is in between.
     pub key: Option<usize>,
-    /// Whether the truth of no condition, those of the views included, is ever a fault.
+    /// Whether the truth of no condition, the views' included, is ever a fault.
     pub is_quiet: bool,
     ghost is_under: { base ≡ leaf.table.place },
     ghost keyed: { option_all (is_named_by leaf condition) key ≡ true },
