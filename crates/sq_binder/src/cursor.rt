@@ -75,8 +75,8 @@ fn cursor_of<T: ChangeableTables>(cursor: &Cursor, at: &Surroundings<'_, T>) -> 
     }
 }
 
-/// The query specification of a cursor's query, if the cursor may be updatable: there is no UNION, and neither ORDER BY nor
-/// SCROLL nor INSENSITIVE is written.
+/// The query specification of a cursor's query, if the cursor may be updatable. Then there is no UNION, and neither ORDER
+/// BY nor SCROLL nor INSENSITIVE is written.
 fn plain_specification(cursor: &Cursor) -> Option<&QuerySpecification>
     ensures { (own : AnyName) → option_map (λ q. select_of own q.now) result
         ≡ spec.plain_specification cursor.now (query_of own cursor.now.query) }

@@ -22,7 +22,7 @@ pub struct Counts {
 /// The additions of a part to its query.
 #[derive(Drop)]
 pub struct Brought {
-    /// The set functions that it adds to those of its query, in the order of the text.
+    /// The set functions that it adds to its query, in the order of the text.
     pub calls: Items<SetFunctionCall>,
     /// Whether computing one of those may answer a status.
     pub calls_can_fail: bool,

@@ -69,7 +69,7 @@ fn with_target(
     }
 }
 
-/// A parameter whose kind agrees with that of its column.
+/// A parameter whose kind agrees with the kind of its column.
 fn target_of(target: &Parameter, kind: Kind, parameters: &[ParameterDesc]) -> Result<Output, Stop>
     ensures { Binds output_seen
         (target_bound (map declared_of parameters.now) (target.now, kind)) result }

@@ -27,7 +27,7 @@ pub type QueryResult = Result<Found<BoundQuery>, Stop>;
 type TermResult = Result<Found<BoundTerm>, Stop>;
 
 /// A query expression (ISO/IEC 9075:1992, 7.10): its tree with its columns, and its additions to
-/// the query around it, or its first fault.
+/// the query around it. Or its first fault.
 #[cycle(queries)]
 pub fn bind_query<T: Tables>(query: &Query, at: &Surroundings<'_, T>, before: Counts) -> QueryResult
     ensures finds { Finds query_seen (spec.query_bound (surroundings T.named at.now)

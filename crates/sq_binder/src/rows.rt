@@ -23,8 +23,9 @@ use std::alloc::Global;
 
 pub type RowsResult = Result<Found<ChangeTarget>, Stop>;
 
-/// The rows that an UPDATE or DELETE changes (ISO/IEC 9075:1992, 13.6, 13.7, 13.9 and 13.10): the
-/// row that a cursor is on, the rows that meet a condition, or all rows of the table.
+/// The rows that an UPDATE or DELETE changes (ISO/IEC 9075:1992, 13.6, 13.7, 13.9 and 13.10).
+/// They are the row that a cursor is on, the rows that meet a condition, or all rows of the
+/// table.
 ///
 /// It answers the first fault of the condition, or else `UnknownCursor` if the name means no
 /// cursor. It answers `NotUpdatable` if the cursor is not updatable or is over another table.

@@ -179,7 +179,7 @@ fn further_out(found: FoundColumn) -> Result<FoundColumn, Stop>
     }
 }
 
-/// Whether the column is among those of its own query.
+/// Whether the column is among the places in its own query.
 fn is_among(places: &[Place], item: usize, column: usize) -> bool
     ensures { result ≡ list_any (λ place. spec.is_here item column (place_meant place)) places.now }
 {

@@ -39,8 +39,8 @@ pub trait Tables {
         ensures { option_map named_table_of result ≡ named self.now (record { user = user; name = name }) };
 }
 
-/// A base table or a view: the place of its rows, its columns, and whether the user whose text names it holds SELECT on it,
-/// and with the grant option.
+/// A base table or a view: the place of its rows, and its columns. It says whether the user whose text names it holds
+/// SELECT on it, and with the grant option.
 #[derive(Clone, Copy)]
 pub struct NamedTable<'a> {
     pub place: TablePlace,

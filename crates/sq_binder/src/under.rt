@@ -5,8 +5,8 @@ ghost use Rattle.std.specs.List.{list_all};
 
 use sq_bound::{Column, Leaf, Shared};
 
-/// A table that may be changed: the rows of a base table under it, and its columns, each with the column of the base table
-/// that it is.
+/// A table that may be changed: the rows of a base table under it, and its columns. Each column comes with the column of
+/// the base table that it is.
 #[derive(Clone, Copy)]
 pub struct UnderTable<'a> {
     pub leaf: &'a Shared<Leaf>,

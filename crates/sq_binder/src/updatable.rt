@@ -53,7 +53,7 @@ pub fn bind_updatable<T: ChangeableTables>(
     }
 }
 
-/// The only table of a query whose rows are those of tables, if the table may be changed.
+/// The only table of a query whose rows are rows of tables, if the table may be changed.
 fn only_table<'a, T: ChangeableTables>(
     query: &QuerySpecification,
     bound: &BoundSpecification,

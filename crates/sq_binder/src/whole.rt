@@ -1,4 +1,4 @@
-//! Parts that are bound by themselves, in no query: their subqueries are numbered from 0, and a missing privilege is a fault if
+//! Parts that are bound by themselves, in no query. Their subqueries are numbered from 0, and a missing privilege is a fault if
 //! there is no other.
 
 ghost use Rattle.std.specs.Prelude.{◌≡◌, Err, Ok, if◌then◌else◌};
