@@ -1,4 +1,4 @@
-//! Whole numbers, of which most expressions are made. Arithmetic on them takes fewer steps than on values.
+//! Whole numbers, the values of most expressions. Arithmetic on them takes fewer steps than on values.
 
 ghost use Rattle.std.specs.Prelude.{◌≡◌, IfSome, Ok};
 ghost use Rattle.sq_expression.specs.Arithmetic.{operation};
