@@ -98,8 +98,8 @@ pub(crate) fn complete<N: Names, S: Store>(
     satisfied
 }
 
-/// Tests the rows that are put in a table against check options and constraints on one row, and gives what references have
-/// to be asked afterwards.
+/// Tests the rows that are put in a table against check options and constraints on one row. It answers what references
+/// have to be asked afterwards.
 fn rows_admitted<N: Names, S: Store>(
     setting: &Setting<'_, N, S>,
     leaf: &Leaf,

@@ -116,7 +116,7 @@ fn given_values<N: Names, S: Store>(
     Ok(row)
 }
 
-/// The rows of a query, of which there has to be one.
+/// The rows of a query, at least one.
 fn rows_found<N: Names, S: Store>(
     setting: &Setting<'_, N, S>,
     query: &BoundSpecification,

@@ -118,7 +118,7 @@ fn push_referenced<N: Names, S: Store>(
 }
 
 /// Whether references hold after changes of a table: the references of the rows that were put in it, and the references to
-/// the values of keys that rows of it may have lost.
+/// the key values that its rows may have lost.
 pub(crate) fn references_satisfied<N: Names, S: Store>(
     names: &N,
     store: &S,
