@@ -1,4 +1,4 @@
--- What schema elements make: the descriptors of their tables and views (ISO/IEC 9075:1992, 11.3, 11.4 and 11.19).
+-- The descriptors of tables and views that schema elements make (ISO/IEC 9075:1992, 11.3, 11.4 and 11.19).
 use Rattle.std.specs.List.{zip}
 use Rattle.std.specs.Prelude.{ℕ, Bool, true, false, List, [], ◌∷◌, map, count_by, Option, unwrap_or, Some, None}
 use Rattle.std.specs.Result.{result_ok}

@@ -93,7 +93,7 @@ completed_with s t content = do
   _ ← constraints_checked s.elements t content
   Ok content
 
--- the database with a table changed, where check options and constraints allow it
+-- the database with a table changed, if check options and constraints allow it
 abbrev pub completed : Setting → Target → BaseTable → List Row → Table → Outcome Content
 completed s target t rows changed = do
   _ ← check_options_met s target rows
@@ -174,7 +174,7 @@ abbrev pub which_target : Setting → TableName → Which → Outcome Target
 which_target s name (Which.searched clause) = searched_target (tables_in s) name clause
 which_target s name (Which.numbered n) = searched_target (tables_in s) name absent
 
--- the numbers of the rows that are changed; where the search condition keeps none, there is no data
+-- the numbers of the rows that are changed; if the search condition keeps none, there is no data
 abbrev pub numbers_changed : Setting → Target → Which → Outcome (List ℕ)
 numbers_changed s target (Which.searched clause) =
     chosen_numbers (reading_in s) (outer_env s) target (rows_at s target.place) >>= if_some

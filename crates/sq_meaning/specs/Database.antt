@@ -1,5 +1,5 @@
--- What a database and the parameters of a call are where they are as declared (ISO/IEC 9075:1992, 4.10, 11.19 and 12.3), for
--- trees by name.
+-- The conditions that a database and the parameters of a call meet if they are as declared (ISO/IEC 9075:1992, 4.10, 11.19
+-- and 12.3), for trees by name.
 use Rattle.std.specs.Prelude.{◌≡◌, ⊤, List, [], ◌∷◌, find, Option, Some, None, Ok}
 use Rattle.std.specs.List.{AllZip}
 use Rattle.std.specs.Option.{option_map}

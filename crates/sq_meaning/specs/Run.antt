@@ -1,4 +1,4 @@
--- A run: the machine over the items of a script (own form: a script stands for the calls of a host program).
+-- A run: the machine over the items of a script (own form: a script represents the calls of a host program).
 use Rattle.std.specs.Prelude.{ℕ, List, fold}
 use Rattle.sq_tree.specs.declared.module.ModuleText.{ModuleText}
 use Rattle.sq_tree.specs.declared.schema.SchemaText.{SchemaText}

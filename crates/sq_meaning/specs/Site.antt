@@ -1,5 +1,5 @@
--- The places of a statement at which a syntax or access rule asks something: what each rule is asked of. One walk
--- through a tree finds them all; the rules themselves stand in Binding.
+-- The sites: the places of a statement at which a syntax or access rule asks something. One walk through a tree finds
+-- them all; the rules themselves are in Binding.
 use Rattle.std.specs.List.{sum, zip}
 use Rattle.std.specs.Prelude.{ℕ, Bool, true, false, List, [], ◌∷◌, ◌++◌, map, length, if◌then◌else◌, filter, flat_map, Option, unwrap_or, option_map, Some, None, Ok}
 use Rattle.std.specs.Result.{result_ok}
@@ -22,13 +22,12 @@ use Rattle.sq_meaning.specs.Syntax.{absent}
 use Rattle.sq_meaning.specs.Tables.{Declared, Tables, descriptor_of, kinds_by_name}
 use Rattle.sq_meaning.specs.Privilege.{Privilege}
 
--- a FROM clause around; where a select list or HAVING of a grouped query specification is read, with its grouping
--- columns
+-- a FROM clause around; in a select list or HAVING of a grouped query specification, with its grouping columns
 pub record EnclosingQuery : Type 0 where
   pub from : List TableReference
   pub grouping : Option (List ColumnReference)
 
--- what stands around an expression: the FROM clauses, the nearest first; whether a set function may stand here; and
+-- the surroundings of an expression: the FROM clauses, the nearest first; whether a set function may occur here; and
 -- whether this is the operand of one
 pub record Around : Type 0 where
   pub queries : List EnclosingQuery

@@ -219,7 +219,7 @@ C = Cond Named
 abbrev S : Type 0
 S = Select Named
 
--- a table expression waits for what stands before it
+-- a table expression waits for the parts before it
 abbrev T : Type 0
 T = Bool → SelectList Named → S
 

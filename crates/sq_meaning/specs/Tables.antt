@@ -33,7 +33,7 @@ pub record TableDescriptor : Type 0 where
   pub columns : List ColumnDescriptor
   pub body : TableBody
 
--- all tables, the last one created first: the query of a view names only tables behind it
+-- all tables, the last one created first: the query of a view names only tables after it
 abbrev pub Tables : Type 0
 Tables = List TableDescriptor
 
@@ -58,7 +58,7 @@ pub record Declared : Type 0 where
 
 -- ---- trees by name
 
--- the kind of the column at a place, where these tables are in the FROM clauses around
+-- the kind of the column at a place, if these tables are in the FROM clauses around
 abbrev pub kind_at : Tables → List (List TableReference) → Place → Outcome Kind
 kind_at tables scopes p = do
   from ← well_formed (slice_get scopes p.depth)

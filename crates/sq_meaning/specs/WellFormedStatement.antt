@@ -93,7 +93,7 @@ cursor_query u c = query_of (own u) c.query
 abbrev pub cursor_names : Surroundings → Cursor → Outcome (List (Option Name))
 cursor_names u c = query_names (tables_of u.elements) (cursor_query u c)
 
--- where the names of the result columns are not known, the query has a fault, and ORDER BY has none beside it
+-- if the names of the result columns are not known, the query has a fault, and ORDER BY has none beside it
 abbrev pub sort_sites : Outcome (List (Option Name)) → List SortSpecification → List Site
 sort_sites (Ok names) order = map (λ s. Site.sort_by names s.key) order
 sort_sites (Err s) order = []
