@@ -1,5 +1,5 @@
--- Numbers of subqueries: a subquery with a number reads no column of a query around it, so that it is evaluated once at most,
--- and no two subqueries of a bound tree have one number.
+-- Numbers of subqueries. A subquery with a number reads no column of a query around it, so that it is evaluated once at most.
+-- No two subqueries of a bound tree have one number.
 use Rattle.std.specs.Prelude.{⊤, ◌≡◌, ◌≤◌, ◌<◌, ℕ, List, Option, Some, IfSome}
 use Rattle.std.specs.List.{AllByRecursion}
 use Rattle.sq_bound.specs.Columns.{IsClosed}
