@@ -63,7 +63,7 @@ view_under c check_option over =
 
 -- ---- what its owner holds
 
--- a privilege on the view and, where the owner holds it with the grant option, that too
+-- a privilege on the view and, if the owner holds it with the grant option, that too
 abbrev pub owner_grants : Name → TableName → (is_held can_grant : Bool) → Privilege → List Grant
 owner_grants owner t false can_grant p = []
 owner_grants owner t true false p =
@@ -72,7 +72,8 @@ owner_grants owner t true true p =
     record { user = Some owner; table = t; privilege = p; to_grant = false }
     ∷ record { user = Some owner; table = t; privilege = p; to_grant = true } ∷ []
 
--- the owner holds a privilege on the view as the one on the table underneath
+-- the owner gets the first privilege on the view if it holds the second one on the table underneath, and
+-- with the grant option if it holds the second one with it
 abbrev pub followed : Catalog → Name → (view under : TableName) → Privilege × Privilege → List Grant
 followed c owner view under p =
     owner_grants owner view (may c false owner under p.1) (may c true owner under p.1) p.0
@@ -102,7 +103,7 @@ grants_over c owner view names q None = []
 grants_over c owner view names q (Some over) =
     flat_map (followed c owner view over.table) (privileges_followed names (names_underneath c over.table) q)
 
--- SELECT and, where it is updatable, what follows from the table underneath
+-- SELECT and, if it is updatable, the privileges that follow from the table underneath
 abbrev pub view_grants : Catalog → Name → TableName → List Name → NumberedView → List Grant
 view_grants c owner t names v =
     owner_grants owner t true v.may_grant_select Privilege.select
@@ -130,7 +131,7 @@ new_view c user v bound names = record {
   grants = view_grants c user (table_of user v.name) names bound;
 }
 
--- the view that a definition makes behind those of a catalog
+-- the view that a definition makes after those of a catalog
 abbrev pub declared_view : Catalog → Name → ViewDefinition → Outcome NewView
 declared_view c user v = do
   refused_if fault.NameTwice (is_taken c user (table_of user v.name))

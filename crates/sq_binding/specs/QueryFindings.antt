@@ -1,5 +1,5 @@
--- What is found in a part of a query besides its tree: in its value expressions, and of the tables that it names, those of its
--- subqueries among them (ISO/IEC 9075:1992, 4.26, 6.3, 6.4 and 7.11).
+-- The findings in a part of a query besides its tree: in its value expressions, and on the tables that it names, in its
+-- subqueries too (ISO/IEC 9075:1992, 4.26, 6.3, 6.4 and 7.11).
 use Rattle.std.specs.Prelude.{ℕ, ◌-◌, Bool, true, false, ◌||◌, nat_lt, if◌then◌else◌}
 use Rattle.sq_binding.specs.Findings.{Findings, none}
 use Rattle.sq_binding.specs.Findings as findings

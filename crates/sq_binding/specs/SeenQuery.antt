@@ -1,5 +1,6 @@
--- Bound query expressions, cursors, views and statements, as the definitions see them (ISO/IEC 9075:1992, 7.10, 11.19 and clause 13):
--- UNION groups to the left, brackets are gone, an object column is its position, and what is under a table is what its name means.
+-- Bound query expressions, cursors, views and statements, as the definitions see them (ISO/IEC 9075:1992, 7.10, 11.19 and clause 13).
+-- UNION groups to the left, brackets are gone, an object column is its position, and the leaf under a table is the one that its name
+-- means.
 use Rattle.std.specs.Prelude.{◌≡◌, ⊤, ℕ, List, [], fold, map, Option, Some, None}
 use Rattle.std.specs.Option.{option_map}
 use Rattle.sq_lex.specs.declared.name.Name.{Name}

@@ -20,7 +20,7 @@ use Rattle.sq_binding.specs.Key.{has_bad_key, has_nullable, key_positions, prima
 use Rattle.sq_binding.specs.ElementOutcome.{Outcome, ◌>>=◌, ◌>>◌, each, refused_if}
 use Rattle.sq_binding.specs.Reference.{FoundReference, ReferencedTable, bound_reference, found_reference, has_bad_list}
 
--- ---- where a table or view may stand
+-- ---- the place of a table or view
 
 -- a table or view of the user's own schema has the name
 abbrev pub is_taken : Catalog → Name → TableName → Bool
@@ -30,7 +30,7 @@ is_taken c user t = same_user user t && is_some (entry c t)
 abbrev pub most_tables : ℕ
 most_tables = 1000
 
--- a table or view stands in the schema of its user, and there is room for it
+-- a table or view is in the schema of its user, and there is room for it
 abbrev pub has_place : Catalog → Name → TableName → Outcome (Unit {0})
 has_place c user t =
     refused_if fault.OtherSchema (not (same_user user t))
@@ -108,7 +108,7 @@ drafted_table c user t d = do
     checks = checks;
   })
 
--- the base table that a definition makes behind those of a catalog
+-- the base table that a definition makes after those of a catalog
 abbrev pub declared_table : Catalog → Name → TableDefinition → Outcome DeclaredBase
 declared_table c user t = draft c user t >>= drafted_table c user t
 

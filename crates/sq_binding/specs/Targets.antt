@@ -26,7 +26,7 @@ target_bound parameters t = do
 abbrev pub set_by : PlacedParameter → List ℕ
 set_by t = t.position ∷ option_to_list t.indicator
 
--- each in turn, where those before it set these parameters: no parameter is set twice
+-- each in turn, if the targets before it set these parameters: no parameter is set twice
 abbrev pub targets_in_turn : List Declared → (before : List ℕ) → List (Parameter × Kind)
     → Outcome (List PlacedParameter)
 targets_in_turn parameters before [] = Ok []
