@@ -1,5 +1,5 @@
--- What names of tables mean to the texts of a user, where tables may be changed: what is under each of them, and who may change it
--- (ISO/IEC 9075:1992, 7.9 and 10.3).
+-- The meanings of names of tables in the texts of a user, if tables may be changed: the leaf under each of them, and the users who
+-- may change it (ISO/IEC 9075:1992, 7.9 and 10.3).
 use Rattle.std.specs.Prelude.{◌≡◌, Bool, List, map, Option, Some, IfSome}
 use Rattle.std.specs.Option.{option_map}
 use Rattle.sq_lex.specs.declared.name.Name.{Name}
@@ -46,7 +46,7 @@ names_at named changes at = user_names at.environment.now.user (named at.tables.
 abbrev pub IsUnder : Changes → TableName → Leaf → Type 0
 IsUnder changes t leaf = option_map (λ b. b.leaf) (changes.beneath t) ≡ Some leaf
 
--- each table that may be changed is over a base table that is there
+-- each table that may be changed is over an existing base table
 abbrev pub AreOverBases : List BaseTable → Changes → Type 0
 AreOverBases bases changes = (t : TableName) → IfSome (changes.beneath t) (λ b. IsBase bases b.leaf.table)
 
