@@ -25,7 +25,7 @@ with_row keys row = with_key keys (first_value row)
 abbrev pub keys_among : List Row → List (List Value)
 keys_among rows = fold with_row [] rows
 
--- ---- which kinds of values there are
+-- ---- the kinds of values that occur
 
 abbrev pub no_kinds : Kinds
 no_kinds = record { nulls = false; numbers = false; texts = false }
@@ -52,7 +52,7 @@ has_unknown k (Chars t) = k.nulls || k.numbers
 abbrev pub is_among : List (List Value) → Value → Bool
 is_among keys v = if is_null v then false else list_any (same_row (alone v)) keys
 
--- true where one is equal, else unknown where a comparison is
+-- true if one is equal, else unknown if a comparison is
 abbrev pub truth_among : (is_among has_unknown : Bool) → Truth
 truth_among true u = True
 truth_among false true = Unknown

@@ -1,4 +1,4 @@
--- What is kept of the subqueries of a statement that read no column of a query around them: each is evaluated at most once.
+-- The memo of a statement's subqueries that read no column of a query around them: each is evaluated at most once.
 use Rattle.std.specs.Prelude.{◌≡◌, ℕ, nat_eq, List, IfSome, Ok, Err}
 use Rattle.std.specs.Borrow.{Bor}
 use Rattle.std.specs.List.{AllByRecursion}
@@ -39,7 +39,7 @@ existing rows = rows >>= λ rs. Ok (known (has_rows rs))
 abbrev pub HasMembers : KeptRows → Type 0
 HasMembers found = IfSome found.members (λ members. AreOf members found.rows.items)
 
--- what a subquery ended with, as it is kept, where that is right
+-- the kept outcome of a subquery, if its outcome is right
 abbrev pub IsKept : Kept → MeantRows → Type 0
 IsKept (kept.Rows found) meant = (IsRight meant → meant ≡ Ok found.rows.items) × HasMembers found
 IsKept (kept.Status failure) meant = IsRight meant → meant ≡ Err (status_of failure)
