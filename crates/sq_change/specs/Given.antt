@@ -39,7 +39,7 @@ IsStoredFor columns position v =
 abbrev pub FitColumns : List ObjectColumn → List Value → Type 0
 FitColumns = AllZip (λ c v. FitsKind c.domain v)
 
--- the value of an expression on a line is null or of the domain's kind, and where it ends with a status, that is not 42000
+-- the value of an expression on a line is null or of the domain's kind; if it ends with a status, that is not 42000
 abbrev pub IsStorable : Domain → BoundExpr → Line → List Value → Name → Type 0
 IsStorable domain e line parameters user =
     (r : Result Value Fault) → HasValueOn r e line parameters user → IfOk r (FitsKind domain) × IfErr r MayEnd
@@ -55,8 +55,8 @@ AreAssignable assignments row parameters user =
 
 -- ---- statements
 
--- the source of an insert statement is well formed where the parameters, which have these values, are of some kinds; its query
--- may read these tables
+-- the source of an insert statement is well formed if the parameters, which have these values, are of some kinds; its query may
+-- read these tables
 pub record MayGive (bases : List BaseTable) (queries : List BoundSpecification) (columns : TableKinds)
     (content : Content) (user : Name)
     (values : List Value) (objects : List ObjectColumn) (source : InsertedRows) : Type 0 where
@@ -65,8 +65,8 @@ pub record MayGive (bases : List BaseTable) (queries : List BoundSpecification) 
   pub reads : MayRead bases queries columns content user values parameters tables
   pub given : IsSource columns parameters objects source
 
--- a statement may find the rows that it changes: its conditions are well formed where the parameters, which have these values, are
--- of some kinds, and may read these tables
+-- A statement may find the rows that it changes. Its conditions are well formed if the parameters, which have these values, are of
+-- some kinds; they may read these tables.
 pub record MayChoose (bases : List BaseTable) (queries : List BoundSpecification) (columns : TableKinds)
     (content : Content) (user : Name)
     (values : List Value) (t : ChangeTarget) : Type 0 where
@@ -75,7 +75,7 @@ pub record MayChoose (bases : List BaseTable) (queries : List BoundSpecification
   pub reads : MayRead bases queries columns content user values parameters tables
   pub target : IsChangeTarget columns parameters t
 
--- the set clauses of an update statement are for columns of the base table, and well formed where the parameters are of some kinds
+-- the set clauses of an update statement are for columns of the base table, and well formed if the parameters are of some kinds
 pub record MayAssign (columns : TableKinds) (values : List Value) (table : BaseTable)
     (assignments : List BoundAssignment) : Type 0 where
   pub parameters : List Kind

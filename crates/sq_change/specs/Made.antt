@@ -1,5 +1,5 @@
--- What INSERT, UPDATE and DELETE make of what they read (ISO/IEC 9075:1992, 13.6 to 13.10): the numbers of the rows that they change,
--- and the new rows, or the status that comes first. Check options and constraints come after all of it.
+-- The first results of INSERT, UPDATE and DELETE (ISO/IEC 9075:1992, 13.6 to 13.10): the numbers of the rows that they change, and
+-- the new rows, or the status that comes first. Check options and constraints come after all of it.
 use Rattle.std.specs.List.{enumerate_from, position, zip}
 use Rattle.std.specs.Prelude.{ℕ, ◌+◌, Bool, List, [], ◌∷◌, length, nat_eq, nat_le, slice_get, Option, None, Some, option_and_then, Ok, Err}
 use Rattle.sq_lex.specs.declared.name.Name.{Name}
