@@ -1,4 +1,4 @@
--- What is to be said of the views of schemas, each at its first token (ISO/IEC 9075:1992, 11.19).
+-- The remarks on the views of schemas, each at its first token (ISO/IEC 9075:1992, 11.19).
 use Rattle.std.specs.Prelude.{ℕ, suc, ◌+◌, List, [], ◌∷◌, ◌++◌, Some}
 use Rattle.sq_lex.specs.declared.name.Name.{Name}
 use Rattle.sq_tree.specs.Starts.{before_element, schema_start, schemas}
@@ -16,7 +16,7 @@ abbrev pub all_at : {A B : Type 0} → (ℕ → A → List B) → ℕ → List A
 all_at f place [] = []
 all_at f place (x ∷ xs) = f place x ++ all_at f (suc place) xs
 
--- a view of a user's schema at this token, where names mean these tables
+-- a view of a user's schema at this token, if names mean these tables
 abbrev pub marks_at : KnownTables → Name → ℕ → SchemaElement → List Mark
 marks_at names user token (element.View v) =
     record {
