@@ -1,4 +1,4 @@
--- The reading of a text: its bytes as a row of separators and tokens, each as long as it can be, or the first fault from the left.
+-- The reading of a text: its bytes as a row of separators and tokens, each as long as possible. Or the first fault from the left.
 use Rattle.std.specs.Prelude.{◌≡◌, ℕ, zero, suc, ◌-◌, List, [], ◌∷◌, ◌++◌, take, Result, Ok, Err}
 use Rattle.sq_lex.specs.declared.fault.LexError.{LexError}
 use Rattle.sq_lex.specs.declared.fault.LexError.TheVariants.{NoMemory, Fault}
@@ -19,7 +19,7 @@ token_at position lexeme = record { lexeme = lexeme; start = position.byte }
 abbrev pub fault_at : Position → LexFaultKind → LexFault
 fault_at position kind = record { kind = kind; line = position.line; column = position.column }
 
--- tokens, and then those of what follows
+-- tokens, and then the tokens of the rest
 abbrev pub followed : List Token → Result (List Token) LexFault → Result (List Token) LexFault
 followed tokens (Ok more) = Ok (tokens ++ more)
 followed tokens (Err fault) = Err fault

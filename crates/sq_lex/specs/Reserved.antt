@@ -1,4 +1,4 @@
--- The spellings of the reserved words (ISO/IEC 9075:1992, 5.2 <reserved word>, of which these are in the language).
+-- The reserved words of ISO/IEC 9075:1992, 5.2, that the language has, and their spellings.
 use Rattle.std.specs.Prelude.{ℕ, nat_eq, slice_index, List, [], ◌∷◌, Option, Some, None, codes, if◌then◌else◌}
 use Rattle.std.specs.Cmp.Lexicographic.{pointwise}
 use Rattle.sq_lex.specs.declared.word.Word.{Word}

@@ -1,4 +1,4 @@
-//! Lexemes: what tokens say.
+//! Lexemes: tokens without their positions.
 
 use crate::name::Name;
 use crate::number::Number;
