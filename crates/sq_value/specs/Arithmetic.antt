@@ -1,5 +1,5 @@
--- Arithmetic on exact numbers (ISO/IEC 9075:1992, 6.12). The number of digits of a result, and the scale and the
--- truncation of a quotient, are own rules: the standard leaves them to the implementation.
+-- Arithmetic on exact numbers (ISO/IEC 9075:1992, 6.12). The standard leaves to the implementation the number of
+-- digits of a result, and the scale and truncation of a quotient. They are own rules.
 use Rattle.std.specs.Prelude.{ℕ, ℤ, pos, ◌+◌, ◌-◌, ◌^◌, ◌*ℤ◌, ◌+ℤ◌, ◌-ℤ◌, neg_ℤ, max, nat_lt, unsigned_abs, int_div, Result, Ok, Err, if◌then◌else◌}
 use Rattle.std.specs.declared.cmp.Ordering.{Ordering}
 use Rattle.std.specs.Ordering.{int_cmp, int_eq}

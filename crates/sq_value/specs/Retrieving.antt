@@ -34,7 +34,7 @@ retrieved d Null = Ok (record { value = Null; uncut = None })
 retrieved d (Num n) = number_or_range (fitted d n)
 retrieved d (Chars t) = Ok (record { value = Chars (text_retrieved d t); uncut = uncut_length d t })
 
--- what `retrieve` answers: this, unless memory was refused
+-- the answer of `retrieve`: this, unless memory was refused
 abbrev pub IsRetrieved : Result Retrieved RetrieveFault → Result Retrieved RetrieveFault → Type 0
 IsRetrieved (Ok v) answer = answer ≡ Ok v
 IsRetrieved (Err Range) answer = answer ≡ Err Range

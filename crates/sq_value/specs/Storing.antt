@@ -47,7 +47,7 @@ stored d Null = Ok Null
 stored d (Num n) = number_or_range (fitted d n)
 stored d (Chars t) = text_or_too_long (kept_text d t)
 
--- what `store` answers: this, unless memory was refused
+-- the answer of `store`: this, unless memory was refused
 abbrev pub IsStored : Result Value StoreFault → Result Value StoreFault → Type 0
 IsStored (Ok v) answer = answer ≡ Ok v
 IsStored (Err Range) answer = answer ≡ Err Range

@@ -42,7 +42,7 @@ padded_is (suc n) (x ∷ xs) (y ∷ ys) p q =
 pub front_is : (xs ys : List ℕ) → texts_compared xs ys ≡ from_front xs ys
 front_is xs ys = padded_is (max (length xs) (length ys)) xs ys (omega arith) (omega arith)
 
--- what is left of a list from a place on, and what the code reads there
+-- the rest of a list from a place on, and the code read there
 at_place : (xs : List ℕ) (i : ℕ)
     → (drop i xs ≡ get_or xs i 32 ∷ drop (suc i) xs) ⊎ ((drop i xs ≡ []) × (get_or xs i 32 ≡ 32)
     × (drop (suc i) xs ≡ []))

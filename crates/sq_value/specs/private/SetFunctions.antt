@@ -7,7 +7,7 @@ use Rattle.sq_value.specs.declared.set_functions.Extreme.{Extreme}
 use Rattle.sq_value.specs.declared.value.Value.{Value}
 use Rattle.sq_value.specs.declared.value.Value.TheVariants.{Null, Num, Chars}
 
--- what a value adds to the sum of the unscaled values
+-- the summand of a value in the sum of the unscaled values
 abbrev pub unscaled_of : Value → ℤ
 unscaled_of Null = pos 0
 unscaled_of (Num n) = n.unscaled
