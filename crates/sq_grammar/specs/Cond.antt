@@ -157,7 +157,7 @@ module _ (left : ℕ) (inner : Parser (CondOrExpr Cond)) where
   by_comparison None = eat_word word.Is >>= by_is
   by_comparison (Some op) = found (comparison_tail op)
 
-  -- what follows the first expression of a predicate, if it comes
+  -- the part of a predicate after its first expression, if it comes
   unfoldable pub tail : Parser (Option Tail)
   tail = one_if_any comparison_of >>= by_comparison
 

@@ -1,4 +1,4 @@
--- Reading tokens from left to right. Each production of the grammar is a parser: it answers the tree that it read and the tokens
+-- Reading tokens from left to right. Each production of the grammar is a parser. It answers the tree that it read and the tokens
 -- after it, or the place where it is stuck.
 use Rattle.std.specs.Prelude.{ℕ, zero, suc, ◌+◌, Bool, true, false, List, [], ◌∷◌, ◌++◌, length, Option, Some, None, Result, Ok, Err, nat_lt, nat_eq, if◌then◌else◌}
 use Rattle.sq_lex.specs.declared.lexeme.Lexeme.{Lexeme}
