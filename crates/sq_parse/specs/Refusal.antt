@@ -41,7 +41,7 @@ IsRefusal ts (Unexpected index) = (index < length ts) × (is_too_deep ts index �
 IsRefusal ts (TooDeep index) = IsTrue (is_too_deep ts index)
 IsRefusal ts EndOfText = Unit {0}
 
--- The fact about the trees of the grammar that a refusal says: none has these tokens, or each tree that has them
+-- The fact about the trees of the grammar that a refusal says. None has these tokens, or each tree that has them
 -- nests brackets too deep.
 abbrev pub HasNoTree : {T : Type 0} → (T → Tokens) → (T → ℕ) → Tokens → ParseError → Type 0
 HasNoTree tokens_of depth_of ts NoMemory = Unit {0}
