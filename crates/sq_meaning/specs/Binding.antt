@@ -236,7 +236,7 @@ abbrev pub target_twice : Site → Bool
 target_twice (Site.targets ps) = has_name_twice (flat_map parameter_names ps)
 target_twice _ = false
 
--- ---- what is changed (13.6 to 13.10)
+-- ---- the tables and cursors that are changed (13.6 to 13.10)
 
 abbrev pub cursor_known : Known → Name → Option KnownCursor
 cursor_known k name = find (λ c. same_name c.name name) k.cursors
@@ -320,7 +320,7 @@ breaks j fault.UnknownCursor = unknown_cursor j.known
 breaks j fault.BadOrientation = bad_orientation j.known
 breaks j fault.PrivilegeMissing = privilege_missing j.holds
 
--- every fault but that of a missing privilege
+-- every fault but a missing privilege
 abbrev pub syntax_faults : List BindingFault
 syntax_faults =
     fault.UnknownTable ∷ fault.UnknownColumn ∷ fault.AmbiguousName ∷ fault.KindMismatch

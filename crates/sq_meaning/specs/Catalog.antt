@@ -44,7 +44,7 @@ table_descriptor place owner t = record {
   body = base_table place;
 }
 
--- a view's columns have the names of its column list, or else those of its query
+-- a view's columns have the names of its column list, or else the names of its query
 abbrev pub names_written : Option (CommaList Name) → List (Option Name) → List (Option Name)
 names_written None otherwise = otherwise
 names_written (Some columns) otherwise = map Some (listed columns)

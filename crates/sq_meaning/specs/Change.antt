@@ -38,8 +38,8 @@ use Rattle.sq_meaning.specs.Catalog.{column_domain, tables_of}
 use Rattle.sq_meaning.specs.Constraints.{all_satisfied, constraints_checked, demanded}
 use Rattle.sq_meaning.specs.Schema.{BaseTable, Elements, base_tables, column_definitions, place_among}
 
--- what a statement reads: the schema elements, the greatest row number, the database, the parameters, and the module's
--- user
+-- the inputs of a statement: the schema elements, the greatest row number, the database, the parameters, and the
+-- module's user
 pub record Setting : Type 0 where
   pub elements : Elements
   pub row_numbers : ℕ
@@ -128,7 +128,7 @@ given_rows s t places (source.Query q) = do
   some ← if_some found
   each (stored_row t places) some
 
--- what a column without a value gets (11.5); USER is the caller
+-- the value of a column that is given none (11.5); USER is the caller
 abbrev pub value_of_default : Name → Option DefaultValue → Value
 value_of_default user None = value.Null
 value_of_default user (Some (default.Number n)) = value.Num (number_with_sign n)

@@ -5,8 +5,8 @@ use Rattle.sq_value.specs.declared.value.Value.{Value}
 use Rattle.sq_meaning.specs.Query.{rows}
 
 -- A cursor is in one of three states. It is closed. Or it is over the rows of its table under numbers that OPEN fixed:
--- the numbers still to come, and the one that it is on, if it is on one. Or it is over rows that OPEN fixed, at a
--- place: 0 before the first of them, n on the nth, and one more than their count after the last.
+-- the numbers still to come, and the number that it is on, if any. Or it is over rows that OPEN fixed, at a place. The
+-- place is 0 before the first of them, n on the nth, and one more than their count after the last.
 pub data CursorState : Type 0 where
   closed : CursorState
   over_numbers : List ℕ → Option ℕ → CursorState
@@ -75,7 +75,7 @@ fetched now move (CursorState.over_numbers numbers on) = to_next now numbers
 fetched now move (CursorState.over_rows rows place) =
     at_place rows (bounded (length rows) (wanted move (length rows) place))
 
--- ---- what a cursor is on
+-- ---- the row that a cursor is on
 
 abbrev pub is_open : CursorState → Bool
 is_open CursorState.closed = false

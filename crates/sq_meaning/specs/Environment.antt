@@ -31,7 +31,7 @@ pub record TableReference : Type 0 where
   pub table : TableName
   pub correlation : Option Name
 
--- an item of FROM: what names it, and the names of its columns
+-- an item of FROM: its name, and the names of its columns
 pub record Item : Type 0 where
   pub reference : TableReference
   pub columns : List Name
@@ -94,7 +94,7 @@ abbrev pub input_value : Parameter → List Input → Outcome Value
 input_value p inputs =
     input_named inputs p.name >>= with_indicator (λ i. input_named inputs i.name) p.indicator
 
--- ---- what a column reference means
+-- ---- the meaning of a column reference
 
 -- how many scopes further out, which item there, and which column of it, each from 0
 pub record Place : Type 0 where

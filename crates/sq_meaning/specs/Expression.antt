@@ -24,8 +24,8 @@ use Rattle.sq_meaning.specs.Syntax.{Naming, Expr, literal, parameter, user, colu
 use Rattle.sq_meaning.specs.Environment.{Row, Input, Scope, Env, Place, within, alone, items_in, value_at}
 use Rattle.sq_meaning.specs.Rows.{firsts}
 
--- The readings of the parts of a tree that refer to something: the place of a column if these items are in scope, a
--- parameter's value, the head of an item of FROM, and its rows.
+-- The readings of the parts of a tree that refer to something. They give the place of a column if these items are in
+-- scope, a parameter's value, the head of an item of FROM, and its rows.
 pub record Reading (N : Naming) : Type 0 where
   pub place : N.Column → List (List N.Item) → Outcome Place
   pub input : N.Parameter → List Input → Outcome Value
@@ -105,7 +105,7 @@ function_value Max values = Ok (extreme Greatest values)
 abbrev pub distinct_values : Bool → List Value → List Value
 distinct_values distinct values = if distinct then firsts is_same values else values
 
--- what a function gives of the nearest scope, within the scopes around it
+-- the result of a function on the nearest scope, within the scopes around it
 abbrev pub of_nearest : {H A : Type 0} → Env H → (Scope H → Env H → Outcome A) → Outcome A
 of_nearest env f =
     elim env.scopes [ [] ↦ not_well_formed | scope ∷ outer ↦ f scope (record env { scopes = outer }) ]

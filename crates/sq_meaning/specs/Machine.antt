@@ -41,7 +41,7 @@ use Rattle.sq_meaning.specs.Parameter.{Parameters, Reply, inputs_of, parameter_n
 use Rattle.sq_meaning.specs.Schema.{Elements}
 use Rattle.sq_meaning.specs.WellFormedStatement.{Surroundings, cursor_names, cursor_query, is_well_formed_procedure, orientation_of, select_of_statement, surroundings_of, updatable_cursor}
 
--- what runs: schema elements and modules, and the greatest number that a row may have
+-- a program: schema elements and modules, and the greatest number that a row may have
 pub record Program : Type 0 where
   pub elements : Elements
   pub modules : List ModuleText
@@ -102,7 +102,7 @@ first_state p = record {
   cursors = flat_map entries_of p.modules;
 }
 
--- ---- what surrounds a statement
+-- ---- the surroundings of a statement
 
 pub record Running : Type 0 where
   pub program : Program

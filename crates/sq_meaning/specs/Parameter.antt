@@ -50,7 +50,7 @@ pub record Assignment : Type 0 where
   pub name : Name
   pub value : Value
 
--- what a target and its indicator are set to, and whether a text was cut
+-- the assignments to a target and its indicator, and whether a text was cut
 pub record Retrieval : Type 0 where
   pub assignments : List Assignment
   pub cut : Bool
@@ -106,7 +106,7 @@ row_retrieved parameters (target ∷ targets) (v ∷ vs) =
     and_then (target_set (domain_of_parameter parameters target.name) target v)
     (λ r. and_then (row_retrieved parameters targets vs) (λ rs. Ok (r ∷ rs)))
 
--- ---- what a call answers
+-- ---- the answer of a call
 
 -- a status, and the targets and their indicators with what they were set to
 pub record Reply : Type 0 where

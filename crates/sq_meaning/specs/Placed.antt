@@ -1,5 +1,5 @@
 -- Trees whose columns, parameters and tables are placed. The place of a column is the number of scopes further
--- out, the item there and the column of it; the place of a parameter is its position. Names that are looked up
+-- out, the item there and the column of it. The place of a parameter is its position. Names that are looked up
 -- once become such trees.
 use Rattle.std.specs.Prelude.{ℕ, List, Option, slice_get, Ok}
 use Rattle.std.specs.Option.{option_map}

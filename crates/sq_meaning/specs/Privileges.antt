@@ -1,6 +1,6 @@
 -- The holders of privileges (ISO/IEC 9075:1992, 4.26, 11.19 and 11.36). A user holds a privilege if there is a chain of
 -- schema elements, each after the one before. The first is a CREATE that gives it to the owner. GRANTs follow, each by
--- a user to whom the one before gave it with the grant option, the last of them to the user or to PUBLIC. The
+-- a user to whom the one before gave it with the grant option. The last of them is to the user or to PUBLIC. The
 -- privileges that a view gives its owner are decided at the place of the view (own rule).
 use Rattle.std.specs.List.{list_all, list_any}
 use Rattle.std.specs.Prelude.{Bool, true, false, not, ◌&&◌, ◌||◌, List, [], ◌∷◌, slice_get, filter_map, Option, option_map, option_and_then, Some, None, Ok}
@@ -48,7 +48,7 @@ abbrev pub table_gives : Name → TableDefinition → Holding
 table_gives owner t grantable user name p =
     same_name owner user && same_table (table_of owner t.name) name && is_on_column (table_columns t) p
 
--- ---- GRANT: what the grantor holds with the grant option (11.36)
+-- ---- GRANT: the privileges that the grantor holds with the grant option (11.36)
 
 abbrev pub is_in_list : Option (CommaList Name) → Name → Bool
 is_in_list None c = true
@@ -78,9 +78,9 @@ grant_gives held grantor g grantable user name p =
     && list_any (is_grantee user) (listed g.grantees)
     && implies grantable g.grant_option && held true grantor name p
 
--- ---- CREATE VIEW: what follows from the tables underneath (11.19)
+-- ---- CREATE VIEW: the privileges that follow from the tables underneath (11.19)
 
--- the tables that a query names, those of its subqueries too
+-- the tables that a query names, in its subqueries too
 abbrev pub table_in : Site → Option TableName
 table_in (Site.table_read r) = Some r.table
 table_in _ = None

@@ -100,7 +100,7 @@ like_truth m text pattern (Some escape) env =
     >>= λ p. value m escape env
     >>= λ e. with_status like_status (liked t p (Some e))
 
--- ---- the set functions of a condition, in the order of the text; those of a subquery are its own
+-- ---- the set functions of a condition, in the order of the text; a subquery's are its own
 
 abbrev pub escape_functions : {N : Naming} → Option (Expr N) → List (Expr N)
 escape_functions None = []
@@ -179,7 +179,7 @@ group_scopes m functions by heads lines env = do
   _ ← each (λ group. each (λ f. value m f (within (group_scope heads group) env)) functions) groups
   Ok (map (group_scope heads) groups)
 
--- what the select list is computed for: each line or, in a grouped query specification, each group
+-- the scopes of the select list: each line or, in a grouped query specification, each group
 abbrev pub scopes_of : {N : Naming} → Reading N → SelectList N → List N.Column → Clause N → List N.Item
     → List Line → Env N.Item → Outcome (List (Scope N.Item))
 scopes_of m list by having heads lines env =

@@ -36,7 +36,7 @@ argument_values arguments.Unwritten = []
 argument_values arguments.Empty = []
 argument_values (arguments.Listed list) = map argument_value (listed list)
 
--- ---- what fits a procedure
+-- ---- values that fit a procedure
 
 -- null, or what the domain can store
 abbrev pub fits_in : Domain → Value → Bool

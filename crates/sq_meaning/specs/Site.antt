@@ -27,8 +27,8 @@ pub record EnclosingQuery : Type 0 where
   pub from : List TableReference
   pub grouping : Option (List ColumnReference)
 
--- the surroundings of an expression: the FROM clauses, the nearest first; whether a set function may occur here; and
--- whether this is the operand of one
+-- the surroundings of an expression: the FROM clauses, the nearest first; whether a set function may occur here; whether
+-- this is the operand of one
 pub record Around : Type 0 where
   pub queries : List EnclosingQuery
   pub functions_allowed : Bool
@@ -54,7 +54,7 @@ pub data Site : Type 0 where
   -- the columns of a select list or of an insert column list
   column_count : ℕ → Site
   star_of_groups : Site
-  -- what a CHECK may not have
+  -- a read of USER and a subquery, which a CHECK may not have
   user_read : Site
   subquery_read : Site
   -- the table that a statement changes, and a column of it
@@ -72,13 +72,13 @@ pub data Site : Type 0 where
   orientation_used : (scrolls : Bool) → Option Orientation → Site
   privilege_used : TableName → Privilege → Site
 
--- what is known of a cursor: whether its query has no fault, and the table that its FROM clause names, if it is updatable
+-- a known cursor: whether its query has no fault, and the table that its FROM clause names, if it is updatable
 pub record KnownCursor : Type 0 where
   pub name : Name
   pub sound : Bool
   pub table : Option TableName
 
--- what is looked up: the tables, the parameters and the cursors
+-- the names that are looked up: the tables, the parameters and the cursors
 pub record Known : Type 0 where
   pub tables : Tables
   pub parameters : List Declared

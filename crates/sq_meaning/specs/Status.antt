@@ -47,7 +47,7 @@ sqlcode NoRowNumberLeft = neg_ℤ (pos 9001)
 
 -- ---- a value or a status
 
--- what has a value, or ends with a status before it has one
+-- a value, or a status with which something ends before it has one
 abbrev pub Outcome : Type 0 → Type 0
 Outcome A = Result A Status
 

@@ -9,8 +9,8 @@ use Rattle.sq_tree.specs.declared.expr.SetFunction.{SetFunction}
 use Rattle.sq_tree.specs.declared.cond.Comparison.{Comparison}
 use Rattle.sq_tree.specs.declared.cond.Quantifier.{Quantifier}
 
--- the ways in which a tree refers to a column, to a parameter with its indicator and to a table, and the head of
--- an item of FROM while its rows are read
+-- The ways in which a tree refers to a column, to a parameter with its indicator and to a table. And the head of
+-- an item of FROM, known while its rows are read.
 pub record Naming : Type 1 where
   pub Column : Type 0
   pub Parameter : Type 0

@@ -1,5 +1,5 @@
--- Tables by their names: base tables and views (ISO/IEC 9075:1992, 4.9 and 11.19), what their columns are, and their
--- rows. A view's rows are those of its query, with the caller's user.
+-- Tables by their names: base tables and views (ISO/IEC 9075:1992, 4.9 and 11.19), their columns, and their rows. A
+-- view has the rows of its query, with the caller's user.
 use Rattle.std.specs.Prelude.{ℕ, Bool, true, false, List, [], ◌∷◌, find, map, slice_get, Ok}
 use Rattle.std.specs.Option.{option_map}
 use Rattle.sq_lex.specs.declared.name.Name.{Name}
@@ -75,7 +75,7 @@ kinds_by_name tables parameters = record {
   columns = λ r. descriptor_of tables r.table >>= λ d. Ok (column_kinds d);
 }
 
--- names are looked up at every use, and rows are those of names
+-- names are looked up at every use, and so are the rows of a name
 abbrev pub reading_by_name : Tables → (TableName → Outcome (List Row)) → Reading Named
 reading_by_name tables rows_of = record {
   place = place_of;
@@ -89,7 +89,7 @@ reading_by_name tables rows_of = record {
 abbrev pub rows_in : Table → List Row
 rows_in t = map (λ r. r.row) t.rows
 
--- a base table's by rising numbers, or those of the view's query, outside every scope and without parameters
+-- the rows of a base table by rising numbers, or of the view's query, outside every scope and without parameters
 abbrev pub table_rows : Tables → Content → Name → TableName → Outcome (List Row)
 table_rows [] content caller name = not_well_formed
 table_rows (d ∷ earlier) content caller name =

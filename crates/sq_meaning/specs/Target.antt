@@ -63,7 +63,7 @@ abbrev pub only_table : List TableReference → Outcome TableReference
 only_table (r ∷ []) = Ok r
 only_table _ = not_well_formed
 
--- what an updatable query is made of: its only item of FROM, the columns of it that are shown, and its WHERE clause
+-- the parts of an updatable query: its only item of FROM, the columns of it that are shown, and its WHERE clause
 pub record Source : Type 0 where
   pub item : Item
   pub columns : List ℕ
@@ -87,8 +87,8 @@ pub record Level : Type 0 where
   pub condition : Clause Named
 
 -- The base table by its place, and the column of it for each column of the target. Then the conditions of the views
--- from inside out, and the number of them that check options demand: the views up to the outermost one that has a
--- check option.
+-- from inside out, and the number of them that check options demand. It counts the views up to the outermost one
+-- that has a check option.
 pub record Target : Type 0 where
   pub place : ℕ
   pub columns : List ℕ

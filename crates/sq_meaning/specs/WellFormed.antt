@@ -64,7 +64,7 @@ is_text (Num s) = false
 is_text (Chars n) = true
 is_text (Vary n) = true
 
--- the kinds of a subquery's columns are those of one column, which can be compared with this kind (7.11)
+-- a subquery has one column, which can be compared with this kind (7.11)
 abbrev pub IsOnlyKind : Kind → List Kind → Type 0
 IsOnlyKind k [] = ⊥
 IsOnlyKind k (l ∷ []) = IsTrue (is_comparable k l)
@@ -172,7 +172,7 @@ module _ {N : Naming} (m : Reading N) (k : Kinds N) (IsDeclared : N.Parameter �
   WellFormedEscape levels None = ⊤
   WellFormedEscape levels (Some e) = WellFormedText levels e
 
-  -- a subquery of one column, whose values can be compared with that of the expression (7.11)
+  -- a subquery of one column, whose values can be compared with the expression's value (7.11)
   abbrev pub IsBeside : List (Level N) → Expr N → Select N → Type 0
   IsBeside levels a q =
       Has (λ x. Has (IsOnlyKind x) (select_kinds k (froms levels) q)) (kind k (froms levels) a)
@@ -239,7 +239,7 @@ module _ {N : Naming} (m : Reading N) (k : Kinds N) (IsDeclared : N.Parameter �
     pub line : OnlyIf level.has_line (IsLineOf level.from scope.line)
     pub group : AllByRecursion (IsLineOf level.from) scope.group
 
-  -- a scope of a level: its items are those of the level's tables, and its rows are of their kinds
+  -- a scope of a level: it has the items of the level's tables, and its rows are of their kinds
   pub record IsScopeOf (level : Level N) (scope : Scope N.Item) : Type 0 where
     pub items : each m.item level.from ≡ Ok scope.items
     pub found : HasRowsOf level scope
