@@ -1,4 +1,4 @@
--- The tables, cursors and parameters that a bound tree names exist: the tree fits the base tables, the cursors and the
+-- The tables, cursors and parameters that a bound tree names exist: it fits the base tables, the cursors and the
 -- parameters that it was bound for. (Own notion: names are places in bound trees, ISO/IEC 9075:1992 knows none.)
 use Rattle.std.specs.Prelude.{⊤, ◌≡◌, ◌<◌, ℕ, nat_eq, nat_lt, Bool, true, false, ◌&&◌, not, List, [], ◌∷◌, length, map, Option, Some, IfSome, slice_get}
 use Rattle.std.specs.List.{AllByRecursion, AllZip, enumerate_from, list_all, list_any, zip}

@@ -1,6 +1,6 @@
 -- The notes on query specifications and on the tests of their WHERE clauses, at any depth (ISO/IEC 9075:1992, 7.9 and
--- 8.12). They say whether these may end with a status, how many items of FROM, from the left, a test reads at most, and
--- how a query specification is grouped.
+-- 8.12). They say whether these may end with a status, and how many items of FROM, from the left, a test reads at most.
+-- They also say how a query specification is grouped.
 use Rattle.std.specs.Prelude.{◌≡◌, ℕ, Bool, true, false, List, [], IfSome}
 use Rattle.std.specs.List.{AllByRecursion}
 use Rattle.sq_meaning.specs.Sure.{is_sure, is_sure_expr, is_sure_select}

@@ -54,11 +54,11 @@ EachWith With P trees = AllByRecursion (With P) trees
 abbrev pub number_of : BoundSpecification → Option ℕ
 number_of q = (out-BoundSpecification q).number
 
--- what has a number reads no column of a query around it
+-- a query specification with a number reads no column of a query around it
 abbrev pub IsRightlyNumbered : BoundSpecification → Type 0
 IsRightlyNumbered q = IfSome (number_of q) (λ n. IsClosed (select_of q))
 
--- what has a number is the one that the number names
+-- a query specification with a number is the one that the number names
 abbrev pub IsNamed : (ℕ → Option BoundSpecification) → BoundSpecification → Type 0
 IsNamed named q = IfSome (number_of q) (λ n. named n ≡ Some q)
 

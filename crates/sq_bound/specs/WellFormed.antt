@@ -54,7 +54,7 @@ use Rattle.sq_bound.specs.declared.statement.InsertedRows.{InsertedRows}
 use Rattle.sq_bound.specs.declared.statement.InsertedRows.TheVariants as inserted
 use Rattle.sq_bound.specs.declared.statement.Output.{Output}
 
--- ---- what is known of tables and parameters
+-- ---- the kinds of tables and parameters
 
 -- the kinds of the columns of each existing table and view
 abbrev pub TableKinds : Type 0
@@ -226,7 +226,7 @@ TakeKinds parameters = AllZip (TakesKind parameters)
 abbrev pub MayStore : ObjectColumn → Kind → Type 0
 MayStore c k = IsTrue (is_comparable k (kind_of c.domain))
 
--- what a column gets: NULL, or the value of an expression that may be stored there (13.8, 13.9)
+-- the new value of a column: NULL, or the value of an expression that may be stored there (13.8, 13.9)
 abbrev pub IsNewValue : TableKinds → List Kind → Levels → ObjectColumn → BoundExpr → Type 0
 IsNewValue columns parameters levels c e =
     (e ≡ Literal Null) ⊎ ((k : Kind) × IsExpr columns parameters levels [] k e × MayStore c k)

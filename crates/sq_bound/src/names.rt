@@ -121,7 +121,7 @@ pub enum TableBody {
     View(View),
 }
 
-/// A base table: what its rows hold and obey (11.3 to 11.9).
+/// A base table: its columns, and the constraints on its rows (11.3 to 11.9).
 #[derive(Drop)]
 pub struct BaseTable {
     /// The place of the table in the store.

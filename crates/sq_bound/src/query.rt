@@ -44,7 +44,7 @@ pub struct SortColumn {
     pub descending: bool,
 }
 
-/// The rows of a base table that a statement or cursor may change: they meet the conditions of the views in between, and
+/// The rows of a base table that a statement or cursor may change. They meet the conditions of the views in between, and
 /// then its own.
 #[derive(Drop)]
 pub struct Target {
