@@ -39,8 +39,8 @@ pub record DeclaredBase : Type 0 where
   pub references : List Reference
   pub checks : List NumberedCond
 
--- The base table under a table that may be changed, by its place; the conditions of the views in between, from inside out; and the number
--- of them that new and changed rows have to meet. For each column of the table, the column of the base table that it is.
+-- The base table under a table that may be changed, by its place. Then the conditions of the views in between, from inside out, and the
+-- number of them that new and changed rows have to meet. For each column of the table, the column of the base table that it is.
 pub record DeclaredUnder : Type 0 where
   pub base : ℕ
   pub conditions : List NumberedCond
@@ -77,7 +77,7 @@ entry_columns (Entry.view v) = v.columns
 abbrev pub entry_column_names : Entry → List Name
 entry_column_names e = map (λ c. c.name) (entry_columns e)
 
--- what is under a base table is itself
+-- the table under a base table is itself
 abbrev pub itself : DeclaredBase → DeclaredUnder
 itself b = record { base = b.place; conditions = []; demanded = 0; columns = places_of b.columns }
 
@@ -136,7 +136,7 @@ with_grants grants new = fold with_grant grants new
 
 -- ---- a catalog
 
--- The users that have a schema; the base tables and the views, each in the order of the texts; the privileges on views granted to their
+-- The users that have a schema. The base tables and the views, each in the order of the texts. The privileges on views granted to their
 -- owners, and the privileges that GRANT grants. The owner of a base table holds all privileges on it without a grant.
 pub record Catalog : Type 0 where
   pub users : List Name
@@ -175,7 +175,7 @@ may_on c grantable user t p e =
 abbrev pub may : Catalog → (grantable : Bool) → Name → TableName → Privilege → Bool
 may c grantable user t p = is_some_and (may_on c grantable user t p) (entry c t)
 
--- ---- what names mean to a user
+-- ---- the meanings of names to a user
 
 abbrev pub named_table : Catalog → Name → TableName → Entry → NamedTable
 named_table c user t e = record {

@@ -22,12 +22,12 @@ use Rattle.sq_binding.specs.Outcome.{Outcome, ◌>>=◌, and_then, or_fault}
 use Rattle.sq_binding.specs.Scope.{FromItem}
 use Rattle.sq_binding.specs.Select.{Surroundings, of_lines}
 
--- The rows of a base table under a table that may be changed, and for each column of the table the column there that it is.
+-- The rows of a base table under a table that may be changed. For each column of the table, the column there that it is.
 pub record UnderTable : Type 0 where
   pub leaf : Under
   pub columns : List ℕ
 
--- what names mean to the statements of a user: the tables, what is under those that may be changed, and the privileges
+-- the meanings of names in the statements of a user: the tables, the leaves of the tables that may be changed, and the privileges
 pub record UserNames : Type 0 where
   pub user : Name
   pub tables : NamedTables

@@ -18,7 +18,7 @@ use Rattle.sq_binding.specs.QueryExpression.{NumberedQuery, columns_of_query, qu
 use Rattle.sq_binding.specs.Select.{Surroundings}
 use Rattle.sq_binding.specs.Whole.{at_first, permitted, whole}
 
--- what a cursor goes over: the rows of a query, sorted by columns, or rows of a base table
+-- the rows that a cursor goes over: the rows of a query, sorted by columns, or rows of a base table
 pub data NumberedRows : Type 0 where
   sorted : NumberedQuery → List SortColumn → NumberedRows
   updatable : NumberedUpdatable → NumberedRows

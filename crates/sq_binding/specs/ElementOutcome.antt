@@ -1,4 +1,5 @@
--- A schema element, or a part of one, is accepted, or refused for a fault: the first one in the order in which rules are asked.
+-- A schema element, or a part of one, is accepted or refused for a fault. The fault is the first one in the order in which
+-- rules are asked.
 use Rattle.std.specs.Prelude.{Bool, if◌then◌else◌, List, [], ◌∷◌, Option, Some, None, Result, Ok, Err}
 use Rattle.sq_meaning.specs.declared.refusal.SchemaFault.{SchemaFault}
 

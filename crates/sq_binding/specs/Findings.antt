@@ -26,7 +26,7 @@ none = record {
   has_user = false;
 }
 
--- what is found in two parts
+-- the findings in two parts
 abbrev pub both : Findings → Findings → Findings
 both a b = record {
   items = max a.items b.items;

@@ -1,4 +1,4 @@
--- The meanings of names in the texts of a user, as the definitions of binding see them (ISO/IEC 9075:1992, 5.4, 6.2 and 6.3), and the facts
+-- The meanings of names in the texts of a user, as the definitions of binding see them (ISO/IEC 9075:1992, 5.4, 6.2 and 6.3). And the facts
 -- known of the tables that they mean.
 use Rattle.std.specs.Prelude.{◌≡◌, ℕ, Bool, false, List, [], map, slice_get, Option, Some, IfSome, Ok}
 use Rattle.std.specs.List.{AllByRecursion}
@@ -39,7 +39,7 @@ named_table may_select may_grant t = record {
 abbrev pub leaf_positions : List Column → List ℕ
 leaf_positions columns = map (λ c. c.leaf_column) columns
 
--- what is under a table that may be changed, with the column of the base table that each column is
+-- the leaf under a table that may be changed, with the column of the base table that each column is
 abbrev pub under_table : KnownTable → Option UnderTable
 under_table t = option_map (λ u. record { leaf = u; columns = leaf_positions t.columns }) t.under
 
@@ -73,7 +73,7 @@ outside known parameters = record {
   functions_allowed = false;
 }
 
--- ---- what is known of the tables
+-- ---- the facts known of the tables
 
 -- The leaf under a table with these columns: an existing base table, with well-formed conditions on its rows. The table's columns have the
 -- kinds of the columns there that they are.

@@ -1,5 +1,5 @@
--- Trees by place in which a set function of the query is a number: the count of set functions before it in the text of the
--- query (ISO/IEC 9075:1992, 6.5 and 6.11).
+-- Trees by place in which a set function of the query is a number (ISO/IEC 9075:1992, 6.5 and 6.11). It counts the set
+-- functions before it in the text of the query.
 use Rattle.std.specs.Prelude.{ℕ, List, slice_index_or}
 use Rattle.sq_value.specs.declared.value.Value.{Value}
 use Rattle.sq_tree.specs.declared.expr.Sign.{Sign}

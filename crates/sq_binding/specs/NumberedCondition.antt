@@ -1,7 +1,8 @@
 -- Search conditions and query specifications by place, with notes (ISO/IEC 9075:1992, 7.3 to 7.9, 7.11 and 8.12). The notes
--- on each test in a boolean term say how many items of FROM, from the left, hold the columns that it reads, and whether it
--- may answer a status. The notes on a query specification say its grouping, its columns, whether it may answer a status, and
--- the number of a subquery that is evaluated once at most. Set functions of the query are numbers, as in value expressions.
+-- on each test in a boolean term say how many items of FROM, from the left, hold the columns that it reads. They also say
+-- whether it may answer a status. The notes on a query specification say its grouping, its columns, and whether it may
+-- answer a status. They also say the number of a subquery that is evaluated once at most. Set functions of the query are
+-- numbers, as in value expressions.
 use Rattle.std.specs.Prelude.{ℕ, Bool, List, [], map, Option}
 use Rattle.std.specs.Option.{option_map}
 use Rattle.sq_lex.specs.declared.name.Name.{Name}
@@ -45,7 +46,7 @@ mutual
     absent : NumberedClause
     present : NumberedCond → NumberedClause
 
-  -- what groups a query specification: the columns of GROUP BY, the set functions in the order of the text, and HAVING
+  -- the grouping of a query specification: the columns of GROUP BY, the set functions in the order of the text, and HAVING
   pub data NumberedGroups : Type 0 where
     not_grouped : NumberedGroups
     grouped : (columns : List Place) → (functions : List PlacedExpr) → (having : NumberedClause)

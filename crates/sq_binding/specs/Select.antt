@@ -21,8 +21,8 @@ use Rattle.sq_binding.specs.Outcome.{Outcome, and_then}
 use Rattle.sq_binding.specs.QueryFindings.{of_values}
 use Rattle.sq_binding.specs.Scope.{FoundColumn, FromItem, ItemColumn, Scope, column_meant}
 
--- The surroundings of a part: the meanings of tables' names, the parameters, the FROM items of each query around, the
--- nearest first, and whether a set function may occur there.
+-- The surroundings of a part: the meanings of tables' names, the parameters, and the FROM items of each query around,
+-- the nearest first. They say whether a set function may occur there.
 pub record Surroundings : Type 0 where
   pub names : NamedTables
   pub parameters : List Declared
@@ -109,7 +109,7 @@ list_bound a items (expressions es) = at_most most_columns (length es) (each (sh
 
 -- ---- the whole
 
--- what a query specification is made of
+-- the parts of a query specification
 pub record Parts : Type 0 where
   pub distinct : Bool
   pub from : List TablePlace

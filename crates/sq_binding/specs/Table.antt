@@ -36,7 +36,7 @@ has_place c user t =
     refused_if fault.OtherSchema (not (same_user user t))
     >> refused_if fault.TooManyTables (nat_le most_tables (table_count c))
 
--- ---- what is written
+-- ---- the written parts
 
 -- the columns of a table definition with their domains, its keys, and its references with their names found
 pub record Draft : Type 0 where
@@ -56,7 +56,7 @@ drafted c user t = do
 abbrev pub draft : Catalog → Name → TableDefinition → Outcome Draft
 draft c user t = refused_if fault.NameTwice (is_taken c user (table_of user t.name)) >> drafted c user t
 
--- ---- what its rows obey
+-- ---- the constraints on its rows
 
 abbrev pub typed_descriptor : TypedColumn → ColumnDescriptor
 typed_descriptor c = record { name = c.definition.name; kind = kind_of c.domain }
@@ -108,7 +108,7 @@ drafted_table c user t d = do
     checks = checks;
   })
 
--- the base table that a definition makes after those of a catalog
+-- the base table that a definition adds to a catalog
 abbrev pub declared_table : Catalog → Name → TableDefinition → Outcome DeclaredBase
 declared_table c user t = draft c user t >>= drafted_table c user t
 

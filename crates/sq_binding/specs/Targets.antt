@@ -14,7 +14,7 @@ use Rattle.sq_binding.specs.Expression.{indicator_bound, parameter_named}
 use Rattle.sq_binding.specs.Outcome.{Outcome, ◌>>=◌}
 use Rattle.sq_binding.specs.Whole.{must_hold}
 
--- a parameter whose kind agrees with that of its column
+-- a parameter whose kind agrees with the kind of its column
 abbrev pub target_bound : List Declared → Parameter × Kind → Outcome PlacedParameter
 target_bound parameters t = do
   at ← parameter_named parameters t.0.name

@@ -1,5 +1,5 @@
--- The tables and columns that a bound tree names exist, as far as it does not follow from the part of it that the definitions see. Base
--- tables are at their places, object columns are columns of them, and NULL is bound to itself alone. (Own notion: names are places in bound
+-- The tables and columns that a bound tree names exist, if this does not already follow from the part that the definitions see. Base tables
+-- are at their places, object columns are columns of them, and NULL is bound to itself alone. (Own notion: names are places in bound
 -- trees.)
 use Rattle.std.specs.Prelude.{⊤, ◌≡◌, List}
 use Rattle.std.specs.List.{AllByRecursion}
@@ -25,7 +25,7 @@ BodyIsThere bases (body.Updatable u) = IsBase bases u.target.leaf.table
 abbrev pub CursorIsThere : List BaseTable → BoundCursor → Type 0
 CursorIsThere bases c = BodyIsThere bases c.body
 
--- what is seen as NULL is NULL
+-- an expression seen as NULL is NULL
 abbrev pub IsPlain : BoundExpr → Type 0
 IsPlain e = numbered_of e ≡ Numbered.literal Null → e ≡ Literal Null
 

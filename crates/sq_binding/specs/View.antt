@@ -19,8 +19,8 @@ use Rattle.sq_binding.specs.Whole.{at_first}
 
 -- ---- views
 
--- a view: its query, the table that it is over if it is updatable, and whether its owner holds SELECT on all tables
--- that it names, and with the grant option
+-- A view: its query, and the table that it is over if it is updatable. Then whether its owner holds SELECT on all
+-- tables that it names, and with the grant option.
 pub record NumberedView : Type 0 where
   pub query : NumberedSelect
   pub updatable : Option NumberedUpdatable

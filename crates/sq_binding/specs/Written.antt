@@ -116,7 +116,7 @@ abbrev pub IsParameter : List ParameterDesc → Name → ℕ → Type 0
 IsParameter parameters name at =
     (domain : Domain) × (position_named (declared parameters) name ≡ Ok (at, domain))
 
--- a target is the parameter of the written name, and its indicator that of the written one, if one is written
+-- a target is the parameter of the written name, and its indicator is the parameter of the written indicator, if one is written
 abbrev pub IsOutputOf : List ParameterDesc → Output → Parameter → Type 0
 IsOutputOf parameters o p = placed_parameter (declared parameters) p ≡ Ok (output_seen o)
 
@@ -177,7 +177,7 @@ leaf_item r t = record {
   columns = map column_over (zip (leaf_positions t.columns) (map descriptor_of t.columns));
 }
 
--- what is shown is a column of the table: the one at this position in the base table
+-- the shown expression is a column of the table: the one at this position in the base table
 abbrev pub IsShownAt : List Column → PlacedExpr → ℕ → Type 0
 IsShownAt columns e position =
     (p : Place) × (e ≡ column p) × (slice_get (leaf_positions columns) p.column ≡ Some position)
@@ -215,8 +215,8 @@ HasRowsOf known parameters (union all left right) (body.Updatable u) = ⊥
 abbrev pub HasWordsOf : Cursor → BoundCursor → Type 0
 HasWordsOf c cursor = (cursor.insensitive ≡ c.insensitive) × (cursor.scroll ≡ c.scroll)
 
--- the rows are sorted by the columns that the sort specifications name, if the columns of the query have these names; for an updatable
--- cursor there are none
+-- The rows are sorted by the columns that the sort specifications name, if the columns of the query have these names. For an updatable
+-- cursor there are none.
 abbrev pub IsSortedBy : Outcome (List (Option Name)) → List SortSpecification → CursorBody → Type 0
 IsSortedBy names by (body.Rows q sorts) = (names >>= λ ns. sort_columns ns by) ≡ Ok (map sort_seen sorts)
 IsSortedBy names by (body.Updatable u) = by ≡ []
@@ -241,7 +241,7 @@ abbrev pub value_placed : Surroundings → NewValue → Outcome PlacedExpr
 value_placed a (new_value.Expr e) = expr_placed a (expr_of e)
 value_placed a new_value.Null = Ok (literal Null)
 
--- the rows that are inserted: those of VALUES, or of the query (13.8)
+-- the rows that are inserted: the rows of VALUES, or of the query (13.8)
 abbrev pub IsSourceOf : Surroundings → Name → InsertSource → InsertedRows → Type 0
 IsSourceOf a user (source.Values list) (inserted.Values es) =
     ExprsAre (each (value_placed a) (listed list)) es

@@ -5,8 +5,8 @@
 //! in `QueryExpression`. Cursors are in `Cursor`, statements in `Statement`, procedures in `Procedure`, views and conditions of
 //! CHECK in `View`. Schemas declare a catalog of base tables, views and privileges, or their first refusal, with the text, the
 //! schema definition and the element. This begins in `Declaring`. CREATE TABLE is in `Table`, CREATE VIEW in `CreateView`, GRANT in
-//! `Grant`. `Bound` and the files beside it say which facts about a bound text the program relies on. The bound text is the text
-//! with its names placed, it is well formed by place, and the tables that it names exist.
+//! `Grant`. `Bound` and the files beside it say which facts about a bound text the program relies on. It is the text with its names
+//! placed, it is well formed by place, and the tables that it names exist.
 //!
 //! The definitions are in `specs/`, their laws in `proofs/`. Only the definitions of `sq_meaning` have to be believed; the laws say
 //! that the definitions here compute the same.
