@@ -8,8 +8,8 @@ use Rattle.sq_binding.specs.Names.{meant_by, named_tables}
 use Rattle.sq_binding.specs.Names as known_spec
 use Rattle.sq_binder.specs.Names.{Changes, under_table}
 
--- A name means the table that is known by it, and the leaf that may be changed under a table is the one that is known to be under
--- it. The user holds SELECT on the tables of the first test, and with the grant option on the tables of the second.
+-- A name means the table that is known by it. The leaf that may be changed under a table is the one that is known to be under it.
+-- The user holds SELECT on the tables of the first test, and with the grant option on the tables of the second.
 pub record NamesAgree (known : KnownTables) (selects grants : TableName → Bool) (tables : NamedTables)
     (changes : Changes) : Type 0 where
   pub named : (t : TableName) → tables t ≡ named_tables known selects grants t

@@ -19,7 +19,7 @@ receiver_seen r = record { name = r.name; column = r.column; kind = r.kind }
 abbrev pub receiver_at : ItemColumn → binding.Receiver
 receiver_at c = record { name = c.name; column = c.position; kind = c.kind }
 
--- the columns that get values are among those of a base table with this many
+-- the columns that get values are among this many columns of a base table
 abbrev pub AreWithin : ℕ → List binding.Receiver → Type 0
 AreWithin columns = AllByRecursion (λ r. r.column < columns)
 
@@ -32,7 +32,7 @@ abbrev pub named_once : List binding.Receiver → Name → (again : Bool) → Ou
 named_once all name again =
     or_fault fault.UnknownColumn (find (λ r. same_name r.name name) all) >>= once again
 
--- what is made of the column of a name that is not named again
+-- the result of `make` on the column of a name that is not named again
 abbrev pub column_made : {B : Type 0} → List binding.Receiver → Name → (again : Bool)
     → (binding.Receiver → Binding B) → Binding B
 column_made all name again make = λ counts. and_then (named_once all name again) (λ r. make r counts)

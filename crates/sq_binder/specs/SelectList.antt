@@ -32,7 +32,7 @@ behind s shown = (s.0 ++ map (λ c. c.tree) shown, s.1 ++ map (λ c. c.column) s
 abbrev pub with_shown : Shown → ShownColumn → Shown
 with_shown s c = (s.0 ++ c.tree ∷ [], s.1 ++ c.column ∷ [])
 
--- ---- what the definitions see
+-- ---- the parts that the definitions see
 
 abbrev pub list_seen : SelectedList → Shown
 list_seen s = (map numbered_of s.exprs, map column_of s.columns)
