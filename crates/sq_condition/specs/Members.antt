@@ -1,4 +1,4 @@
--- The values of one column, of which IN asks whether one is equal (ISO/IEC 9075:1992, 8.4 and 8.7).
+-- The values of one column; IN asks whether one of them is equal (ISO/IEC 9075:1992, 8.4 and 8.7).
 use Rattle.std.specs.Prelude.{◌≡◌, Bool, true, false, ◌||◌, if◌then◌else◌, List, []}
 use Rattle.std.specs.List.{fold, list_any}
 use Rattle.sq_value.specs.SetFunctions.{is_null}

@@ -17,8 +17,8 @@ use Rattle.sq_condition.specs.Memo.{Meant, IsMemoOf}
 use Rattle.sq_expression.specs.declared.context.Context.{Context}
 use Rattle.sq_condition.specs.declared.memo.Memo.{Memo}
 
--- A query specification with a number ends with the rows meant by that number, whatever queries are around it; and all notes
--- on it are true.
+-- A query specification with a number ends with the rows meant by that number, whatever queries are around it. All notes on
+-- it are true.
 pub record IsKnown (context : Context) (meant : Meant) (q : BoundSpecification) : Type 0 where
   pub anywhere : IfSome (number_of q)
       (λ n. (scopes : List (Scope (Unit {0})))
