@@ -100,15 +100,15 @@ pub record Removals (s : Seen) (t : ChangeTarget) (on : Option ℕ) (changes : L
   pub chosen : Chosen s t on numbers
   pub all : changes ≡ map Remove numbers
 
--- ---- what a change leaves alone
+-- ---- the rest, which a change leaves alone
 
 -- In keys other than the lost ones, the values that rows of the table had are still in it. So are the rows that are put in.
 pub record KeepsRest (t : BaseTable) (before : Table) (changed : Changed) : Type 0 where
   pub keys : KeepsKeys t.keys changed.lost_keys.items before (changed_by before changed.changes.items)
   pub put : ArePutThere before changed.changes.items
 
--- Changes can be made in a table whose rows may have so many numbers. The rows that they put in fit it, there is a number for each new one,
--- and keys other than the lost ones lose no values.
+-- Changes can be made in a table whose rows may have so many numbers. The rows that they put in fit it, and there is a number for each new
+-- one. Keys other than the lost ones lose no values.
 pub record CanBeMade (t : BaseTable) (before : Table) (row_numbers : ℕ) (changed : Changed) : Type 0 where
   pub fit : FitTable t changed.changes.items
   pub numbers : insert_count changed.changes.items ≤ row_numbers + 1 - before.next

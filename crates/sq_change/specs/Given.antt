@@ -33,7 +33,7 @@ abbrev pub IsStoredFor : List ObjectColumn → ℕ → Value → Type 0
 IsStoredFor columns position v =
     (c : ObjectColumn) × Contains columns c × (c.position ≡ position) × IsInDomain c.domain v
 
--- ---- what may be stored (9.2)
+-- ---- values that may be stored (9.2)
 
 -- a value for each column: null, a number for a domain of numbers, or a text for one of texts
 abbrev pub FitColumns : List ObjectColumn → List Value → Type 0
@@ -55,8 +55,8 @@ AreAssignable assignments row parameters user =
 
 -- ---- statements
 
--- the source of an insert statement is well formed if the parameters, which have these values, are of some kinds; its query may
--- read these tables
+-- The parameters, with these values, are of some kinds for which the source of an insert statement is well formed. Its query may
+-- read these tables.
 pub record MayGive (bases : List BaseTable) (queries : List BoundSpecification) (columns : TableKinds)
     (content : Content) (user : Name)
     (values : List Value) (objects : List ObjectColumn) (source : InsertedRows) : Type 0 where
@@ -65,8 +65,8 @@ pub record MayGive (bases : List BaseTable) (queries : List BoundSpecification) 
   pub reads : MayRead bases queries columns content user values parameters tables
   pub given : IsSource columns parameters objects source
 
--- A statement may find the rows that it changes. Its conditions are well formed if the parameters, which have these values, are of
--- some kinds; they may read these tables.
+-- A statement may find the rows that it changes. The parameters, with these values, are of some kinds for which its conditions are
+-- well formed. They may read these tables.
 pub record MayChoose (bases : List BaseTable) (queries : List BoundSpecification) (columns : TableKinds)
     (content : Content) (user : Name)
     (values : List Value) (t : ChangeTarget) : Type 0 where
@@ -75,7 +75,8 @@ pub record MayChoose (bases : List BaseTable) (queries : List BoundSpecification
   pub reads : MayRead bases queries columns content user values parameters tables
   pub target : IsChangeTarget columns parameters t
 
--- the set clauses of an update statement are for columns of the base table, and well formed if the parameters are of some kinds
+-- The parameters, with these values, are of some kinds for which the set clauses of an update statement are well formed. They are
+-- for columns of the base table.
 pub record MayAssign (columns : TableKinds) (values : List Value) (table : BaseTable)
     (assignments : List BoundAssignment) : Type 0 where
   pub parameters : List Kind

@@ -93,8 +93,8 @@ without t numbers = fold removed t numbers
 
 -- ---- statements that can be performed, on tables with this content, by this user and with these values of parameters
 
--- an insert statement is of a base table, its columns are columns of it, and its source is well formed and may read the tables that it
--- reads
+-- An insert statement is of a base table, and its columns are columns of it. Its source is well formed and may read the tables that it
+-- reads.
 pub record CanInsert (bases : List BaseTable) (queries : List BoundSpecification) (kinds : TableKinds)
     (content : Content) (user : Name) (values : List Value) (i : BoundInsert) : Type 0 where
   pub leaf : IsLeaf kinds i.leaf
@@ -102,8 +102,8 @@ pub record CanInsert (bases : List BaseTable) (queries : List BoundSpecification
   pub columns : AllByRecursion (IsColumnOf i.leaf.table) i.columns
   pub given : MayGive bases queries kinds content user values i.columns i.source
 
--- A statement can choose the rows that it changes. It is of a base table, its conditions are well formed and may read the tables that they
--- read, and a positioned one is given a row.
+-- A statement can choose the rows that it changes. It is of a base table, and its conditions are well formed and may read the tables that
+-- they read. A positioned one is given a row.
 pub record CanChoose (bases : List BaseTable) (queries : List BoundSpecification) (kinds : TableKinds)
     (content : Content) (user : Name) (values : List Value) (t : ChangeTarget) (on : Option ℕ) : Type 0 where
   pub base : IsBase bases (under t).table

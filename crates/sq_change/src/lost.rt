@@ -160,8 +160,8 @@ pub(crate) fn all_free<N: Names, S: Store>(
     Ok(())
 }
 
-/// Whether no row of the base table at a place refers to a lost value of another table's keys, unless a row of that table
-/// still has it.
+/// Whether no row of the base table at a place refers to a lost value of another table's keys. A value that a row of that
+/// table still has doesn't count.
 fn references_free<S: Store>(
     store: &S,
     place: usize,
@@ -192,7 +192,8 @@ fn is_to(reference: &Reference, table: usize) -> bool
     reference.table == table
 }
 
-/// Whether by a reference no row of the table at a place refers to a lost value of a key, unless a row still has it.
+/// Whether by a reference no row of the table at a place refers to a lost value of a key. A value that a row still has
+/// doesn't count.
 fn reference_free<S: Store>(
     store: &S,
     place: usize,
@@ -213,8 +214,8 @@ fn reference_free<S: Store>(
     Ok(())
 }
 
-/// Whether the lost values are of another key than the reference's, no row of the table at a place refers to them by it, or
-/// a row still has them.
+/// Whether the reference is to another key than the lost values are of, no row at a place refers to them by it, or a row
+/// still has them.
 fn is_free<S: Store>(
     store: &S,
     place: usize,

@@ -117,8 +117,8 @@ fn push_referenced<N: Names, S: Store>(
     Ok(())
 }
 
-/// Whether references hold after changes of a table: the references of the rows that were put in it, and the references to
-/// the key values that its rows may have lost.
+/// Whether references hold after changes of a table. It asks for the references of the rows that were put in it, and for
+/// the references to the key values that its rows may have lost.
 pub(crate) fn references_satisfied<N: Names, S: Store>(
     names: &N,
     store: &S,
