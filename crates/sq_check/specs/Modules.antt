@@ -58,7 +58,7 @@ pub record AreChecked (catalog : Catalog) (modules : List ModuleText)
 
 -- ---- while a module is looked at
 
--- procedures that open the cursors beside which they are listed
+-- procedures, each with the name of a cursor that it opens
 abbrev pub AreOpeners : Program → ModuleText → List (Name × Bor BoundProcedure) → Type 0
 AreOpeners p m openers = AllByRecursion (λ e. IsOpener p m e.0 e.1.now) openers
 

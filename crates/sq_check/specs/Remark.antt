@@ -72,7 +72,7 @@ pub record AreParametersFor (p : Program) (m : ModuleText) (cursor : Name)
   pub opens : IfSome opener (IsOpener p m cursor)
   pub are : parameters ≡ parameters_of opener
 
--- what is said of a cursor with this body
+-- the remark on a cursor with this body
 abbrev pub IsOfBody : Cursor → CursorBody → Remark → Type 0
 IsOfBody c (body.Updatable query) remark = remark ≡ Updatable
 IsOfBody c (body.Rows query order) remark = (rule : Rule) × IsRuleOf c rule × (remark ≡ NotUpdatable rule)
@@ -92,7 +92,7 @@ abbrev pub IsRemarkWith : Catalog → Name → List ParameterDesc → Cursor →
 IsRemarkWith catalog user parameters c remark =
     (bound : Result BoundCursor Broken) × IsOfResult catalog user parameters c remark bound
 
--- what is said of a cursor, for the parameters of the procedure that opens it
+-- the remark on a cursor, for the parameters of the procedure that opens it
 pub record IsCursorRemark (catalog : Catalog) (p : Program) (m : ModuleText) (c : Cursor)
     (remark : Remark) : Type 0 where
   pub parameters : List ParameterDesc

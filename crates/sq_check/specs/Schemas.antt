@@ -11,7 +11,7 @@ use Rattle.sq_check.specs.Modules.{counted}
 use Rattle.sq_check.specs.Remark.{view_remark}
 use Rattle.sq_check.specs.declared.mark.Mark.{Mark}
 
--- what comes of each element by its place, from this one on
+-- the results of `f` on each element by its place, from this one on
 abbrev pub all_at : {A B : Type 0} → (ℕ → A → List B) → ℕ → List A → List B
 all_at f place [] = []
 all_at f place (x ∷ xs) = f place x ++ all_at f (suc place) xs
