@@ -1,4 +1,4 @@
--- Parts that are bound one behind another, and lists that are bound in turn.
+-- Parts that are bound one after another, and lists that are bound in turn.
 pub mod Behind
 pub mod Chains
 pub mod ColumnLoops

@@ -39,8 +39,8 @@ target_made t b = b >>= λ condition. pure (target_over t condition)
 abbrev pub target_bound : Surroundings → binding.ChangedTable → Clause Named → Binding NumberedTarget
 target_bound a t c = target_made t (condition_bound a t c)
 
--- The key that is noted for a condition on a base table: the shortest by which it names a row, where it has no subquery. Where a
--- view is in between, none is.
+-- The noted key for a condition on a base table: the shortest by which it names a row, if it has no subquery. If a view is in
+-- between, there is none.
 abbrev pub IsNotedKey : (is_base has_subquery : Bool) → Leaf → Option BoundCond → Option ℕ → Type 0
 IsNotedKey true false leaf (Some own) noted = IsShortestKey leaf.table.keys own noted
 IsNotedKey _ _ leaf own noted = noted ≡ None

@@ -1,4 +1,4 @@
--- What cursors are over, and their parts (ISO/IEC 9075:1992, 13.1).
+-- The bodies of cursors, and their parts (ISO/IEC 9075:1992, 13.1).
 use Rattle.std.specs.Prelude.{⊤, ◌≡◌, List, Option, None, Some}
 use Rattle.sq_lex.specs.declared.name.Name.{Name}
 use Rattle.sq_tree.specs.declared.«module».Cursor.{Cursor}
@@ -34,7 +34,7 @@ IsOverPart (Some over) table (body.Updatable u) = (table ≡ Some over.0) × (u 
 
 -- ---- parts
 
--- a cursor whose query stands in these surroundings
+-- a cursor whose query is in these surroundings
 abbrev pub cursor_at : UserNames → Surroundings → Cursor → Outcome NumberedCursor
 cursor_at names a c =
     let query = query_of names.user c.query in binding.cursor_of names a c query (plain_specification c query)

@@ -45,7 +45,7 @@ brought_of b = with_brought tt b
 abbrev pub found_of : {A B : Type 0} → (image : B → A) → Found B → binding.Found A
 found_of image x = with_brought (image x.part) x.brought
 
--- The answer is the part that the definition computes behind these counts, with the counts behind it, or the definition's fault, or
+-- The answer is the part that the definition computes after these counts, with the counts after it, or the definition's fault, or
 -- memory ran out.
 abbrev pub Finds : {A B : Type 0} → (image : B → A) → Binding A → Counts → Result (Found B) Stop → Type 0
 Finds image b before (Ok x) =
@@ -97,14 +97,14 @@ paired x y = record {
   subqueries = y.subqueries;
 }
 
--- a part, and the one behind it
+-- a part, and the one after it
 abbrev pub pairs : {A B : Type 0} → Binding A → (A → Binding B) → Binding (A × B)
 pairs b f = λ counts. and_then (b counts) (λ x. and_then (f x.part (after counts x)) (λ y. Ok (paired x y)))
 
 abbrev pub both_of : {A B X Y : Type 0} → (X → A) → (Y → B) → X × Y → A × B
 both_of f g p = (f p.0, g p.1)
 
--- a part stands behind one that is bound, or one of both has a fault
+-- a part comes after one that is bound, or one of both has a fault
 abbrev pub Pairs : {A B : Type 0} → Found A → Result (Found B) Stop → Result (Found (A × B)) Stop → Type 0
 Pairs left (Ok right) (Ok both) =
     (both.part ≡ (left.part, right.part))

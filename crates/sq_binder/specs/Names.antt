@@ -1,5 +1,5 @@
--- What names of tables mean to the texts of a user, where tables may be changed: what is under each of them, and who may change it
--- (ISO/IEC 9075:1992, 7.9 and 10.3).
+-- The meanings of names of tables in the texts of a user, if tables may be changed (ISO/IEC 9075:1992, 7.9 and 10.3). They say the
+-- leaf under each of them, and who may change it.
 use Rattle.std.specs.Prelude.{◌≡◌, Bool, List, map, Option, Some, IfSome}
 use Rattle.std.specs.Option.{option_map}
 use Rattle.sq_lex.specs.declared.name.Name.{Name}
@@ -17,7 +17,7 @@ use Rattle.sq_binder.specs.declared.names.Privilege.{Privilege}
 use Rattle.sq_binder.specs.declared.names.Privilege.TheVariants as privilege
 use Rattle.sq_binder.specs.declared.under.UnderTable.{UnderTable as FoundUnder}
 
--- Rows of a base table, and the columns of the table that is over it, each with the column of the base table that it is.
+-- Rows of a base table, and the columns of the table that is over it. Each comes with the column of the base table that it is.
 pub record Beneath : Type 0 where
   pub leaf : Leaf
   pub columns : List Column
@@ -25,7 +25,7 @@ pub record Beneath : Type 0 where
 abbrev pub under_table : Beneath → UnderTable
 under_table b = record { leaf = under_of b.leaf; columns = map (λ c. c.leaf_column) b.columns }
 
--- what is under each table that may be changed, and the privileges that the user holds
+-- the leaf under each table that may be changed, and the privileges that the user holds
 pub record Changes : Type 0 where
   pub beneath : TableName → Option Beneath
   pub holds : TableName → rules.Privilege → Bool
@@ -38,7 +38,7 @@ user_names user tables changes = record {
   holds = changes.holds;
 }
 
--- what names of tables mean to the user of a text
+-- the meanings of names of tables to the user of a text
 abbrev pub names_at : {T : Type 0} → (T → NamedTables) → (T → Changes) → Surroundings T → UserNames
 names_at named changes at = user_names at.environment.now.user (named at.tables.now) (changes at.tables.now)
 
@@ -46,11 +46,11 @@ names_at named changes at = user_names at.environment.now.user (named at.tables.
 abbrev pub IsUnder : Changes → TableName → Leaf → Type 0
 IsUnder changes t leaf = option_map (λ b. b.leaf) (changes.beneath t) ≡ Some leaf
 
--- each table that may be changed is over a base table that is there
+-- each table that may be changed is over an existing base table
 abbrev pub AreOverBases : List BaseTable → Changes → Type 0
 AreOverBases bases changes = (t : TableName) → IfSome (changes.beneath t) (λ b. IsBase bases b.leaf.table)
 
--- ---- what the definitions see
+-- ---- the parts that the definitions see
 
 abbrev pub beneath_of : FoundUnder → Beneath
 beneath_of u = record { leaf = u.leaf.now; columns = u.columns.now }

@@ -12,7 +12,7 @@ use Rattle.sq_binder.specs.declared.stop.Stop.{Stop}
 abbrev pub requiring : {A : Type 0} → (is_held : Bool) → binding.Found A → binding.Found A
 requiring is_held x = record x { findings = both x.findings (needed is_held) }
 
--- SELECT is needed, where a column of the table that is changed is read
+-- SELECT is needed if a column of the table that is changed is read
 abbrev pub reading : {A : Type 0} → (may_select : Bool) → binding.Found A → binding.Found A
 reading may_select x = requiring (not x.findings.values.reads_outermost || may_select) x
 

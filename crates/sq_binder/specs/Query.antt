@@ -1,4 +1,4 @@
--- What query expressions are made of (ISO/IEC 9075:1992, 7.10). UNION groups to the left.
+-- The parts of query expressions (ISO/IEC 9075:1992, 7.10). UNION groups to the left.
 use Rattle.std.specs.Prelude.{◌≡◌, Bool, List, map, Result, Ok, Err}
 use Rattle.std.specs.Result.{result_ok}
 use Rattle.sq_meaning.specs.Kind.{common_kind}

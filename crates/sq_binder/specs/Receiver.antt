@@ -19,7 +19,7 @@ receiver_seen r = record { name = r.name; column = r.column; kind = r.kind }
 abbrev pub receiver_at : ItemColumn → binding.Receiver
 receiver_at c = record { name = c.name; column = c.position; kind = c.kind }
 
--- the columns that get values are among those of a base table with this many
+-- the columns that get values are among this many columns of a base table
 abbrev pub AreWithin : ℕ → List binding.Receiver → Type 0
 AreWithin columns = AllByRecursion (λ r. r.column < columns)
 
@@ -32,7 +32,7 @@ abbrev pub named_once : List binding.Receiver → Name → (again : Bool) → Ou
 named_once all name again =
     or_fault fault.UnknownColumn (find (λ r. same_name r.name name) all) >>= once again
 
--- what is made of the column of a name that is not named again
+-- the result of `make` on the column of a name that is not named again
 abbrev pub column_made : {B : Type 0} → List binding.Receiver → Name → (again : Bool)
     → (binding.Receiver → Binding B) → Binding B
 column_made all name again make = λ counts. and_then (named_once all name again) (λ r. make r counts)
@@ -47,7 +47,8 @@ abbrev pub column_after : {A B : Type 0} → List binding.Receiver → (A → Na
 column_after all name_of make p =
     column_made all (name_of p.1) (has_name_twice (p.0 ++ name_of p.1 ∷ [])) (make p.1)
 
--- what is made of each column that a list names, where none is named twice
+-- the results of `make` on each column that a list names, if none is named
+-- twice
 abbrev pub columns_made : {A B : Type 0} → List binding.Receiver → (A → Name)
     → (A → binding.Receiver → Binding B) → List A → Binding (List B)
 columns_made all name_of make xs = each (column_after all name_of make) (with_names name_of [] xs)

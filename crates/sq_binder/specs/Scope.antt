@@ -56,7 +56,7 @@ abbrev pub scopes_at : Option Scope → List binding.Scope
 scopes_at None = []
 scopes_at (Some scope) = scopes_of scope
 
--- the scopes in which a text stands
+-- the scopes around a text
 abbrev pub scopes_in : Environment → List binding.Scope
 scopes_in environment = scopes_at environment.scope
 
@@ -74,7 +74,7 @@ found_of found = record {
   is_outermost = found.is_outermost;
 }
 
--- the only one of the items and columns that a reference fits, where it fits one
+-- the only one of the items and columns that a reference fits, if it fits one
 abbrev pub only : List (ℕ × ℕ) → Outcome (Option (ℕ × ℕ))
 only [] = Ok None
 only (at ∷ []) = Ok (Some at)

@@ -25,14 +25,14 @@ split shown = (map (λ c. c.tree) shown, map (λ c. c.column) shown)
 abbrev pub list_split : Surroundings → List FromItem → SelectList Named → Binding Shown
 list_split a items list = list_bound a items list >>= λ shown. pure (split shown)
 
--- further columns behind others
+-- further columns after others
 abbrev pub behind : Shown → List ShownColumn → Shown
 behind s shown = (s.0 ++ map (λ c. c.tree) shown, s.1 ++ map (λ c. c.column) shown)
 
 abbrev pub with_shown : Shown → ShownColumn → Shown
 with_shown s c = (s.0 ++ c.tree ∷ [], s.1 ++ c.column ∷ [])
 
--- ---- what the definitions see
+-- ---- the parts that the definitions see
 
 abbrev pub list_seen : SelectedList → Shown
 list_seen s = (map numbered_of s.exprs, map column_of s.columns)

@@ -1,4 +1,4 @@
--- Where inserted values come from, as the definitions see it (ISO/IEC 9075:1992, 13.8).
+-- The source of inserted values, as the definitions see it (ISO/IEC 9075:1992, 13.8).
 use Rattle.std.specs.Prelude.{◌≡◌, ◌==◌, Bool, List, length, Option, None, Some, Result, Ok, Err, if◌then◌else◌}
 use Rattle.std.specs.List.{list_all, zip}
 use Rattle.sq_meaning.specs.WellFormed.{is_comparable}

@@ -1,4 +1,5 @@
--- The parts of a query specification, one behind the other, and what is made of them (ISO/IEC 9075:1992, 7.4 to 7.9).
+-- The parts of a query specification, one after the other, and the query specification made of them (ISO/IEC
+-- 9075:1992, 7.4 to 7.9).
 use Rattle.std.specs.Prelude.{Bool, true, false, ◌||◌, List, [], Option, None, Some, map, Ok, Err}
 use Rattle.std.specs.Option.{option_map}
 use Rattle.sq_lex.specs.declared.name.Name.{Name}
@@ -27,11 +28,11 @@ use Rattle.sq_binder.specs.declared.found.Counts.{Counts}
 use Rattle.sq_binder.specs.declared.from.FromClause.{FromClause}
 use Rattle.sq_binder.specs.declared.select_list.SelectedList.{SelectedList}
 
--- the counts at the start of a query: none of its set functions stands before
+-- the counts at the start of a query: none of its set functions comes before
 abbrev pub first : Counts → Counts
 first counts = record { functions = 0; subqueries = counts.subqueries }
 
--- ---- the clauses, one behind the other
+-- ---- the clauses, one after the other
 
 abbrev pub Groups : Type 0
 Groups = List Place × (Shown × NumberedClause)

@@ -34,7 +34,7 @@ abbrev pub fault_beside : Kind → List ResultColumn → Option BindingFault
 fault_beside k (column ∷ []) = if is_comparable k column.kind then None else Some fault.KindMismatch
 fault_beside k _ = Some fault.CountMismatch
 
--- a subquery stands beside a value
+-- a subquery comes with a value
 abbrev pub Beside : Found Typed → Result (Found BoundSpecification) Stop
     → Result (Found (BoundExpr × BoundSpecification)) Stop → Type 0
 Beside left query (Ok both) =
@@ -52,7 +52,7 @@ abbrev pub compared_side : Option Quantifier → Kind → Binding NumberedSelect
 compared_side None k q = scalar k q
 compared_side (Some quantifier) k q = beside k q
 
--- NOT, where it is written
+-- NOT, if it is written
 abbrev pub negated_if : Bool → Binding NumberedCond → Binding NumberedCond
 negated_if true b = b >>= λ x. pure (NumberedCond.negated x)
 negated_if false b = b

@@ -22,7 +22,7 @@ kinds_shown columns = map (λ c. c.kind) (map column_of columns)
 abbrev pub all_set : List PlacedParameter → List ℕ
 all_set targets = flat_map set_by targets
 
--- a further target, where it sets no parameter again
+-- a further target, if it sets no parameter again
 abbrev pub set_unless : (again : Bool) → List PlacedParameter → PlacedParameter
     → Outcome (List PlacedParameter)
 set_unless again targets t = must_hold (not again) fault.TargetTwice >>= λ _. Ok (targets ++ t ∷ [])

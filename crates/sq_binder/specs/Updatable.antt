@@ -1,4 +1,5 @@
--- Query specifications that are updatable: what they are over (ISO/IEC 9075:1992, 7.9).
+-- Query specifications that are updatable, and the tables that they are over (ISO/IEC
+-- 9075:1992, 7.9).
 use Rattle.std.specs.Prelude.{ℕ, Bool, List, Option, None, Some, Ok, if◌then◌else◌}
 use Rattle.sq_meaning.specs.Environment.{TableName}
 use Rattle.sq_binding.specs.Changeable.{ChangedTable, NumberedTarget, NumberedUpdatable, made, updatable_where}

@@ -29,10 +29,9 @@ use sq_lex::Name;
 use sq_tree::{Assignment, CommaList};
 use std::slice::from_ref;
 
-/// What binding set clauses answers.
 pub type AssignmentsResult = Result<Found<Items<BoundAssignment>>, Stop>;
 
-/// The set clauses of an update of a table, each of a column of its own. Columns of the table may stand in the values.
+/// The set clauses of an update of a table, each of a column of its own. The values may name columns of the table.
 pub fn bind_assignments<T: ChangeableTables>(
     list: &CommaList<Assignment>,
     table: &ChangedTable<'_>,
@@ -51,7 +50,7 @@ pub fn bind_assignments<T: ChangeableTables>(
     bound
 }
 
-/// Set clauses, where these columns may get values.
+/// Set clauses, if these columns may get values.
 fn with_columns<T: ChangeableTables>(
     list: &CommaList<Assignment>,
     table: &ChangedTable<'_>,
@@ -74,7 +73,7 @@ fn with_columns<T: ChangeableTables>(
     bound
 }
 
-/// Set clauses, where columns of this item may stand in the values.
+/// Set clauses whose values may name columns of this item.
 fn over_item<'s, T: ChangeableTables>(
     list: &CommaList<Assignment>,
     table: &ChangedTable<'_>,
@@ -131,7 +130,7 @@ fn in_turn<T: ChangeableTables>(
     Ok(assignments)
 }
 
-/// Whether one of the set clauses before the one of this number behind the first is of a column of this name.
+/// Whether the first set clause, or one of the `number` after it, is of a column of this name.
 fn is_assigned(list: &CommaList<Assignment>, number: usize, name: Name) -> bool
     requires { number ≤ length list.now.rest }
     ensures { result ≡ list_any (λ other. same_name other.column name)

@@ -10,7 +10,6 @@ use sq_items::Items;
 use sq_value::Kind;
 use std::alloc::Global;
 
-/// What binding a value expression answers.
 pub type ExprResult = Result<Bound, Stop>;
 
 /// A bound value expression, the kind of its values, and what it brings along.
@@ -18,7 +17,7 @@ pub type ExprResult = Result<Bound, Stop>;
 pub struct Bound {
     pub expr: BoundExpr,
     pub kind: Kind,
-    /// The set functions that it adds to those of its query, in the order of the text.
+    /// The set functions that it adds to its query, in the order of the text.
     pub calls: Items<SetFunctionCall>,
     /// Whether computing one of those may answer a status.
     pub calls_can_fail: bool,

@@ -28,7 +28,9 @@ pub struct ChangedTable<'a> {
     pub under: UnderTable<'a>,
 }
 
-/// The table of a name that a text of this user spells, which is there and may be changed.
+/// The table of a name that a text of this user spells, if it exists and may be changed.
+/// The fault is `UnknownTable` if the name means no table, and `NotUpdatable` if the rows
+/// of the table may not be changed.
 pub fn changed_table<T: ChangeableTables>(
     tables: &T,
     own: Name,

@@ -31,13 +31,12 @@ use std::slice::from_ref;
 pub enum CheckStop {
     /// The condition breaks this rule.
     Broken(BindingFault),
-    /// A subquery or USER, which may not stand there (own rule).
+    /// A subquery or USER, which a CHECK may not have (own rule).
     NotInCheck,
     /// Memory ran out.
     NoMemory,
 }
 
-/// What binding the condition of a CHECK answers.
 pub type CheckResult = Result<BoundCond, CheckStop>;
 
 /// No table may be named in a CHECK.
@@ -111,7 +110,7 @@ fn condition_over<'s>(
     bind_cond(cond, &lines, at_first())
 }
 
-/// A condition that is bound, where it has neither a subquery nor USER.
+/// A bound condition, if it has neither a subquery nor USER.
 fn check_condition(cond: CondResult) -> CheckResult
     ensures { (b : Binding NumberedCond) → Finds cond_seen b (record { functions = 0; subqueries = 0 }) cond
         → BindsCheck (spec.checked (b at_first)) result }

@@ -18,7 +18,7 @@ pub struct ItemColumn {
 /// A column that a reference means.
 #[derive(Clone, Copy)]
 pub struct FoundColumn {
-    /// How many queries further out its item stands.
+    /// The number of queries further out in which its item is.
     pub depth: usize,
     /// The number of its item there.
     pub item: usize,

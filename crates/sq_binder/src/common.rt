@@ -59,7 +59,7 @@ fn columns_in_turn(
     Ok(columns)
 }
 
-/// The column to which a column of each side is brought. It keeps its name where both sides have the same one.
+/// The column to which a column of each side is brought. It keeps its name if both sides have the same one.
 fn common_column(left: &ResultColumn, right: &ResultColumn) -> Result<ResultColumn, Stop>
     ensures { Binds column_of (column_in_common (sides_seen (left.now, right.now))) result }
 {

@@ -1,5 +1,5 @@
-//! Search conditions and query specifications, each bound by the other, for conditions have subqueries (ISO/IEC 9075:1992, 7.4 to
-//! 7.9 and 8.12).
+//! Search conditions and query specifications, each bound by the other, since conditions have subqueries (ISO/IEC 9075:1992, 7.4
+//! to 7.9 and 8.12).
 
 ghost use Rattle.std.specs.Prelude.{◌≡◌, Some, map};
 ghost use Rattle.std.specs.Option.{option_map};
@@ -38,12 +38,13 @@ use sq_tree::{
 };
 use std::alloc::Global;
 
-/// What binding a search condition answers.
 pub type CondResult = Result<Found<BoundCond>, Stop>;
 
-/// What binding a clause answers that may be written.
+/// The result of binding a clause that may be left out.
 pub type ClauseResult = Result<Found<Option<BoundCond>>, Stop>;
 
+/// A search condition (8.12): its tree, and the set functions, subqueries and findings that it adds to its query, or its first
+/// fault.
 #[cycle(conditions)]
 pub fn bind_cond<T: Tables>(cond: &Cond, at: &Surroundings<'_, T>, before: Counts) -> CondResult
     ensures { Finds cond_seen (spec.cond_bound (surroundings T.named at.now)
@@ -239,7 +240,7 @@ pub fn bind_select<T: Tables>(
     )
 }
 
-/// What stands behind a FROM clause of these items.
+/// The clauses after a FROM clause of these items.
 #[cycle(conditions)]
 fn clauses_value<'s, T: Tables>(
     table: &TableExpression,
@@ -258,7 +259,7 @@ fn clauses_value<'s, T: Tables>(
     pair_parts(filter, groups)
 }
 
-/// A WHERE clause over these items, in which no set function may stand.
+/// A WHERE clause over these items, in which no set function may occur.
 #[cycle(conditions)]
 fn where_value<'s, T: Tables>(
     cond: &Option<Cond>,
@@ -379,7 +380,7 @@ pub fn make_present(cond: CondResult) -> ClauseResult
     })
 }
 
-/// A WHERE clause, which is bound with no set function of the query before it, behind those that there are.
+/// A WHERE clause that was bound with no set function of its query before it, counted after those that there are.
 pub fn count_functions(filter: ClauseResult, before: Counts) -> ClauseResult
     ensures { (b : Binding NumberedClause) → Finds clause_seen b (first before) filter
         → Finds clause_seen (from_first b) before result }

@@ -37,7 +37,6 @@ use sq_lex::Name;
 use sq_tree::{CommaList, Cursor, Query, QuerySpecification, QueryTerm, SortSpecification};
 use std::alloc::Global;
 
-/// What binding a cursor answers.
 pub type CursorResult = Result<BoundCursor, Stop>;
 
 /// A cursor of a module of this user, for the parameters of the procedure that opens it.
@@ -76,8 +75,8 @@ fn cursor_of<T: ChangeableTables>(cursor: &Cursor, at: &Surroundings<'_, T>) -> 
     }
 }
 
-/// The query specification that a cursor's query is, where the cursor may be updatable: there is no UNION, and neither ORDER BY
-/// nor SCROLL nor INSENSITIVE is written.
+/// The query specification of a cursor's query, if the cursor may be updatable. Then there is no UNION, and neither ORDER
+/// BY nor SCROLL nor INSENSITIVE is written.
 fn plain_specification(cursor: &Cursor) -> Option<&QuerySpecification>
     ensures { (own : AnyName) → option_map (λ q. select_of own q.now) result
         ≡ spec.plain_specification cursor.now (query_of own cursor.now.query) }
@@ -89,7 +88,7 @@ fn plain_specification(cursor: &Cursor) -> Option<&QuerySpecification>
     }
 }
 
-/// The query specification that a query expression is, if there is no UNION.
+/// The query specification that is the whole query expression, if there is no UNION.
 #[cycle(sole)]
 fn sole_specification(query: &Query) -> Option<&QuerySpecification>
     ensures { (own : AnyName) → option_map (λ q. select_of own q.now) result
@@ -113,7 +112,7 @@ fn sole_term(term: &QueryTerm) -> Option<&QuerySpecification>
     }
 }
 
-/// A cursor of a query specification alone: it is updatable where that is.
+/// A cursor of a query specification alone: it is updatable if the specification is.
 fn specification_cursor<T: ChangeableTables>(
     cursor: &Cursor,
     query: &QuerySpecification,

@@ -17,11 +17,12 @@ pub trait Cursors {
 
     ghost named: { Self → NamedCursors };
 
-    /// The cursor of this name, where there is one and its query has no fault.
+    /// The cursor of this name, if there is one and its query has no fault.
     fn cursor(&self, name: Name) -> Option<KnownCursor<'_>>
         ensures { option_map named_cursor_of result ≡ named self.now name };
 }
 
+/// The cursor of this name, or the fault `UnknownCursor`.
 pub fn cursor_named<C: Cursors>(cursors: &C, name: Name) -> Result<KnownCursor<'_>, Stop>
     ensures { Binds named_cursor_of (cursor_named (C.named cursors.now) name) result }
 {

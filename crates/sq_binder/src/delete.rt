@@ -20,6 +20,11 @@ use crate::{
 };
 use sq_tree::Delete;
 
+/// Binds a DELETE (ISO/IEC 9075:1992, 13.6 and 13.7) to the rows that it deletes.
+///
+/// It answers the fault of the table's name, or else the first one in the WHERE clause or its
+/// cursor. A privilege that is missing is a finding and not yet a fault. If the tables that may be
+/// changed are over given base tables, so is the bound statement.
 pub fn bind_delete<T: ChangeableTables, C: Cursors>(
     delete: &Delete,
     at: &Surroundings<'_, T>,

@@ -11,8 +11,8 @@ use sq_lex::Number;
 use sq_tree::{DataType, Precision};
 use sq_value::Domain;
 
-/// The domain of a data type (ISO/IEC 9075:1992, 6.1): none where a precision, scale or length is no whole number
-/// written without a point, or out of range.
+/// The domain of a data type (ISO/IEC 9075:1992, 6.1). There is none if a precision, scale or length is out of
+/// range, or no whole number written without a point.
 pub fn domain_of(data_type: &DataType) -> Option<Domain>
     ensures meaning { result ≡ meaning.domain_of data_type.now }
     ensures domain { IfSome result IsDomain }

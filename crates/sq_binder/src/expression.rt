@@ -26,18 +26,18 @@ use sq_tree::{Added, ColumnReference, Expr, Factor, Primary, Scaled, Term};
 use sq_value::Kind;
 use std::alloc::Global;
 
-/// Where a value expression stands.
+/// The surroundings of a value expression.
 #[derive(Clone, Copy)]
 pub struct Standing<'a> {
     pub environment: &'a Environment<'a>,
-    /// Whether set functions may stand here.
+    /// Whether set functions may occur here.
     pub allowed: bool,
     /// Whether a set function is around.
     pub in_function: bool,
 }
 
-/// A value expression in an environment in which set functions may stand or not. So many set functions of the query stand
-/// before it.
+/// A value expression in an environment that allows set functions or not. `before` set functions of the query come before
+/// it.
 pub fn bind_expr(
     expr: &Expr,
     environment: &Environment<'_>,
@@ -56,7 +56,8 @@ pub fn bind_expr(
     expr_value(expr, &at, before)
 }
 
-/// How many set functions of the query stand before what follows a part, where so many stand before that.
+/// The number of the query's set functions up to the end of a part: `before` and the set functions of the part. It is `None`
+/// if that exceeds `usize`.
 pub fn number_behind(before: usize, part: &Bound) -> Option<usize>
     ensures { IfSome result (λ number. number ≡ before + length (bound_of part.now).calls) }
 {
@@ -77,7 +78,7 @@ fn expr_value(expr: &Expr, at: &Standing<'_>, before: usize) -> ExprResult
     Ok(sum)
 }
 
-/// A sum with a further term behind it.
+/// A sum with a further term after it.
 #[cycle(exprs)]
 fn with_term(left: Bound, added: &Added, at: &Standing<'_>, before: usize) -> ExprResult
     ensures { Binds bound_of (sum_step at.now before (bound_of left) (added_of added.now)) result }
@@ -109,7 +110,7 @@ fn term_value(term: &Term, at: &Standing<'_>, before: usize) -> ExprResult
     Ok(product)
 }
 
-/// A product with a further factor behind it.
+/// A product with a further factor after it.
 #[cycle(exprs)]
 fn with_factor(left: Bound, scaled: &Scaled, at: &Standing<'_>, before: usize) -> ExprResult
     ensures { Binds bound_of (product_step at.now before (bound_of left) (scaled_of scaled.now)) result }
@@ -168,7 +169,7 @@ fn primary_value(primary: &Primary, at: &Standing<'_>, before: usize) -> ExprRes
 }
 
 impl<'a> Standing<'a> {
-    /// The operand of a set function, where no further one may stand.
+    /// The surroundings of a set function's operand, in which no further set function may occur.
     fn inside(&self) -> Standing<'a>
         ensures { result
             ≡ record { environment = self.now.environment; allowed = false; in_function = true } }
@@ -201,7 +202,7 @@ fn column_value(at: &Standing<'_>, reference: &ColumnReference) -> ExprResult
     column_allowed(at.environment.alloc, at.in_function, &found)
 }
 
-/// A column, where it may stand. In a grouped query around, only a grouping column may, or one in a set function.
+/// A column, if it may occur here. Of a grouped query around, only a grouping column may, or a column in a set function.
 fn column_allowed(alloc: Global, in_function: bool, found: &FoundColumn) -> ExprResult
     ensures { Binds bound_of (spec.column_allowed in_function (found_of found.now)) result }
 {
@@ -211,7 +212,7 @@ fn column_allowed(alloc: Global, in_function: bool, found: &FoundColumn) -> Expr
     column_bound(alloc, found)
 }
 
-/// Whether it is a column of a query around that may not stand here.
+/// Whether it is a column of a query around that may not occur here.
 fn is_ungrouped(in_function: bool, found: &FoundColumn) -> bool
     ensures { result ≡ (nat_lt 0 found.now.depth && not found.now.is_grouped && not in_function) }
 {

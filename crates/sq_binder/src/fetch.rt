@@ -14,6 +14,8 @@ use sq_bound::{BoundFetch, ParameterDesc};
 use sq_tree::Fetch;
 use std::alloc::Global;
 
+/// Binds a FETCH (ISO/IEC 9075:1992, 13.3). It answers the first fault of the cursor's name, the
+/// orientation and the targets, in this order.
 pub fn bind_fetch<C: Cursors>(
     alloc: Global,
     fetch: &Fetch,

@@ -1,4 +1,4 @@
-//! What binding finds out about a part of a text besides its tree.
+//! The findings of binding in a part of a text besides its tree.
 
 ghost use Rattle.std.specs.Prelude.{◌≡◌, Ok};
 ghost use Rattle.sq_binding.specs.Expression as spec;
@@ -14,7 +14,7 @@ use crate::stop::Stop;
 /// No FROM clause has more items (own rule).
 pub const MOST_ITEMS: usize = 16;
 
-/// What is found in a part.
+/// The findings in a part.
 #[derive(Clone, Copy)]
 pub struct Findings {
     /// How many items of the FROM clause, from the left, hold all columns that are read.
@@ -27,7 +27,7 @@ pub struct Findings {
     pub reads_outermost: bool,
     /// Whether evaluation may answer a status.
     pub can_fail: bool,
-    /// Whether a column of this query that is no grouping column stands outside set functions.
+    /// Whether a column of this query that is no grouping column occurs outside set functions.
     pub has_ungrouped: bool,
     /// Whether USER is read.
     pub has_user: bool,
@@ -45,7 +45,7 @@ impl Findings {
         has_user: false,
     };
 
-    /// What is found in two parts.
+    /// The findings in two parts.
     pub fn and(self, other: Findings) -> Findings
         ensures { findings_of result ≡ findings.both (findings_of self) (findings_of other) }
     {
@@ -60,7 +60,7 @@ impl Findings {
         }
     }
 
-    /// What is found in a part whose evaluation may answer a status.
+    /// The findings in a part whose evaluation may answer a status.
     pub fn failing(self) -> Findings
         ensures { findings_of result ≡ findings.failing (findings_of self) }
     {
@@ -70,7 +70,7 @@ impl Findings {
         }
     }
 
-    /// What is found in a subquery, seen from the query around it.
+    /// The findings in a subquery, seen from the query around it.
     pub fn of_subquery(self) -> Findings
         ensures { findings_of result ≡ values_of_subquery (findings_of self) }
     {
@@ -84,7 +84,7 @@ impl Findings {
     }
 }
 
-/// What is found in a column reference.
+/// The findings in a column reference.
 pub fn column_findings(found: &FoundColumn) -> Result<Findings, Stop>
     ensures { Binds findings_of (Ok (spec.column_findings (found_of found.now))) result }
 {
@@ -102,7 +102,7 @@ pub fn column_findings(found: &FoundColumn) -> Result<Findings, Stop>
     })
 }
 
-/// A number of items, where the column is so many queries further out, and else 0.
+/// A number of items if the column is so many queries further out, and else 0.
 fn if_at(at: usize, depth: usize, items: usize) -> usize
     ensures { result ≡ spec.if_at at depth items }
 {

@@ -1,4 +1,4 @@
-//! Parts of a query that are bound one behind the other. Each brings along what it adds to its query.
+//! Parts of a query that are bound one after the other. Each brings along its additions to the query.
 
 ghost use Rattle.std.specs.Prelude.{◌≡◌, ◌++◌, ◌∷◌, [], IfOk, Ok};
 ghost use Rattle.sq_binding.specs.Found.{joined as both_joined};
@@ -12,22 +12,22 @@ use sq_bound::SetFunctionCall;
 use sq_items::Items;
 use std::alloc::{AllocError, Global};
 
-/// How many set functions of the query stand before a part, and the number of the next subquery of the statement.
+/// The number of the query's set functions before a part, and the number of the next subquery of the statement.
 #[derive(Clone, Copy)]
 pub struct Counts {
     pub functions: usize,
     pub subqueries: usize,
 }
 
-/// What a part brings along.
+/// The additions of a part to its query.
 #[derive(Drop)]
 pub struct Brought {
-    /// The set functions that it adds to those of its query, in the order of the text.
+    /// The set functions that it adds to its query, in the order of the text.
     pub calls: Items<SetFunctionCall>,
     /// Whether computing one of those may answer a status.
     pub calls_can_fail: bool,
     pub findings: QueryFindings,
-    /// The counts behind the part.
+    /// The counts after the part.
     pub next: Counts,
 }
 
@@ -39,7 +39,7 @@ pub struct Found<T> {
 }
 
 impl Brought {
-    /// What this part and the next one bring along.
+    /// The additions of this part and the next one.
     pub fn and(self, next: Brought) -> Result<Brought, AllocError>
         ensures { IfOk result (λ all. (brought_of all ≡ both_joined (brought_of self) (brought_of next))
             × (all.next ≡ next.next)) }
@@ -54,7 +54,7 @@ impl Brought {
         })
     }
 
-    /// What a part whose evaluation may answer a status brings along.
+    /// The additions of a part whose evaluation may answer a status.
     pub fn failing(self) -> Brought
         ensures { (brought_of result ≡ failing (brought_of self)) × (result.next ≡ self.next) }
     {
@@ -64,7 +64,7 @@ impl Brought {
         }
     }
 
-    /// What a subquery brings along, seen from the query around it.
+    /// The additions of a subquery, seen from the query around it.
     pub fn of_subquery(self) -> Brought
         ensures { (brought_of result ≡ outward (brought_of self)) × (result.next ≡ self.next) }
     {
@@ -90,7 +90,7 @@ pub fn bring_nothing<T>(alloc: Global, part: T, before: Counts) -> Found<T>
     }
 }
 
-/// A part and the one behind it.
+/// A part and the one after it.
 pub fn pair_parts<A: Drop, B: Drop>(
     left: Found<A>,
     right: Result<Found<B>, Stop>,

@@ -34,7 +34,6 @@ pub struct FromClause {
     pub items: Items<FromItem>,
 }
 
-/// What binding a FROM clause answers.
 pub type FromResult = Result<Found<FromClause>, Stop>;
 
 /// The items of a FROM clause, each exposed by a name of its own.
@@ -192,7 +191,7 @@ pub fn correlation_of(reference: &TableReference) -> Option<Name>
     }
 }
 
-/// What is found in an item over a table.
+/// The findings in an item over a table.
 fn table_findings(table: &NamedTable<'_>) -> QueryFindings
     ensures { query_findings_of result ≡ spec.table_findings (named_table_of table.now) }
 {

@@ -26,12 +26,17 @@ use sq_items::Items;
 use sq_tree::Insert;
 use std::alloc::{AllocError, Global};
 
-/// What binding an insert statement answers.
 pub type InsertResult = Result<Found<BoundInsert>, Stop>;
 
-/// The columns that get values, and where the values come from.
+/// The columns that get values, and the source of the values.
 type Parts = Found<(Items<Receiver>, InsertedRows)>;
 
+/// Binds an INSERT (ISO/IEC 9075:1992, 13.8) to the columns that get values and the source of the
+/// values.
+///
+/// It answers the fault of the table's name, or else the first one in the columns and the source. A
+/// privilege that is missing is a finding and not yet a fault. If the tables that may be changed
+/// are over given base tables, so is the bound statement.
 pub fn bind_insert<T: ChangeableTables>(
     insert: &Insert,
     at: &Surroundings<'_, T>,

@@ -69,7 +69,7 @@ fn with_target(
     }
 }
 
-/// A parameter whose kind agrees with that of its column.
+/// A parameter whose kind agrees with the kind of its column.
 fn target_of(target: &Parameter, kind: Kind, parameters: &[ParameterDesc]) -> Result<Output, Stop>
     ensures { Binds output_seen
         (target_bound (map declared_of parameters.now) (target.now, kind)) result }
@@ -86,7 +86,7 @@ fn target_of(target: &Parameter, kind: Kind, parameters: &[ParameterDesc]) -> Re
     }
 }
 
-/// The targets with a further one, where it sets no parameter again.
+/// The targets and a further one, if it sets no parameter again.
 fn with_output(
     outputs: Items<Output>,
     output: Output,
@@ -115,7 +115,7 @@ fn set_again(outputs: &[Output], target: &Parameter, output: Output) -> Option<N
     None
 }
 
-/// The name of a target's indicator, or of the target where it has none.
+/// The name of a target's indicator, or of the target if it has none.
 fn indicator_name(target: &Parameter) -> Name {
     match target.indicator {
         Some(indicator) => indicator.name,

@@ -1,12 +1,14 @@
-//! Binding: what the names of a text mean, and what its value expressions, search conditions, query expressions, cursors, views,
-//! conditions of CHECK and statements become (ISO/IEC 9075:1992, 5.3, 6.1 to 6.5, 6.11 to 6.13, 7.3 to 7.11, clause 8, 11.9, 11.19,
-//! 13.1 to 13.10, 14.3 and 14.4).
+//! Binding: the meanings of the names in a text, and the bound forms of its parts. The parts are value expressions, search
+//! conditions, query expressions, cursors, views, conditions of CHECK and statements (ISO/IEC 9075:1992, 5.3, 6.1 to 6.5, 6.11 to
+//! 6.13, 7.3 to 7.11, clause 8, 11.9, 11.19, 13.1 to 13.10, 14.3 and 14.4).
 //!
-//! Each function has one clause: `Binds image definition result` says that it answers what the definition of `sq_binding`
-//! computes, the fault included, or that memory ran out. `Finds` says it of a part of a query, after the set functions and
-//! subqueries before it. An image is what the definitions see of a value here: a bound tree without what is known of its kinds,
-//! of the base table under a table all but its place, the key by which a condition names a row, and the columns that are kept
-//! with a query. A second clause says these.
+//! Each function has one clause: `Binds image definition result` says that it answers what the definition of `sq_binding` computes,
+//! the fault included, or that memory ran out. `Finds` says it of a part of a query, after the set functions and subqueries before
+//! it.
+//!
+//! An image is the part of a value here that the definitions see. It leaves out what is known of the kinds in a bound tree, and all
+//! but the place of the base table under a table. It also leaves out the key by which a condition names a row, and the columns that
+//! are kept with a query. A second clause says these.
 #![tactic(auto)]
 
 mod assignment;

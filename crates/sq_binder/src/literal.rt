@@ -16,6 +16,7 @@ use sq_lex::{Characters, Number};
 use sq_value::{Decimal, Kind, Text, Value};
 use std::alloc::{AllocError, Global};
 
+/// The bound literal of a number.
 #[tactic(auto, using(crate::proofs::Expressions::Images::images))]
 pub fn number_literal(alloc: Global, number: Number) -> Bound
     ensures { spec.literal_bound (value.Num (spelled_number number)) ≡ Ok (bound_of result) }
@@ -29,6 +30,7 @@ pub fn number_literal(alloc: Global, number: Number) -> Bound
     )
 }
 
+/// The bound literal of a text.
 #[tactic(auto, using(crate::proofs::Expressions::Images::images))]
 pub fn text_literal(alloc: Global, characters: &Characters) -> ExprResult
     ensures { Binds bound_of (spec.literal_bound (value.Chars characters.now)) result }

@@ -10,7 +10,7 @@ use sq_tree::{Sign, SignedNumber};
 use sq_value::{Decimal, Text, Value};
 use std::alloc::{AllocError, Global};
 
-/// The number of an unsigned numeric literal (ISO/IEC 9075:1992, 5.3). Each spelling is that of a number.
+/// The number of an unsigned numeric literal (ISO/IEC 9075:1992, 5.3). Each spelling has a number.
 #[tactic(auto, using(crate::proofs::Expressions::Literals::number_is_read))]
 pub fn number_value(number: Number) -> Decimal
     ensures { read number ≡ Ok result }

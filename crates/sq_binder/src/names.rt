@@ -1,4 +1,4 @@
-//! What a user's texts may change.
+//! The tables that a user's texts may change.
 
 use crate::Tables;
 use crate::under::UnderTable;
@@ -21,7 +21,7 @@ pub trait ChangeableTables: Tables {
 
     ghost changes: { Self → Changes };
 
-    /// What is under the table of this owner and name, if it may be changed.
+    /// The rows and columns under the table of this owner and name, if it may be changed.
     fn beneath(&self, user: Name, name: Name) -> Option<UnderTable<'_>>
         ensures { option_map beneath_of result ≡ (changes self.now).beneath
             (record { user = user; name = name }) };

@@ -7,7 +7,7 @@ ghost use Rattle.sq_binder.specs.Needed.{Permits, reading, requiring};
 
 use crate::{Brought, Found, QueryFindings, Stop, take_permitted};
 
-/// What is found where a privilege is needed.
+/// The findings in a part that needs a privilege.
 fn need_privilege(is_held: bool) -> QueryFindings
     ensures { query_findings_of result ≡ needed is_held }
 {
@@ -17,7 +17,7 @@ fn need_privilege(is_held: bool) -> QueryFindings
     }
 }
 
-/// What a part that needs a privilege brings along.
+/// The additions of a part that needs a privilege.
 pub fn require_privilege(brought: Brought, is_held: bool) -> Brought
     ensures { (brought_of result ≡ requiring is_held (brought_of brought)) × (result.next ≡ brought.next) }
 {
@@ -27,7 +27,7 @@ pub fn require_privilege(brought: Brought, is_held: bool) -> Brought
     }
 }
 
-/// What a part that needs SELECT if it reads a column of the table that is changed brings along (own rule).
+/// The additions of a part that needs SELECT if it reads a column of the table that is changed (own rule).
 pub fn require_select_if_read(brought: Brought, may_select: bool) -> Brought
     ensures { (brought_of result ≡ reading may_select (brought_of brought)) × (result.next ≡ brought.next) }
 {
@@ -35,7 +35,7 @@ pub fn require_select_if_read(brought: Brought, may_select: bool) -> Brought
     require_privilege(brought, !reads || may_select)
 }
 
-/// What is bound by itself, if no privilege is missing.
+/// A part that is bound by itself, if no privilege is missing.
 pub fn take_whole<T: Drop>(found: Result<Found<T>, Stop>) -> Result<T, Stop>
     ensures { Permits found result }
 {

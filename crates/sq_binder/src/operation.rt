@@ -18,6 +18,7 @@ use sq_tree::{Sign, TimesSign};
 use sq_value::Kind;
 use std::alloc::{AllocError, Global};
 
+/// The operator of a sign between two terms.
 pub fn sum_operator(sign: Sign) -> Operator
     ensures { result ≡ spec.sum_operator sign }
 {
@@ -27,6 +28,7 @@ pub fn sum_operator(sign: Sign) -> Operator
     }
 }
 
+/// The operator of a sign between two factors.
 pub fn product_operator(sign: TimesSign) -> Operator
     ensures { result ≡ spec.product_operator sign }
 {
@@ -112,7 +114,7 @@ fn operands(alloc: Global, operator: Operator, left: Bound, right: Bound, kind: 
     }
 }
 
-/// The expression with a further operation behind it.
+/// The expression with a further operation after it.
 #[tactic(auto, using(crate::proofs::Expressions::Operations::operation_behind))]
 fn with_operation(
     alloc: Global,
@@ -137,7 +139,7 @@ fn with_operation(
     }
 }
 
-/// An operand with its first operation behind it.
+/// An operand with its first operation after it.
 #[tactic(auto, using(crate::proofs::Expressions::Operations::operation_first))]
 fn begin_operation(
     alloc: Global,
@@ -166,7 +168,7 @@ fn begin_operation(
     }
 }
 
-/// Two lists one behind the other.
+/// Two lists, one after the other.
 pub fn join_lists<T: Drop>(left: Items<T>, right: Items<T>) -> Result<Items<T>, AllocError>
     ensures { IfOk result (λ all. all ≡ left ++ right) }
 {

@@ -18,7 +18,6 @@ use sq_meaning::BindingFault;
 use sq_tree::{CommaList, SortDirection, SortKey, SortSpecification};
 use std::alloc::Global;
 
-/// What binding ORDER BY answers.
 pub type OrderResult = Result<Items<SortColumn>, Stop>;
 
 /// The columns that ORDER BY names among these, if it is written.

@@ -19,7 +19,6 @@ use sq_items::{Boxed, Items};
 use sq_tree::{CommaList, Comparison, Expr};
 use sq_value::Kind;
 
-/// What binding a predicate answers.
 pub type PredicateResult = Result<Found<Predicate>, Stop>;
 
 /// `left op right` (8.2).

@@ -22,12 +22,12 @@ use sq_items::{Boxed, Items};
 use sq_tree::{Query, QueryTerm};
 use std::alloc::{AllocError, Global};
 
-/// What binding a query expression answers.
 pub type QueryResult = Result<Found<BoundQuery>, Stop>;
 
-/// What binding a query term answers.
 type TermResult = Result<Found<BoundTerm>, Stop>;
 
+/// A query expression (ISO/IEC 9075:1992, 7.10): its tree with its columns, and its additions to
+/// the query around it. Or its first fault.
 #[cycle(queries)]
 pub fn bind_query<T: Tables>(query: &Query, at: &Surroundings<'_, T>, before: Counts) -> QueryResult
     ensures finds { Finds query_seen (spec.query_bound (surroundings T.named at.now)
@@ -125,6 +125,7 @@ fn start_query(alloc: Global, term: TermResult) -> QueryResult
     }
 }
 
+/// The query expression of one term, with the term's columns.
 pub fn of_term(alloc: Global, term: BoundTerm) -> Result<BoundQuery, AllocError>
     requires { TermHasColumns term }
     ensures { IfOk result (λ query. (query_seen query ≡ term_seen term) × HaveTheirColumns query) }

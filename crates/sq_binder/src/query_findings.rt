@@ -1,4 +1,4 @@
-//! What binding finds out about a part of a query besides its tree (ISO/IEC 9075:1992, 4.26, 6.3, 6.4 and 7.11).
+//! The findings of binding in a part of a query besides its tree (ISO/IEC 9075:1992, 4.26, 6.3, 6.4 and 7.11).
 
 ghost use Rattle.std.specs.Prelude.{◌≡◌};
 ghost use Rattle.sq_binding.specs.QueryFindings as spec;
@@ -7,10 +7,10 @@ ghost use Rattle.sq_binder.specs.Found.{query_findings_of, with_can_fail};
 
 use crate::findings::Findings;
 
-/// What is found in a part of a query.
+/// The findings in a part of a query.
 #[derive(Clone, Copy)]
 pub struct QueryFindings {
-    /// What is found in its value expressions.
+    /// The findings in its value expressions.
     pub values: Findings,
     pub has_subquery: bool,
     /// Whether SELECT is not held on a table that is read.
@@ -28,7 +28,7 @@ impl QueryFindings {
         lacks_grant_option: false,
     };
 
-    /// What is found in value expressions alone.
+    /// The findings in value expressions alone.
     pub fn of_values(values: Findings) -> QueryFindings
         ensures { query_findings_of result ≡ spec.of_values (findings_of values) }
     {
@@ -38,7 +38,7 @@ impl QueryFindings {
         }
     }
 
-    /// What is found in two parts.
+    /// The findings in two parts.
     pub fn and(self, other: QueryFindings) -> QueryFindings
         ensures { query_findings_of result ≡ spec.both (query_findings_of self) (query_findings_of other) }
     {
@@ -50,7 +50,7 @@ impl QueryFindings {
         }
     }
 
-    /// What is found in a part whose evaluation may answer a status.
+    /// The findings in a part whose evaluation may answer a status.
     #[tactic(auto, using(crate::proofs::OneByOne::Behind::with_a_status))]
     pub fn failing(self) -> QueryFindings
         ensures { query_findings_of result ≡ spec.both (query_findings_of self) spec.a_status }
@@ -61,7 +61,7 @@ impl QueryFindings {
         }
     }
 
-    /// What is found in a part of which it is known whether its evaluation may answer a status.
+    /// The findings in a part, with the knowledge whether its evaluation may answer a status.
     pub fn with_can_fail(self, can_fail: bool) -> QueryFindings
         ensures { query_findings_of result ≡ with_can_fail can_fail (query_findings_of self) }
     {
@@ -74,7 +74,7 @@ impl QueryFindings {
         }
     }
 
-    /// What is found in a subquery, seen from the query around it.
+    /// The findings in a subquery, seen from the query around it.
     pub fn of_subquery(self) -> QueryFindings
         ensures { query_findings_of result ≡ spec.of_subquery (query_findings_of self) }
     {

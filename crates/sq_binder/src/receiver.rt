@@ -107,7 +107,7 @@ fn listed_receivers(
     Ok(receivers)
 }
 
-/// Whether a name is among those before the one of this number behind the first.
+/// Whether the first name, or one of the `number` after it, is this name.
 fn is_named(list: &CommaList<Name>, number: usize, name: Name) -> bool
     requires { number ≤ length list.now.rest }
     ensures { result ≡ list_any (λ other. same_name other name)

@@ -12,9 +12,10 @@ use sq_bound::{BoundSelect, BoundSpecification, Output};
 use sq_items::Items;
 use sq_tree::Select;
 
-/// What binding a select statement of one row answers.
 pub type RowResult = Result<Found<BoundSelect>, Stop>;
 
+/// Binds a select statement of one row (ISO/IEC 9075:1992, 13.5). It answers the first fault of its
+/// query specification, or else of its targets.
 pub fn bind_row<T: Tables>(select: &Select, at: &Surroundings<'_, T>, before: Counts) -> RowResult
     ensures { Finds row_seen (row_in at.now.environment.now.user (surroundings T.named at.now) select.now)
         before result }

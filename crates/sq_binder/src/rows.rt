@@ -21,9 +21,14 @@ use sq_meaning::BindingFault;
 use sq_tree::Where;
 use std::alloc::Global;
 
-/// What binding the rows of a statement answers.
 pub type RowsResult = Result<Found<ChangeTarget>, Stop>;
 
+/// The rows that an UPDATE or DELETE changes (ISO/IEC 9075:1992, 13.6, 13.7, 13.9 and 13.10).
+/// They are the row that a cursor is on, the rows that meet a condition, or all rows of the
+/// table.
+///
+/// It answers the first fault of the condition, or else `UnknownCursor` if the name means no
+/// cursor. It answers `NotUpdatable` if the cursor is not updatable or is over another table.
 pub fn bind_rows<T: ChangeableTables, C: Cursors>(
     target: &Option<Where>,
     table: &ChangedTable<'_>,

@@ -1,4 +1,4 @@
-//! What column references mean: FROM items in scopes, the nearest first (ISO/IEC 9075:1992, 6.3 and 6.4).
+//! The meanings of column references: FROM items in scopes, the nearest first (ISO/IEC 9075:1992, 6.3 and 6.4).
 
 ghost use Rattle.std.specs.Prelude.{◌≡◌, ◌∷◌, [], Ok, map};
 ghost use Rattle.std.specs.List.{list_any, position};
@@ -18,7 +18,7 @@ use sq_meaning::BindingFault;
 use sq_tree::{ColumnReference, TableName};
 use std::alloc::Global;
 
-/// An item of a FROM clause, and where its table stands.
+/// An item of a FROM clause, and the place of its table.
 #[derive(Drop)]
 pub struct FromItem {
     pub place: TablePlace,
@@ -33,12 +33,12 @@ pub struct FromItem {
 #[derive(Clone, Copy)]
 pub struct Scope<'a> {
     pub items: &'a [FromItem],
-    /// Where other columns of this query may not stand outside set functions, its grouping columns.
+    /// The grouping columns, if other columns of this query may not occur outside set functions.
     pub grouping: Option<&'a [Place]>,
     pub outer: Option<&'a Scope<'a>>,
 }
 
-/// Where a text stands: the user, the parameters, and the scope of the nearest query around it.
+/// The environment of a text: the user, the parameters, and the scope of the nearest query around it.
 #[derive(Clone, Copy)]
 pub struct Environment<'a> {
     pub alloc: Global,
@@ -55,7 +55,7 @@ fn position_of(columns: &[ItemColumn], name: Name) -> Option<usize>
 }
 
 impl FromItem {
-    /// Whether the qualifier names the item: by its correlation name or, where it has none, by its table's name, with or
+    /// Whether the qualifier names the item: by its correlation name or, if it has none, by its table's name, with or
     /// without the owner.
     fn is_named(&self, qualifier: Option<TableName>) -> bool
         ensures { result ≡ names_item qualifier (spec.item_named (item_of self.now)) }
@@ -85,7 +85,7 @@ impl FromItem {
 }
 
 impl Scope<'_> {
-    /// The only item that a reference fits, and its column there, by their numbers, where it fits one.
+    /// The numbers of the only item that a reference fits, and of its column there, if it fits one.
     fn only_fit(&self, reference: &ColumnReference) -> Result<Option<(usize, usize)>, Stop>
         ensures { Binds (λ fit. fit) (only (spec.fits reference.now (scope_of self.now))) result }
     {
@@ -109,7 +109,7 @@ impl Scope<'_> {
         }
     }
 
-    /// Whether the column is among the grouping columns, where there are such.
+    /// Whether the column is among the grouping columns, if there are any.
     #[tactic(auto, using(crate::proofs::OneByOne::Positions::seen))]
     fn is_grouped(&self, item: usize, column: usize) -> bool
         ensures { result ≡ spec.is_grouped (scope_of self.now).grouping item column }
@@ -179,7 +179,7 @@ fn further_out(found: FoundColumn) -> Result<FoundColumn, Stop>
     }
 }
 
-/// Whether the column is among those of its own query.
+/// Whether the column is among the places in its own query.
 fn is_among(places: &[Place], item: usize, column: usize) -> bool
     ensures { result ≡ list_any (λ place. spec.is_here item column (place_meant place)) places.now }
 {

@@ -33,10 +33,9 @@ pub struct SelectedList {
     pub columns: Items<ResultColumn>,
 }
 
-/// What binding a select list answers.
 pub type ListResult = Result<Found<SelectedList>, Stop>;
 
-/// A select list. `*` stands for all columns of all items.
+/// A select list. `*` means all columns of all items.
 pub fn select_list<T: Tables>(
     list: &SelectList,
     items: &[FromItem],
@@ -88,7 +87,7 @@ fn all_columns(alloc: Global, items: &[FromItem]) -> Result<SelectedList, AllocE
     Ok(list)
 }
 
-/// The list with all columns of an item behind it.
+/// The list with all columns of an item after it.
 fn with_item(
     list: SelectedList,
     number: usize,

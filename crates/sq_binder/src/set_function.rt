@@ -116,15 +116,15 @@ fn make_call(
     }
 }
 
-/// Whether no set function may stand here, or its operand reads a column of a query around.
+/// Whether no set function may occur here, or its operand reads a column of a query around.
 fn is_misplaced(allowed: bool, operand: Findings) -> bool
     ensures { result ≡ (not allowed || nat_lt 0 operand.reach) }
 {
     !allowed || operand.reach > 0
 }
 
-/// Whether a set function may answer a status, where its operand may or may not: unless its value is one of those that it
-/// is over, it may be out of range.
+/// Whether a set function may answer a status. It may if its operand may. It may also be out of range, unless its value
+/// is one of the values that it is over.
 fn call_can_fail(function: SetFunction, operand_can_fail: bool) -> bool
     ensures { result ≡ (operand_can_fail || not (is_extreme function)) }
 {

@@ -1,4 +1,4 @@
-//! Where inserted values come from (ISO/IEC 9075:1992, 13.8).
+//! The source of inserted values (ISO/IEC 9075:1992, 13.8).
 
 ghost use Rattle.std.specs.Prelude.{◌≡◌, ◌∷◌, IfOk, length, map};
 ghost use Rattle.std.specs.List.{AllByRecursion, list_all, zip};
@@ -26,10 +26,9 @@ use sq_items::Items;
 use sq_meaning::BindingFault;
 use sq_tree::{CommaList, InsertSource, NewValue};
 
-/// What binding the source of an insert statement answers.
 pub type SourceResult = Result<Found<InsertedRows>, Stop>;
 
-/// As many values, or columns of a query, as there are columns that get them, each of the kind of its column.
+/// As many values, or columns of a query, as columns that get them, each of the kind of its column.
 pub fn bind_source<T: ChangeableTables>(
     source: &InsertSource,
     receivers: &[Receiver],

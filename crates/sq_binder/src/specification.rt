@@ -19,14 +19,14 @@ use sq_items::Items;
 use sq_meaning::BindingFault;
 use std::alloc::Global;
 
-/// What stands behind WHERE: GROUP BY, the select list and HAVING.
+/// The clauses after WHERE: GROUP BY, the select list and HAVING.
 pub type Groups = (Items<Place>, (SelectedList, Option<BoundCond>));
 
-/// What a query specification is made of: FROM, WHERE, and what stands behind them.
+/// The parts of a query specification: FROM, WHERE, and the clauses after them.
 pub type Parts = (FromClause, (Option<BoundCond>, Groups));
 
 impl Counts {
-    /// The counts at the start of a query: none of its set functions stands before.
+    /// The counts at the start of a query, before any of its set functions.
     pub fn first(self) -> Counts
         ensures { result ≡ first self }
     {
@@ -58,7 +58,7 @@ pub fn specification(
     }
 }
 
-/// What may not stand in a query specification of these parts.
+/// The grouping fault of a query specification of these parts, if it has one.
 fn fault_of(is_star: bool, parts: &Found<Parts>) -> Option<BindingFault>
     ensures { let x = found_of parts_seen parts.now in result ≡ grouping_fault is_star
         (is_grouped (groups_found x)) x.findings.values.has_ungrouped }
@@ -159,7 +159,7 @@ fn is_grouped(
     }
 }
 
-/// In a grouped query `*` may not stand, nor, outside set functions, a column that is no grouping column.
+/// In a grouped query `*` may not occur, nor, outside set functions, a column that is no grouping column.
 fn grouping_fault(is_star: bool, is_grouped: bool, has_ungrouped: bool) -> Option<BindingFault>
     ensures { result ≡ grouping_fault is_star is_grouped has_ungrouped }
 {

@@ -24,7 +24,6 @@ use sq_lex::Name;
 use sq_tree::Statement;
 use std::alloc::Global;
 
-/// What binding a statement answers.
 pub type StatementResult = Result<BoundStatement, Stop>;
 
 /// A statement of a procedure of this user with these parameters, in a module with these cursors.

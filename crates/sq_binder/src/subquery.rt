@@ -23,7 +23,6 @@ use sq_tree::{Comparison, Quantifier};
 use sq_value::Kind;
 use std::alloc::Global;
 
-/// What binding a query specification answers.
 pub type SelectResult = Result<Found<BoundSpecification>, Stop>;
 
 /// A query specification as a subquery: with a number, if it reads no column of a query around it.
@@ -111,7 +110,7 @@ fn make_scalar(kind: Kind, query: SelectResult) -> SelectResult
     })
 }
 
-/// An expression and the subquery behind it.
+/// An expression and the subquery after it.
 fn boxed_beside(
     alloc: Global,
     left: Found<Typed>,

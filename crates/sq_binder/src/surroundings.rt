@@ -1,4 +1,4 @@
-//! What surrounds a part of a query, and its value expressions (ISO/IEC 9075:1992, 8.2 to 8.5).
+//! The surroundings of a part of a query, and its value expressions (ISO/IEC 9075:1992, 8.2 to 8.5).
 
 ghost use Rattle.std.specs.Prelude.{◌≡◌, Err, Ok, if◌then◌else◌};
 ghost use Rattle.std.specs.Option.{option_map};
@@ -39,8 +39,8 @@ pub trait Tables {
         ensures { option_map named_table_of result ≡ named self.now (record { user = user; name = name }) };
 }
 
-/// A base table or a view: where its rows are, its columns, and whether the user whose text names it holds SELECT on it, and
-/// with the grant option.
+/// A base table or a view: the place of its rows, and its columns. It says whether the user whose text names it holds
+/// SELECT on it, and with the grant option.
 #[derive(Clone, Copy)]
 pub struct NamedTable<'a> {
     pub place: TablePlace,
@@ -49,21 +49,20 @@ pub struct NamedTable<'a> {
     pub may_grant: bool,
 }
 
-/// What surrounds a part of a query.
+/// The surroundings of a part of a query.
 #[derive(Drop)]
 pub struct Surroundings<'a, T> {
     pub tables: &'a T,
     pub environment: &'a Environment<'a>,
-    /// Whether set functions may stand here.
+    /// Whether set functions may occur here.
     pub functions_allowed: bool,
 }
 
-/// What binding an expression in a query answers.
 pub type TypedResult = Result<Found<Typed>, Stop>;
 
-/// What binding an expression of a known kind in a query answers.
 pub type TreeResult = Result<Found<BoundExpr>, Stop>;
 
+/// A value expression in a query: its tree and its kind, and its additions to the query, or its first fault.
 pub fn value<T: Tables>(expr: &Expr, at: &Surroundings<'_, T>, before: Counts) -> TypedResult
     ensures { Finds typed_of (value (surroundings T.named at.now) (expr_of expr.now)) before result }
 {
@@ -71,6 +70,7 @@ pub fn value<T: Tables>(expr: &Expr, at: &Surroundings<'_, T>, before: Counts) -
     found_value(bound, before)
 }
 
+/// The tree and the kind of a bound value, and its additions to the query.
 fn found_value(bound: Bound, before: Counts) -> TypedResult
     ensures { Finds typed_of (λ counts. Ok (value_found counts (bound_of bound))) before result }
 {
@@ -134,6 +134,7 @@ pub fn bind_agreeing<T: Tables>(
     tree_if(value, agrees)
 }
 
+/// A value that is a text, or else the fault `KindMismatch`.
 pub fn bind_text<T: Tables>(expr: &Expr, at: &Surroundings<'_, T>, before: Counts) -> TreeResult
     ensures { Finds numbered_of (spec.text (surroundings T.named at.now) (expr_of expr.now)) before result }
 {

@@ -29,7 +29,6 @@ use sq_tree::Cond;
 use std::alloc::AllocError;
 use std::slice::from_ref;
 
-/// What binding the rows under a table answers.
 pub type TargetResult = Result<Found<Target>, Stop>;
 
 /// The rows under a table that meet a condition, if one is written.
@@ -51,7 +50,7 @@ pub fn bind_target<T: Tables>(
     found_target(table, condition)
 }
 
-/// A condition on the rows that an item shows, in which no set function may stand.
+/// A condition on the rows that an item shows, in which no set function may occur.
 fn condition_over<'s, T: Tables>(
     cond: Option<&Cond>,
     item: &'s FromItem,

@@ -1,12 +1,12 @@
-//! What is under a table that may be changed.
+//! The rows and columns under a table that may be changed.
 
 ghost use Rattle.std.specs.Prelude.{◌≡◌, ◌||◌, length, nat_eq, nat_lt, not, true};
 ghost use Rattle.std.specs.List.{list_all};
 
 use sq_bound::{Column, Leaf, Shared};
 
-/// What is under a table that may be changed: rows of a base table, and the columns of the table, each with the column of the
-/// base table that it is.
+/// A table that may be changed: the rows of a base table under it, and its columns. Each column comes with the column of
+/// the base table that it is.
 #[derive(Clone, Copy)]
 pub struct UnderTable<'a> {
     pub leaf: &'a Shared<Leaf>,

@@ -31,7 +31,6 @@ use std::alloc::{AllocError, Global};
 /// The owner and the name of the table that an updatable query is over, and the query over the base table.
 pub type Over = ((Name, Name), UpdatableQuery);
 
-/// What is answered of a query specification that may be updatable.
 pub type UpdatableResult = Result<Found<Option<Over>>, Stop>;
 
 /// The updatable query that a bound query specification is, if it is one.
@@ -54,7 +53,7 @@ pub fn bind_updatable<T: ChangeableTables>(
     }
 }
 
-/// The only table of a query whose rows are those of tables, if the table may be changed.
+/// The only table of a query whose rows are rows of tables, if the table may be changed.
 fn only_table<'a, T: ChangeableTables>(
     query: &QuerySpecification,
     bound: &BoundSpecification,
@@ -88,7 +87,7 @@ fn only_one(from: &CommaList<TableReference>) -> Option<&TableReference>
     }
 }
 
-/// Whether each row is one of the tables: there are no DISTINCT and no groups.
+/// Whether each row is a row of the tables: there are no DISTINCT and no groups.
 fn has_plain_rows(bound: &BoundSpecification) -> bool
     ensures { result ≡ spec.has_plain_rows (select_seen bound.now) }
 {
@@ -200,7 +199,7 @@ fn updatable_where(
     }
 }
 
-/// The columns of the base table that a select list shows, where it has columns alone, each once.
+/// The columns of the base table that a select list shows, if it has only columns, each once.
 fn columns_shown(
     alloc: Global,
     list: &SelectList,
@@ -292,7 +291,7 @@ fn column_beneath(under: &UnderTable<'_>, position: usize) -> Option<usize>
     }
 }
 
-/// The columns, if none of them is there twice.
+/// The columns, if none of them occurs twice.
 fn if_distinct(columns: Option<Items<usize>>) -> Option<Items<usize>>
     ensures { result ≡ option_and_then spec.if_distinct columns }
 {

@@ -24,9 +24,14 @@ use sq_bound::{BoundAssignment, BoundUpdate, ChangeTarget};
 use sq_items::Items;
 use sq_tree::Update;
 
-/// What binding an update statement answers.
 pub type UpdateResult = Result<Found<BoundUpdate>, Stop>;
 
+/// Binds an UPDATE (ISO/IEC 9075:1992, 13.9 and 13.10) to its set clauses and the rows that it
+/// changes.
+///
+/// It answers the fault of the table's name, or else the first one of the set clauses, or else of
+/// the rows. A privilege that is missing is a finding and not yet a fault. If the tables that may
+/// be changed are over given base tables, so is the bound statement.
 pub fn bind_update<T: ChangeableTables, C: Cursors>(
     update: &Update,
     at: &Surroundings<'_, T>,

@@ -21,7 +21,7 @@ use sq_lex::Name;
 use sq_tree::QuerySpecification;
 use std::alloc::Global;
 
-/// The query of a view, and what it is over where it is updatable.
+/// The query of a view, and its base table if it is updatable.
 #[derive(Drop)]
 pub struct BoundView {
     pub query: BoundSpecification,
@@ -32,7 +32,6 @@ pub struct BoundView {
     pub may_grant_select: bool,
 }
 
-/// What binding a view answers.
 pub type ViewResult = Result<BoundView, Stop>;
 
 /// The query of a view of this user. A missing privilege is no fault of it.

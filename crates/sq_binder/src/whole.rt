@@ -1,5 +1,5 @@
-//! What is bound by itself, in no query: its subqueries are numbered from 0, and a missing privilege is a fault where there is no
-//! other.
+//! Parts that are bound by themselves, in no query. Their subqueries are numbered from 0, and a missing privilege is a fault if
+//! there is no other.
 
 ghost use Rattle.std.specs.Prelude.{◌≡◌, Err, Ok, if◌then◌else◌};
 ghost use Rattle.sq_meaning.specs.declared.fault.BindingFault.TheVariants.{PrivilegeMissing};
@@ -8,7 +8,7 @@ ghost use Rattle.sq_binder.specs.Binds.{broken};
 use crate::{Counts, Found, Stop};
 use sq_meaning::BindingFault;
 
-/// The counts at the start of a text: no set function and no subquery stands before.
+/// The counts at the start of a text, before any set function and subquery.
 pub fn at_first() -> Counts
     ensures { result ≡ record { functions = 0; subqueries = 0 } }
 {
@@ -18,7 +18,7 @@ pub fn at_first() -> Counts
     }
 }
 
-/// The part, where no privilege is missing.
+/// The part, if no privilege is missing.
 pub fn take_permitted<T: Drop>(found: Found<T>) -> Result<T, Stop>
     ensures { result ≡ (if found.brought.findings.lacks_privilege
         then Err (broken PrivilegeMissing)

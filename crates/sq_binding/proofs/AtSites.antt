@@ -1,4 +1,5 @@
--- What is found in a query exactly where it is asked of one of its sites.
+-- Findings in a query that are made exactly if they are asked of one of its
+-- sites.
 pub mod ColumnsSeen
 pub mod Outermost
 pub mod Privileges

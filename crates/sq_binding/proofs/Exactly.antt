@@ -1,4 +1,4 @@
--- Queries and statements are bound exactly where the rules find no fault in them.
+-- Queries and statements are bound exactly if the rules find no fault in them.
 pub mod Accepted
 pub mod Accepts
 pub mod Apart

@@ -1,4 +1,4 @@
--- What is bound breaks no rule at its sites.
+-- A bound text breaks no rule at its sites.
 pub mod Clean
 pub mod CleanBound
 pub mod CleanConds

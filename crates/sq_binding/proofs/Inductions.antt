@@ -1,4 +1,5 @@
--- What holds of parts that are bound one after the other, and of each expression, condition and query, case by case.
+-- Inductions over parts that are bound one after the other, and over each expression, condition and query, case by
+-- case.
 pub mod AnyDepth
 pub mod BoundCases
 pub mod Cases

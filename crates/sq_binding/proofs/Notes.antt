@@ -1,4 +1,4 @@
--- What is noted of bound parts is so: statuses, columns further out, groups, numbers of subqueries, privileges.
+-- The notes on bound parts are true: statuses, columns further out, groups, numbers of subqueries, privileges.
 pub mod ColumnNames
 pub mod GroupsNoted
 pub mod Noted

@@ -1,4 +1,4 @@
--- A text is bound to what it becomes where its names are placed.
+-- A text is bound to the same text with its names placed.
 pub mod MoreKnown
 pub mod Placed
 pub mod PlacedChange

@@ -1,4 +1,5 @@
--- CREATE VIEW: what it makes, what its view shows, and what its owner is granted.
+-- CREATE VIEW: the view that it makes, the columns that the view shows, and the
+-- privileges that its owner gets.
 pub mod BoundViews
 pub mod CreatedViews
 pub mod ViewAdded

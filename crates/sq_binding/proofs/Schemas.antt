@@ -1,4 +1,4 @@
--- Schema texts are accepted exactly where the rules refuse nothing, and make the catalog of their elements.
+-- Schema texts are accepted exactly if the rules refuse nothing, and make the catalog of their elements.
 pub mod Answers
 pub mod BoundReferences
 pub mod Catalogs

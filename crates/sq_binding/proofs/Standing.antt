@@ -1,4 +1,5 @@
--- What is bound is well formed at the levels of its scopes, and means what the definitions see of it.
+-- A bound tree is well formed at the levels of its scopes, and means the same as the part of it that
+-- the definitions see.
 pub mod BoundLaws
 pub mod CondsStand
 pub mod ExprsStand

@@ -1,5 +1,5 @@
--- A catalog: the base tables and the views of schema elements, each at its place, and the privileges that are granted (ISO/IEC 9075:1992,
--- 4.9, 4.26 and 11.1).
+-- A catalog: the base tables and the views of schema elements, each at its place, and the granted privileges (ISO/IEC 9075:1992, 4.9,
+-- 4.26 and 11.1).
 use Rattle.std.specs.Prelude.{ℕ, ◌+◌, Bool, true, false, ◌&&◌, ◌||◌, if◌then◌else◌, List, [], ◌∷◌, ◌++◌, find, fold, map, length, Option, Some, None}
 use Rattle.std.specs.List.{list_any}
 use Rattle.std.specs.Option.{option_and_then, option_map, option_or}
@@ -28,8 +28,8 @@ pub record DeclaredColumn : Type 0 where
   pub not_null : Bool
   pub default : ColumnDefault
 
--- A base table: its place in the database, its columns, the positions of the columns of each key, which key is the primary one, its
--- references, each by the key that it is to, and the conditions of CHECK.
+-- A base table: its place in the database, its columns, the positions of the columns of each key, and the number of the primary key. Then
+-- its references, each by the key that it is to, and the conditions of CHECK.
 pub record DeclaredBase : Type 0 where
   pub name : TableName
   pub place : ℕ
@@ -39,15 +39,15 @@ pub record DeclaredBase : Type 0 where
   pub references : List Reference
   pub checks : List NumberedCond
 
--- What is under a table that may be changed: a base table, by its place; the conditions of the views in between, from inside out, and how
--- many of them new and changed rows have to meet; and for each column of the table the column of the base table that it is.
+-- The base table under a table that may be changed, by its place. Then the conditions of the views in between, from inside out, and the
+-- number of them that new and changed rows have to meet. For each column of the table, the column of the base table that it is.
 pub record DeclaredUnder : Type 0 where
   pub base : ℕ
   pub conditions : List NumberedCond
   pub demanded : ℕ
   pub columns : List ℕ
 
--- a view: its place among the views, its columns, its query, and what is under it where it is updatable
+-- a view: its place among the views, its columns, its query, and the table under it if it is updatable
 pub record DeclaredView : Type 0 where
   pub name : TableName
   pub place : ℕ
@@ -77,7 +77,7 @@ entry_columns (Entry.view v) = v.columns
 abbrev pub entry_column_names : Entry → List Name
 entry_column_names e = map (λ c. c.name) (entry_columns e)
 
--- what is under a base table is itself
+-- the table under a base table is itself
 abbrev pub itself : DeclaredBase → DeclaredUnder
 itself b = record { base = b.place; conditions = []; demanded = 0; columns = places_of b.columns }
 
@@ -127,7 +127,7 @@ same_grant g h =
     same_holder g.user h.user && same_table g.table h.table && same_privilege g.privilege h.privilege
     && same_option g.to_grant h.to_grant
 
--- a grant that is there already is not added again
+-- an existing grant is not added again
 abbrev pub with_grant : List Grant → Grant → List Grant
 with_grant grants g = if list_any (same_grant g) grants then grants else grants ++ g ∷ []
 
@@ -136,8 +136,8 @@ with_grants grants new = fold with_grant grants new
 
 -- ---- a catalog
 
--- The users that have a schema; the base tables and the views, each in the order of the texts; what is granted on views to their owners,
--- and what GRANT grants. The owner of a base table holds all privileges on it without being granted any.
+-- The users that have a schema. The base tables and the views, each in the order of the texts. The privileges on views granted to their
+-- owners, and the privileges that GRANT grants. The owner of a base table holds all privileges on it without a grant.
 pub record Catalog : Type 0 where
   pub users : List Name
   pub bases : List DeclaredBase
@@ -167,7 +167,7 @@ abbrev pub owns : Name → TableName → Entry → Bool
 owns user t (Entry.base b) = same_name t.user user
 owns user t (Entry.view v) = false
 
--- whether a user holds a privilege on a table that is there or, with `grantable`, its grant option
+-- whether a user holds a privilege on an existing table or, with `grantable`, its grant option
 abbrev pub may_on : Catalog → (grantable : Bool) → Name → TableName → Privilege → Entry → Bool
 may_on c grantable user t p e =
     owns user t e && is_on_column (entry_column_names e) p || list_any (gives grantable user t p) c.grants
@@ -175,7 +175,7 @@ may_on c grantable user t p e =
 abbrev pub may : Catalog → (grantable : Bool) → Name → TableName → Privilege → Bool
 may c grantable user t p = is_some_and (may_on c grantable user t p) (entry c t)
 
--- ---- what names mean to a user
+-- ---- the meanings of names to a user
 
 abbrev pub named_table : Catalog → Name → TableName → Entry → NamedTable
 named_table c user t e = record {

@@ -1,4 +1,4 @@
--- What INSERT, UPDATE and DELETE are bound to (ISO/IEC 9075:1992, 13.6 to 13.10).
+-- The bound forms of INSERT, UPDATE and DELETE (ISO/IEC 9075:1992, 13.6 to 13.10).
 use Rattle.std.specs.Prelude.{ℕ, Bool, not, ◌||◌, ◌==◌, List, [], ◌∷◌, ◌++◌, length, map, find, Option, Some, None, Ok}
 use Rattle.std.specs.List.{zip}
 use Rattle.sq_lex.specs.declared.name.Name.{Name}
@@ -50,7 +50,8 @@ receivers_of t = map receiver_over (zip t.under.columns t.table.columns)
 abbrev pub receiver_named : ChangedTable → Name → Outcome Receiver
 receiver_named t name = or_fault fault.UnknownColumn (find (λ r. same_name r.name name) (receivers_of t))
 
--- What is made of a column for each of a list in turn, where these names are before them: no name is there twice.
+-- The results of `make` on the column of each element of a list in turn, after elements with the names `before`: no name
+-- occurs twice.
 abbrev pub each_column : {A B : Type 0} → ChangedTable → (A → Name) → (A → Receiver → Binding B)
     → (before : List Name) → List A → Binding (List B)
 each_column t name_of make before [] = pure []
@@ -119,7 +120,7 @@ insert_bound names parameters i = do
 
 -- ---- the rows that UPDATE and DELETE change (13.6, 13.7, 13.9 and 13.10)
 
--- what is known of a cursor: its number, whether it scrolls, its columns, and the table that it is over where it is updatable
+-- a cursor: its number, whether it scrolls, its columns, and the table that it is over if it is updatable
 pub record NamedCursor : Type 0 where
   pub number : ℕ
   pub scroll : Bool

@@ -1,5 +1,5 @@
--- Tables that may be changed, and the query specifications that are updatable: over one such table, of which they show columns, each
--- once (ISO/IEC 9075:1992, 7.9; own rule).
+-- Tables that may be changed, and the query specifications that are updatable. Such a query is over one such table, and shows
+-- columns of it, each once (ISO/IEC 9075:1992, 7.9; own rule).
 use Rattle.std.specs.Prelude.{ℕ, Bool, true, false, not, ◌&&◌, if◌then◌else◌, List, [], ◌∷◌, map, slice_get, Option, Some, None, Ok}
 use Rattle.std.specs.List.{list_all, zip}
 use Rattle.std.specs.Option.{option_map, option_and_then}
@@ -22,19 +22,19 @@ use Rattle.sq_binding.specs.Outcome.{Outcome, ◌>>=◌, and_then, or_fault}
 use Rattle.sq_binding.specs.Scope.{FromItem}
 use Rattle.sq_binding.specs.Select.{Surroundings, of_lines}
 
--- What is under a table that may be changed: rows of a base table, and for each column of the table the column there that it is.
+-- The rows of a base table under a table that may be changed. For each column of the table, the column there that it is.
 pub record UnderTable : Type 0 where
   pub leaf : Under
   pub columns : List ℕ
 
--- what names mean to the statements of a user: the tables, what is under those that may be changed, and the privileges
+-- the meanings of names in the statements of a user: the tables, the leaves of the tables that may be changed, and the privileges
 pub record UserNames : Type 0 where
   pub user : Name
   pub tables : NamedTables
   pub under : TableName → Option UnderTable
   pub holds : TableName → Privilege → Bool
 
--- in no query, and where no set function may stand
+-- in no query, and with no set function allowed
 abbrev pub outside : UserNames → List Declared → Surroundings
 outside names parameters = record {
   names = names.tables;
@@ -53,7 +53,7 @@ pub record ChangedTable : Type 0 where
 abbrev pub table_over : TableReference → NamedTable → UnderTable → ChangedTable
 table_over r t u = record { reference = r; table = t; under = u }
 
--- the table of a name, which is there and may be changed
+-- the table of a name, if it exists and may be changed
 abbrev pub changed_table : UserNames → TableName → Outcome ChangedTable
 changed_table names t = do
   table ← or_fault fault.UnknownTable (names.tables t)
@@ -95,7 +95,7 @@ abbrev pub is_grouped : NumberedGroups → Bool
 is_grouped NumberedGroups.not_grouped = false
 is_grouped (NumberedGroups.grouped columns functions having) = true
 
--- each row is one of a table: there are no DISTINCT and no groups
+-- each row is a row of a table: there are no DISTINCT and no groups
 abbrev pub has_plain_rows : NumberedSelect → Bool
 has_plain_rows (NumberedSelect.select distinct list from filter groups columns can_fail number) =
     not distinct && not (is_grouped groups)
@@ -120,7 +120,7 @@ abbrev pub only_table : UserNames → Select Named → NumberedSelect → Option
 only_table names q s =
     if has_plain_rows s then option_and_then (may_be_changed names) (only_one (from_of q)) else None
 
--- a select item that is a column reference, and nothing stands around it
+-- a select item that is a column reference and nothing more
 abbrev pub is_reference : Expr Named → Bool
 is_reference (column c) = true
 is_reference _ = false
@@ -142,7 +142,7 @@ leaf_columns u (e ∷ es) =
 abbrev pub if_distinct : List ℕ → Option (List ℕ)
 if_distinct columns = if are_distinct columns then Some columns else None
 
--- the columns that a select list shows, where it has columns alone, each once
+-- the columns that a select list shows, if it has only columns, each once
 abbrev pub columns_shown : UnderTable → SelectList Named → List Numbered → Option (List ℕ)
 columns_shown u list shown =
     if is_of_references list then option_and_then if_distinct (leaf_columns u shown) else None

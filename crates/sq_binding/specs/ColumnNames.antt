@@ -18,7 +18,7 @@ abbrev pub list_names : List FromItem → SelectList Named → List (Option Name
 list_names items all_columns = flat_map item_names items
 list_names items (expressions es) = map item_name es
 
--- the names of a query specification's columns: those of its select list, over the items of its FROM
+-- the names of a query specification's columns: the names of its select list, over the items of its FROM
 abbrev pub names_placed : NamedTables → Select Named → Outcome (List (Option Name))
 names_placed names (select distinct list from filter by having) = do
   items ← each (item_placed names) from

@@ -1,5 +1,5 @@
--- What search conditions and query specifications are bound to, each by the other, for conditions have subqueries (ISO/IEC
--- 9075:1992, 7.3 to 7.9, 7.11 and clause 8).
+-- The bound forms of search conditions and query specifications, each defined by the other, since conditions have
+-- subqueries (ISO/IEC 9075:1992, 7.3 to 7.9, 7.11 and clause 8).
 use Rattle.std.specs.Prelude.{◌+◌, List, [], ◌∷◌, nat_eq, if◌then◌else◌, Option, Some, None, Ok}
 use Rattle.sq_value.specs.declared.domain.Kind.{Kind}
 use Rattle.sq_tree.specs.declared.cond.Quantifier.{Quantifier}

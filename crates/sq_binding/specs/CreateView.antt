@@ -32,7 +32,7 @@ as_many columns names = if length names == length columns then Ok names else Err
 abbrev pub own_names : List ResultColumn → List Name
 own_names columns = filter_map (λ c. c.name) columns
 
--- the names of its column list, or else those of its query: a name for each column, and none of them twice
+-- the names of its column list, or else of its query: a name for each column, and none of them twice
 abbrev pub column_names : Option (CommaList Name) → List ResultColumn → Outcome (List Name)
 column_names (Some list) columns = as_many columns (listed list)
 column_names None columns =
@@ -41,7 +41,7 @@ column_names None columns =
 abbrev pub view_columns : List Name → List ResultColumn → List ColumnDescriptor
 view_columns names columns = map (λ c. record { name = c.0; kind = (c.1).kind }) (zip names columns)
 
--- ---- what is under it
+-- ---- the table under it
 
 abbrev pub conditions_with : List NumberedCond → NumberedClause → List NumberedCond
 conditions_with below NumberedClause.absent = below
@@ -61,9 +61,9 @@ abbrev pub view_under : Catalog → (check_option : Bool) → NumberedUpdatable 
 view_under c check_option over =
     option_map (above check_option over) (option_and_then entry_under (entry c over.table))
 
--- ---- what its owner holds
+-- ---- the privileges that its owner holds
 
--- a privilege on the view and, where the owner holds it with the grant option, that too
+-- a privilege on the view and, if the owner holds it with the grant option, that too
 abbrev pub owner_grants : Name → TableName → (is_held can_grant : Bool) → Privilege → List Grant
 owner_grants owner t false can_grant p = []
 owner_grants owner t true false p =
@@ -72,7 +72,8 @@ owner_grants owner t true true p =
     record { user = Some owner; table = t; privilege = p; to_grant = false }
     ∷ record { user = Some owner; table = t; privilege = p; to_grant = true } ∷ []
 
--- the owner holds a privilege on the view as the one on the table underneath
+-- The owner gets the first privilege on the view if it holds the second one on the table underneath. It
+-- gets the grant option if it holds the second one with it.
 abbrev pub followed : Catalog → Name → (view under : TableName) → Privilege × Privilege → List Grant
 followed c owner view under p =
     owner_grants owner view (may c false owner under p.1) (may c true owner under p.1) p.0
@@ -102,7 +103,7 @@ grants_over c owner view names q None = []
 grants_over c owner view names q (Some over) =
     flat_map (followed c owner view over.table) (privileges_followed names (names_underneath c over.table) q)
 
--- SELECT and, where it is updatable, what follows from the table underneath
+-- SELECT and, if it is updatable, the privileges that follow from the table underneath
 abbrev pub view_grants : Catalog → Name → TableName → List Name → NumberedView → List Grant
 view_grants c owner t names v =
     owner_grants owner t true v.may_grant_select Privilege.select
@@ -130,7 +131,7 @@ new_view c user v bound names = record {
   grants = view_grants c user (table_of user v.name) names bound;
 }
 
--- the view that a definition makes behind those of a catalog
+-- the view that a definition adds to a catalog
 abbrev pub declared_view : Catalog → Name → ViewDefinition → Outcome NewView
 declared_view c user v = do
   refused_if fault.NameTwice (is_taken c user (table_of user v.name))

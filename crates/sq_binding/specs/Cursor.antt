@@ -1,4 +1,4 @@
--- What cursors are bound to (ISO/IEC 9075:1992, 13.1).
+-- The bound forms of cursors (ISO/IEC 9075:1992, 13.1).
 use Rattle.std.specs.Prelude.{Bool, if◌then◌else◌, List, [], Option, Some, None, Ok}
 use Rattle.sq_tree.specs.declared.«module».Cursor.{Cursor}
 use Rattle.sq_meaning.specs.Environment.{TableName}
@@ -18,7 +18,7 @@ use Rattle.sq_binding.specs.QueryExpression.{NumberedQuery, columns_of_query, qu
 use Rattle.sq_binding.specs.Select.{Surroundings}
 use Rattle.sq_binding.specs.Whole.{at_first, permitted, whole}
 
--- what a cursor goes over: the rows of a query, sorted by columns, or rows of a base table
+-- the rows that a cursor goes over: the rows of a query, sorted by columns, or rows of a base table
 pub data NumberedRows : Type 0 where
   sorted : NumberedQuery → List SortColumn → NumberedRows
   updatable : NumberedUpdatable → NumberedRows
@@ -58,7 +58,8 @@ sorted_bound a q order = do
   by ← outcome (order_bound (names_of (columns_of_query x)) order)
   pure (x, by)
 
--- ---- a query specification alone, without ORDER BY, SCROLL and INSENSITIVE: the cursor is updatable where that is
+-- ---- a query specification alone, without ORDER BY, SCROLL and INSENSITIVE: the cursor is updatable if the
+-- specification is
 
 abbrev pub cursor_over : Cursor → NumberedSelect → Option NumberedUpdatable → NumberedCursor
 cursor_over c s None = sorted_cursor c (NumberedQuery.select s) []

@@ -1,4 +1,5 @@
--- What schema texts declare: a catalog, or their first refusal (ISO/IEC 9075:1992, 11.1).
+-- The declarations of schema texts: a catalog, or their first refusal (ISO/IEC 9075:1992,
+-- 11.1).
 use Rattle.std.specs.Prelude.{List, [], ◌∷◌, ◌++◌, Option, Some, None, Result, Ok, Err}
 use Rattle.sq_lex.specs.declared.name.Name.{Name}
 use Rattle.sq_tree.specs.declared.schema.SchemaElement.{SchemaElement}
@@ -28,7 +29,7 @@ abbrev pub with_part : Catalog → Name → Option SchemaElement → Outcome Cat
 with_part c user None = with_user c user
 with_part c user (Some e) = with_element c user e
 
--- a refusal says where the part stands
+-- a refusal says the place of the part
 abbrev pub Declared : Type 0
 Declared = Result Catalog SchemaRefusal
 

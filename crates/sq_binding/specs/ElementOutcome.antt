@@ -1,4 +1,5 @@
--- A schema element, or a part of one, is accepted, or refused for a fault: the first one in the order in which rules are asked.
+-- A schema element, or a part of one, is accepted or refused for a fault. The fault is the first one in the order in which
+-- rules are asked.
 use Rattle.std.specs.Prelude.{Bool, if◌then◌else◌, List, [], ◌∷◌, Option, Some, None, Result, Ok, Err}
 use Rattle.sq_meaning.specs.declared.refusal.SchemaFault.{SchemaFault}
 
@@ -18,7 +19,7 @@ infixl 10 ◌>>◌
 abbrev pub ◌>>◌ : {A B : Type 0} → Outcome A → Outcome B → Outcome B
 first >> second = and_then first (λ _. second)
 
--- what is there, or the fault that it is not
+-- the value, or this fault if there is none
 abbrev pub or_fault : {A : Type 0} → SchemaFault → Option A → Outcome A
 or_fault fault (Some x) = Ok x
 or_fault fault None = Err fault

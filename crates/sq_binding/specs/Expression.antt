@@ -1,4 +1,4 @@
--- What a value expression is bound to (ISO/IEC 9075:1992, 6.2 to 6.5 and 6.11 to 6.13).
+-- The bound form of a value expression (ISO/IEC 9075:1992, 6.2 to 6.5 and 6.11 to 6.13).
 use Rattle.std.specs.Prelude.{ℕ, ◌+◌, Bool, true, false, not, ◌&&◌, ◌||◌, nat_lt, nat_eq, if◌then◌else◌, List, [], ◌∷◌, ◌++◌, length, slice_get, Option, Some, None, Ok, Err}
 use Rattle.std.specs.List.{position}
 use Rattle.std.specs.Option.{option_map, option_and_then}
@@ -36,8 +36,8 @@ use Rattle.sq_binding.specs.Numbered.{Numbered, tree_of}
 use Rattle.sq_binding.specs.Outcome.{Outcome, ◌>>=◌, or_fault}
 use Rattle.sq_binding.specs.Scope.{FoundColumn, Scope, column_meant}
 
--- what an expression is bound to: its tree and kind, the set functions that it adds to those of its query, in the order of the
--- text, whether computing one of those may answer a status, and what is found in it
+-- the bound form of an expression: its tree and kind, and the set functions that it adds to its query, in the order of the
+-- text. Then whether computing one of these may answer a status, and the findings in it
 pub record Bound : Type 0 where
   pub tree : Numbered
   pub kind : Kind
@@ -90,7 +90,7 @@ parameter_bound parameters p = do
 abbrev pub place_of_found : FoundColumn → Place
 place_of_found found = record { depth = found.depth; item = found.item; column = found.column.position }
 
--- n, where the column is so many queries further out, and else 0
+-- n if the column is so many queries further out, and else 0
 abbrev pub if_at : (depth : ℕ) → ℕ → ℕ → ℕ
 if_at depth at n = if nat_eq at depth then n else 0
 
@@ -111,7 +111,8 @@ column_findings found = place_findings found.depth found.item found.is_grouped f
 abbrev pub column_bound : FoundColumn → Bound
 column_bound found = plain (Numbered.column (place_of_found found)) found.column.kind (column_findings found)
 
--- in a query around, a column that is no grouping column is a fault here; in the query itself it is one if the query is grouped
+-- In a query around, a column that is no grouping column is a fault here. In the query itself it is one if the query is
+-- grouped.
 abbrev pub column_allowed : (in_function : Bool) → FoundColumn → Outcome Bound
 column_allowed inside found =
     if nat_lt 0 found.depth && not found.is_grouped && not inside
@@ -182,7 +183,8 @@ count_bound allowed n =
 abbrev pub kind_of_call : SetFunction → Kind → Outcome Kind
 kind_of_call function k = or_fault fault.KindMismatch (result_ok (function_kind function k))
 
--- a set function's value is one of those that it is over, or a count, a sum or an average, which may be out of range
+-- A set function may answer a status if its operand may. It may also be out of range, unless its value is one of the values
+-- that it is over.
 abbrev pub function_call : ℕ → SetFunction → (distinct : Bool) → Bound → Kind → Bound
 function_call n function distinct x k =
     called n (tree.set_function function distinct (tree_of [] x.tree)) k
@@ -197,8 +199,8 @@ function_over allowed n function distinct x =
 
 -- ---- value expressions (6.11)
 
--- A value expression in these scopes. Set functions may be allowed; it may be the operand of one. So many set functions of the
--- query stand before it.
+-- A value expression in these scopes. Set functions may be allowed; it may be the operand of one. The last number says how many
+-- set functions of the query come before it.
 module _ (scopes : List Scope) (parameters : List Declared) where
   abbrev pub bound : (allowed in_function : Bool) → Expr Named → ℕ → Outcome Bound
   bound allowed inside (literal v) n = literal_bound v

@@ -1,4 +1,4 @@
--- What is found in a part of a text besides its tree.
+-- The findings in a part of a text besides its tree.
 use Rattle.std.specs.Prelude.{ℕ, Bool, true, false, ◌||◌, max}
 
 pub record Findings : Type 0 where
@@ -11,7 +11,7 @@ pub record Findings : Type 0 where
   pub reads_outermost : Bool
   -- whether evaluation may answer a status
   pub can_fail : Bool
-  -- whether a column of this query that is no grouping column stands outside set functions
+  -- whether a column of this query that is no grouping column occurs outside set functions
   pub has_ungrouped : Bool
   pub has_user : Bool
 
@@ -26,7 +26,7 @@ none = record {
   has_user = false;
 }
 
--- what is found in two parts
+-- the findings in two parts
 abbrev pub both : Findings → Findings → Findings
 both a b = record {
   items = max a.items b.items;

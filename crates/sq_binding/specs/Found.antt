@@ -1,5 +1,5 @@
--- Parts of a query that are bound one after the other. Each adds set functions to those of its query, numbers to those that
--- subqueries of the statement have, and what is found in it; the first fault is the outcome.
+-- Parts of a query that are bound one after the other. Each adds its set functions to its query, numbers of subqueries to
+-- the statement, and its findings. The first fault is the outcome.
 use Rattle.std.specs.Prelude.{ℕ, ◌+◌, Bool, false, ◌||◌, List, [], ◌∷◌, ◌++◌, length, nat_lt, if◌then◌else◌, Ok, Err}
 use Rattle.sq_bound.specs.Expression.{PlacedExpr}
 use Rattle.sq_meaning.specs.declared.fault.BindingFault.{BindingFault}
@@ -7,7 +7,7 @@ use Rattle.sq_meaning.specs.declared.fault.BindingFault.TheVariants as fault
 use Rattle.sq_binding.specs.Outcome.{Outcome, and_then}
 use Rattle.sq_binding.specs.QueryFindings.{QueryFindings, both, nothing}
 
--- how many set functions of the query stand before a part, and the number of the next subquery of the statement
+-- the number of set functions of the query before a part, and the number of the next subquery of the statement
 pub record Counts : Type 0 where
   pub functions : ℕ
   pub subqueries : ℕ
@@ -65,7 +65,7 @@ refused f = λ counts. Err f
 abbrev pub must : Bool → BindingFault → Binding (Unit {0})
 must test f = if test then pure tt else refused f
 
--- a part that is refused where it has more than the most that are allowed (own rules)
+-- a part that is refused if it has more than the most that are allowed (own rules)
 abbrev pub at_most : {A : Type 0} → (most many : ℕ) → Binding A → Binding A
 at_most most many b = if nat_lt most many then refused fault.LimitExceeded else b
 

@@ -1,4 +1,4 @@
--- What the tables of a FROM clause mean (ISO/IEC 9075:1992, 5.4, 6.3 and 7.4).
+-- The meanings of the tables of a FROM clause (ISO/IEC 9075:1992, 5.4, 6.3 and 7.4).
 use Rattle.std.specs.Prelude.{ℕ, Bool, false, not, List, map, length, Option}
 use Rattle.std.specs.List.{enumerate_from}
 use Rattle.sq_meaning.specs.Environment.{TableName, TableReference}
@@ -13,15 +13,15 @@ use Rattle.sq_binding.specs.Outcome.{or_fault}
 use Rattle.sq_binding.specs.QueryFindings.{QueryFindings, most_items}
 use Rattle.sq_binding.specs.Scope.{FromItem, ItemColumn}
 
--- A base table or a view: where its rows are, its columns, and whether the user whose text names it holds SELECT on it, and
--- with the grant option.
+-- A base table or a view: the place of its rows, and its columns. It says whether the user whose text names it holds SELECT
+-- on it, and with the grant option.
 pub record NamedTable : Type 0 where
   pub place : TablePlace
   pub columns : List ColumnDescriptor
   pub may_select : Bool
   pub may_grant : Bool
 
--- what each name of a table means, where there is one
+-- the meaning of each name of a table, if there is one
 abbrev pub NamedTables : Type 0
 NamedTables = TableName → Option NamedTable
 

@@ -19,8 +19,8 @@ abbrev pub is_empty : {A : Type 0} → List A → Bool
 is_empty [] = true
 is_empty (x ∷ xs) = false
 
--- the privileges that are named on a table with these columns: each has to be held with the grant option, and of ALL PRIVILEGES, which are
--- those that are so held, one at least
+-- The privileges that are named on a table with these columns. Each has to be held with the grant option. ALL PRIVILEGES means the ones
+-- that are so held, at least one.
 abbrev pub privileges_granted : (held : Privilege → Bool) → List Name → Privileges → Outcome (List Privilege)
 privileges_granted held columns privileges.All =
     refused_if fault.PrivilegeMissing (is_empty (filter held (all_privileges columns)))
@@ -39,7 +39,7 @@ abbrev pub grants_to : TableName → List Privilege → (to_grant : Bool) → Gr
 grants_to t ps to_grant g =
     map (λ p. record { user = grantee_user g; table = t; privilege = p; to_grant = to_grant }) ps
 
--- to each grantee, and with the grant option where it is written
+-- to each grantee, and with the grant option if it is written
 abbrev pub grants_made : TableName → List Privilege → GrantStatement → List Grant
 grants_made t ps g =
     flat_map (grants_to t ps false) (listed g.grantees)

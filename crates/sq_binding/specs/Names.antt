@@ -1,5 +1,5 @@
--- What names mean to the texts of a user, as the definitions of binding see it (ISO/IEC 9075:1992, 5.4, 6.2 and 6.3), and what is known of
--- the tables that they mean.
+-- The meanings of names in the texts of a user, as the definitions of binding see them (ISO/IEC 9075:1992, 5.4, 6.2 and 6.3). And the facts
+-- known of the tables that they mean.
 use Rattle.std.specs.Prelude.{◌≡◌, ℕ, Bool, false, List, [], map, slice_get, Option, Some, IfSome, Ok}
 use Rattle.std.specs.List.{AllByRecursion}
 use Rattle.std.specs.Option.{option_map, option_and_then}
@@ -39,7 +39,7 @@ named_table may_select may_grant t = record {
 abbrev pub leaf_positions : List Column → List ℕ
 leaf_positions columns = map (λ c. c.leaf_column) columns
 
--- what is under a table that may be changed, with the column of the base table that each column is
+-- the leaf under a table that may be changed, with the column of the base table that each column is
 abbrev pub under_table : KnownTable → Option UnderTable
 under_table t = option_map (λ u. record { leaf = u; columns = leaf_positions t.columns }) t.under
 
@@ -64,7 +64,7 @@ user_names user known selects grants holds = record {
 abbrev pub tables_of : KnownTables → NamedTables
 tables_of known = named_tables known (λ t. false) (λ t. false)
 
--- what is known where a statement of a procedure with these parameters stands: it is in no query
+-- the surroundings of a statement of a procedure with these parameters: it is in no query
 abbrev pub outside : KnownTables → List ParameterDesc → Surroundings
 outside known parameters = record {
   names = tables_of known;
@@ -73,10 +73,10 @@ outside known parameters = record {
   functions_allowed = false;
 }
 
--- ---- what is known of the tables
+-- ---- the facts known of the tables
 
--- What is under a table with these columns: a base table that is there, with well-formed conditions on its rows, whose own columns have the
--- kinds of those that they are.
+-- The leaf under a table with these columns: an existing base table, with well-formed conditions on its rows. The table's columns have the
+-- kinds of the columns there that they are.
 pub record StandsUnder (bases : List BaseTable) (kinds : TableKinds) (columns : List Column)
     (u : Under) : Type 0 where
   pub base : BaseTable
@@ -86,11 +86,11 @@ pub record StandsUnder (bases : List BaseTable) (kinds : TableKinds) (columns : 
   pub checks : AllByRecursion (IsCondOn kinds base) base.checks
   pub columns_are : AllByRecursion (λ c. slice_get (base_kinds base) c.leaf_column ≡ Some c.kind) columns
 
--- a table is there, and what is under it
+-- a table exists, and so does the leaf under it
 pub record Stands (bases : List BaseTable) (kinds : TableKinds) (t : KnownTable) : Type 0 where
   pub kinds_are : kinds t.place ≡ Ok (kinds_of_columns t.columns)
   pub under : IfSome t.under (StandsUnder bases kinds t.columns)
 
--- what each name means is there
+-- the table that each name means exists
 abbrev pub NamesMean : List BaseTable → TableKinds → KnownTables → Type 0
 NamesMean bases kinds known = (t : TableName) → IfSome (meant_by known t) (Stands bases kinds)

@@ -1,5 +1,5 @@
--- Trees by place in which a set function of the query is a number: how many stand before it in the text of the query (ISO/IEC
--- 9075:1992, 6.5 and 6.11).
+-- Trees by place in which a set function of the query is a number (ISO/IEC 9075:1992, 6.5 and 6.11). It counts the set
+-- functions before it in the text of the query.
 use Rattle.std.specs.Prelude.{ℕ, List, slice_index_or}
 use Rattle.sq_value.specs.declared.value.Value.{Value}
 use Rattle.sq_tree.specs.declared.expr.Sign.{Sign}
@@ -18,7 +18,7 @@ pub data Numbered : Type 0 where
   signed : Sign → Numbered → Numbered
   operation : Operator → Numbered → Numbered → Numbered
 
--- the tree, where these are the set functions of the query
+-- the tree, if these are the set functions of the query
 abbrev pub tree_of : List PlacedExpr → Numbered → PlacedExpr
 tree_of functions (Numbered.literal v) = tree.literal v
 tree_of functions (Numbered.parameter p) = tree.parameter p

@@ -1,7 +1,8 @@
--- Search conditions and query specifications by place, with what is noted of them: of each test in a boolean term, how many
--- items of FROM, from the left, hold the columns that it reads, and whether it may answer a status; of a query specification,
--- what groups it, its columns, whether it may answer a status, and the number of a subquery that is evaluated once at most
--- (ISO/IEC 9075:1992, 7.3 to 7.9, 7.11 and 8.12). Set functions of the query are numbers, as in value expressions.
+-- Search conditions and query specifications by place, with notes (ISO/IEC 9075:1992, 7.3 to 7.9, 7.11 and 8.12). The notes
+-- on each test in a boolean term say how many items of FROM, from the left, hold the columns that it reads. They also say
+-- whether it may answer a status. The notes on a query specification say its grouping, its columns, and whether it may
+-- answer a status. They also say the number of a subquery that is evaluated once at most. Set functions of the query are
+-- numbers, as in value expressions.
 use Rattle.std.specs.Prelude.{ℕ, Bool, List, [], map, Option}
 use Rattle.std.specs.Option.{option_map}
 use Rattle.sq_lex.specs.declared.name.Name.{Name}
@@ -16,7 +17,7 @@ use Rattle.sq_bound.specs.declared.condition.Compared.{Compared}
 use Rattle.sq_bound.specs.declared.condition.TablePlace.{TablePlace}
 use Rattle.sq_binding.specs.Numbered.{Numbered, tree_of}
 
--- a result column: its name, where it has one, and what is known of its values
+-- a result column: its name, if it has one, and the kind of its values
 pub record ResultColumn : Type 0 where
   pub name : Option Name
   pub kind : Kind
@@ -45,7 +46,7 @@ mutual
     absent : NumberedClause
     present : NumberedCond → NumberedClause
 
-  -- what groups a query specification: the columns of GROUP BY, the set functions in the order of the text, and HAVING
+  -- the grouping of a query specification: the columns of GROUP BY, the set functions in the order of the text, and HAVING
   pub data NumberedGroups : Type 0 where
     not_grouped : NumberedGroups
     grouped : (columns : List Place) → (functions : List PlacedExpr) → (having : NumberedClause)
@@ -76,7 +77,7 @@ set_functions (grouped columns functions having) = functions
 abbrev pub trees_of : List PlacedExpr → List Numbered → List PlacedExpr
 trees_of functions es = map (tree_of functions) es
 
--- ---- the trees without what is noted, where these are the set functions of the query
+-- ---- the trees without the notes, if these are the set functions of the query
 
 abbrev mutual
   pub cond_of : List PlacedExpr → NumberedCond → PlacedCond

@@ -36,7 +36,7 @@ written_bound parameters (written.Absolute p) =
 written_bound parameters (written.Relative p) =
     distance_bound parameters p >>= λ d. Ok (orientation.Relative d)
 
--- where no orientation is written, NEXT is implicit
+-- if no orientation is written, NEXT is implicit
 abbrev pub orientation_bound : List Declared → Option Orientation → Outcome FetchOrientation
 orientation_bound parameters None = Ok orientation.Next
 orientation_bound parameters (Some o) = written_bound parameters o

@@ -14,7 +14,7 @@ infixl 10 ◌>>=◌
 abbrev pub ◌>>=◌ : {A B : Type 0} → Outcome A → (A → Outcome B) → Outcome B
 outcome >>= f = and_then outcome f
 
--- what is there, or the fault that it is not
+-- the value, or this fault if there is none
 abbrev pub or_fault : {A : Type 0} → BindingFault → Option A → Outcome A
 or_fault fault (Some x) = Ok x
 or_fault fault None = Err fault

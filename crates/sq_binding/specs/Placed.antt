@@ -1,5 +1,5 @@
--- What a value expression becomes where its columns and parameters are placed, by the definitions' own places (ISO/IEC
--- 9075:1992, 6.2 and 6.4). Brackets change nothing.
+-- A value expression with its columns and parameters placed, by the definitions' own places (ISO/IEC 9075:1992, 6.2
+-- and 6.4). Brackets change nothing.
 use Rattle.std.specs.Prelude.{ℕ, List, map, slice_get, Option, None, Some, Ok}
 use Rattle.std.specs.List.{position}
 use Rattle.std.specs.Option.{option_map, option_and_then}

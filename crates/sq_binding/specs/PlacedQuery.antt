@@ -1,6 +1,6 @@
--- What search conditions and query specifications become where their columns, parameters and tables are placed (ISO/IEC
--- 9075:1992, 6.3, 6.4, 7.3 to 7.9 and clause 8). Set functions stay as they are, and `*` becomes all columns. Which columns may
--- be read, and where set functions may stand, has no bearing on it.
+-- Search conditions and query specifications with their columns, parameters and tables placed (ISO/IEC 9075:1992, 6.3, 6.4, 7.3
+-- to 7.9 and clause 8). Set functions stay as they are, and `*` becomes all columns. Which columns may be read, and where set
+-- functions may occur, has no bearing on it.
 use Rattle.std.specs.Prelude.{ℕ, List, map, Option, Some, None, Ok}
 use Rattle.std.specs.List.{enumerate_from, flat_map}
 use Rattle.std.specs.Option.{option_map}

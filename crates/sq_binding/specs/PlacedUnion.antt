@@ -1,4 +1,4 @@
--- What query expressions become where their columns, parameters and tables are placed (ISO/IEC 9075:1992, 7.10).
+-- Query expressions with their columns, parameters and tables placed (ISO/IEC 9075:1992, 7.10).
 use Rattle.std.specs.Prelude.{Ok}
 use Rattle.sq_meaning.specs.Spelled.{Named}
 use Rattle.sq_meaning.specs.Status.{Outcome, ◌>>=◌}

@@ -1,5 +1,5 @@
--- What procedures are bound to, in a module whose cursors are bound for the parameters of the procedures that open them (ISO/IEC 9075:1992,
--- 12.1, 12.3 and 13.1).
+-- The bound forms of procedures, in a module whose cursors are bound for the parameters of the procedures that open them (ISO/IEC
+-- 9075:1992, 12.1, 12.3 and 13.1).
 use Rattle.std.specs.Prelude.{ℕ, Option}
 use Rattle.std.specs.Option.{option_and_then, option_map}
 use Rattle.std.specs.Result.{result_ok}

@@ -1,4 +1,5 @@
--- What query expressions are bound to: query specifications, joined by UNION (ISO/IEC 9075:1992, 7.10). Brackets change nothing.
+-- The bound forms of query expressions: query specifications, joined by UNION (ISO/IEC 9075:1992, 7.10). Brackets change
+-- nothing.
 use Rattle.std.specs.Prelude.{Bool, ◌==◌, List, length}
 use Rattle.std.specs.List.{zip}
 use Rattle.std.specs.Result.{result_ok}
@@ -28,7 +29,7 @@ abbrev pub query_of : NumberedQuery → PlacedQuery
 query_of (NumberedQuery.select s) = specification (select_of s)
 query_of (NumberedQuery.joined all left right columns) = union all (query_of left) (query_of right)
 
--- both are numbers, or both are texts; a column keeps its name where both sides have the same one
+-- both are numbers, or both are texts; a column keeps its name if both sides have the same one
 abbrev pub common_column : ResultColumn × ResultColumn → Binding ResultColumn
 common_column c = do
   kind ← outcome (or_fault fault.KindMismatch (result_ok (common_kind c.0.kind c.1.kind)))

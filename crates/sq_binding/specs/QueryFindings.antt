@@ -1,5 +1,5 @@
--- What is found in a part of a query besides its tree: in its value expressions, and of the tables that it names, those of its
--- subqueries among them (ISO/IEC 9075:1992, 4.26, 6.3, 6.4 and 7.11).
+-- The findings in a part of a query besides its tree (ISO/IEC 9075:1992, 4.26, 6.3, 6.4 and 7.11). They are in its
+-- value expressions, and on the tables that it names, in its subqueries too.
 use Rattle.std.specs.Prelude.{ℕ, ◌-◌, Bool, true, false, ◌||◌, nat_lt, if◌then◌else◌}
 use Rattle.sq_binding.specs.Findings.{Findings, none}
 use Rattle.sq_binding.specs.Findings as findings
@@ -11,7 +11,7 @@ pub record QueryFindings : Type 0 where
   pub lacks_privilege : Bool
   pub lacks_grant_option : Bool
 
--- what is found in value expressions alone
+-- the findings in value expressions alone
 abbrev pub of_values : Findings → QueryFindings
 of_values f = record { values = f; has_subquery = false; lacks_privilege = false; lacks_grant_option = false }
 
@@ -22,7 +22,7 @@ nothing = of_values none
 abbrev pub a_status : QueryFindings
 a_status = of_values (record none { can_fail = true })
 
--- what is found in two parts
+-- the findings in two parts
 abbrev pub both : QueryFindings → QueryFindings → QueryFindings
 both a b = record {
   values = findings.both a.values b.values;
@@ -37,7 +37,7 @@ both a b = record {
 abbrev pub most_items : ℕ
 most_items = 16
 
--- what is found in a subquery, seen from the query around it: its outer query is this one
+-- the findings in a subquery, seen from the query around it: its outer query is this one
 abbrev pub values_of_subquery : Findings → Findings
 values_of_subquery f = record f {
   items = f.outer_items;

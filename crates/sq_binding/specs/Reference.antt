@@ -22,8 +22,8 @@ use Rattle.sq_binding.specs.Position.{positions_of}
 
 -- ---- its names
 
--- A reference whose table and columns are found: its columns, the table that is referenced, none where it is the one that is defined, and
--- the columns there that are listed, none where the primary key is meant.
+-- A reference whose table and columns are found: its columns, the referenced table, and the listed columns there. There is no
+-- table if it is the one that is defined, and no list if the primary key is meant.
 pub record FoundReference : Type 0 where
   pub columns : List ℕ
   pub earlier : Option Entry

@@ -1,4 +1,4 @@
--- What SELECT INTO is bound to (ISO/IEC 9075:1992, 13.5).
+-- The bound form of SELECT INTO (ISO/IEC 9075:1992, 13.5).
 use Rattle.std.specs.Prelude.{List, map}
 use Rattle.sq_tree.specs.declared.statement.Select.{Select as SelectStatement}
 use Rattle.sq_meaning.specs.Placed.{PlacedParameter}

@@ -1,4 +1,4 @@
--- What a column reference means among the FROM items of the queries around (ISO/IEC 9075:1992, 6.3, 6.4 and 7.9).
+-- The meaning of a column reference among the FROM items of the queries around (ISO/IEC 9075:1992, 6.3, 6.4 and 7.9).
 use Rattle.std.specs.Prelude.{ℕ, zero, suc, Bool, true, false, ◌&&◌, ◌==◌, List, [], ◌∷◌, map, slice_get, Option, Some, None, Ok, Err}
 use Rattle.std.specs.List.{list_any}
 use Rattle.std.specs.Option.{option_map, option_and_then}
@@ -19,7 +19,7 @@ pub record FromItem : Type 0 where
   pub reference : TableReference
   pub columns : List ItemColumn
 
--- The items of a FROM clause. Where other columns may not stand outside set functions, the places of the grouping columns.
+-- The items of a FROM clause. If other columns may not occur outside set functions, the places of the grouping columns, too.
 pub record Scope : Type 0 where
   pub items : List FromItem
   pub grouping : Option (List Place)
@@ -44,8 +44,8 @@ abbrev pub is_grouped : Option (List Place) → (item column : ℕ) → Bool
 is_grouped None item column = true
 is_grouped (Some places) item column = list_any (is_here item column) places
 
--- A column that a reference means: how many queries further out, in which item, and which column of it; whether it may stand
--- outside set functions, and whether no query is around its own.
+-- A column that a reference means: the number of queries further out, the item there, and the column of it. Then whether it
+-- may occur outside set functions, and whether no query is around its own.
 pub record FoundColumn : Type 0 where
   pub depth : ℕ
   pub item : ℕ

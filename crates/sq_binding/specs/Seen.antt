@@ -1,5 +1,5 @@
--- Bound trees, as the definitions see them: an operator stands between its operands, NOT before a test and in a predicate are one,
--- brackets are gone, and what is known of kinds is left out (ISO/IEC 9075:1992, 6.5, 6.11, 7.9 and 8.12).
+-- Bound trees, as the definitions see them (ISO/IEC 9075:1992, 6.5, 6.11, 7.9 and 8.12). An operator is between its operands, NOT
+-- before a test and in a predicate are one, brackets are gone, and the kinds are left out.
 use Rattle.std.specs.Prelude.{Bool, if◌then◌else◌, List, [], ◌∷◌, fold, map, Option, Some, None}
 use Rattle.std.specs.Option.{option_map}
 use Rattle.sq_bound.specs.Expression.{PlacedExpr, place_meant, parameter_meant}
@@ -42,7 +42,7 @@ numbered_of = fold-BoundExpr Numbered (Numbered → Numbered) numbered_layer ope
 unfoldable pub operation_of : Operation → Numbered → Numbered
 operation_of = fold-Operation Numbered (Numbered → Numbered) numbered_layer operation_layer
 
--- no set function stands in the operand of one
+-- the operand of a set function has no set function
 abbrev pub call_of : SetFunctionCall → PlacedExpr
 call_of CountRows = count_rows
 call_of (Over a) = set_function a.function a.distinct (tree_of [] (numbered_of a.operand))

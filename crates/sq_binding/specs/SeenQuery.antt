@@ -1,5 +1,6 @@
--- Bound query expressions, cursors, views and statements, as the definitions see them (ISO/IEC 9075:1992, 7.10, 11.19 and clause 13):
--- UNION groups to the left, brackets are gone, an object column is its position, and what is under a table is what its name means.
+-- Bound query expressions, cursors, views and statements, as the definitions see them (ISO/IEC 9075:1992, 7.10, 11.19 and clause 13).
+-- UNION groups to the left, brackets are gone, and an object column is its position. The leaf under a table is the one that its name
+-- means.
 use Rattle.std.specs.Prelude.{◌≡◌, ⊤, ℕ, List, [], fold, map, Option, Some, None}
 use Rattle.std.specs.Option.{option_map}
 use Rattle.sq_lex.specs.declared.name.Name.{Name}
@@ -69,15 +70,15 @@ query_seen = fold-BoundQuery Q Q (Q → Q) term_layer query_layer union_layer
 unfoldable pub union_seen : BoundUnion → NumberedQuery → NumberedQuery
 union_seen = fold-BoundUnion Q Q (Q → Q) term_layer query_layer union_layer
 
--- the columns that are noted with a query expression are those of what is seen of it
+-- the columns noted with a query expression are the columns of the query that the definitions see
 abbrev pub HasItsColumns : BoundQuery → Type 0
 HasItsColumns q = map column_of (out-BoundQuery q).columns ≡ columns_of_query (query_seen q)
 
--- the columns that are noted with each query expression in one, in brackets, are those of what is seen of it
+-- the columns noted with each query expression in one, in brackets, are the columns of the query that the definitions see
 abbrev pub HaveTheirColumns : BoundQuery → Type 0
 HaveTheirColumns = every-BoundQuery (λ y. ⊤) (λ y. HasItsColumns (roll-BoundQuery y)) (λ y. ⊤)
 
--- the columns that are noted with each query expression in a term are those of what is seen of it
+-- the columns noted with each query expression in a term are the columns of the query that the definitions see
 abbrev pub TermHasColumns : BoundTerm → Type 0
 TermHasColumns = every-BoundTerm (λ y. ⊤) (λ y. HasItsColumns (roll-BoundQuery y)) (λ y. ⊤)
 

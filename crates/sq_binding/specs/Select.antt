@@ -1,4 +1,4 @@
--- The parts of a query specification: what surrounds them, value expressions, grouping columns and select lists (ISO/IEC
+-- The parts of a query specification: their surroundings, value expressions, grouping columns and select lists (ISO/IEC
 -- 9075:1992, 6.3 to 6.5 and 7.7 to 7.9).
 use Rattle.std.specs.Prelude.{ℕ, Bool, true, false, ◌||◌, List, [], ◌∷◌, map, length, Some, None, if◌then◌else◌, Ok, Err}
 use Rattle.std.specs.List.{enumerate_from, flat_map}
@@ -21,8 +21,8 @@ use Rattle.sq_binding.specs.Outcome.{Outcome, and_then}
 use Rattle.sq_binding.specs.QueryFindings.{of_values}
 use Rattle.sq_binding.specs.Scope.{FoundColumn, FromItem, ItemColumn, Scope, column_meant}
 
--- What surrounds a part: what names of tables mean, the parameters, the FROM items of each query around, the nearest first,
--- and whether a set function may stand there.
+-- The surroundings of a part: the meanings of tables' names, the parameters, and the FROM items of each query around,
+-- the nearest first. They say whether a set function may occur there.
 pub record Surroundings : Type 0 where
   pub names : NamedTables
   pub parameters : List Declared
@@ -90,7 +90,7 @@ column_of_item item c = record {
 abbrev pub columns_of_item : ℕ × FromItem → List ShownColumn
 columns_of_item i = map (column_of_item i.0) i.1.columns
 
--- `*` stands for all columns of all items
+-- `*` means all columns of all items
 abbrev pub columns_of_items : List FromItem → List ShownColumn
 columns_of_items items = flat_map columns_of_item (enumerate_from 0 items)
 
@@ -109,7 +109,7 @@ list_bound a items (expressions es) = at_most most_columns (length es) (each (sh
 
 -- ---- the whole
 
--- what a query specification is made of
+-- the parts of a query specification
 pub record Parts : Type 0 where
   pub distinct : Bool
   pub from : List TablePlace
@@ -130,7 +130,7 @@ abbrev pub is_star : SelectList Named → Bool
 is_star all_columns = true
 is_star (expressions es) = false
 
--- evaluating a query may answer a status where evaluating a part, or computing a set function, may
+-- evaluating a query may answer a status if evaluating a part, or computing a set function, may
 abbrev pub select_can_fail : Found Parts → Bool
 select_can_fail x = x.findings.values.can_fail || x.calls_can_fail
 
@@ -145,7 +145,7 @@ select_found x = record {
   subqueries = x.subqueries;
 }
 
--- in a grouped query `*` may not stand, nor, outside set functions, a column that is no grouping column
+-- in a grouped query `*` may not occur, nor, outside set functions, a column that is no grouping column
 abbrev pub rightly_grouped : (star : Bool) → NumberedGroups → Found Parts → Outcome (Found NumberedSelect)
 rightly_grouped star NumberedGroups.not_grouped x = Ok (select_found x)
 rightly_grouped star (NumberedGroups.grouped by functions having) x =

@@ -20,7 +20,7 @@ use Rattle.sq_binding.specs.Key.{has_bad_key, has_nullable, key_positions, prima
 use Rattle.sq_binding.specs.ElementOutcome.{Outcome, ◌>>=◌, ◌>>◌, each, refused_if}
 use Rattle.sq_binding.specs.Reference.{FoundReference, ReferencedTable, bound_reference, found_reference, has_bad_list}
 
--- ---- where a table or view may stand
+-- ---- the place of a table or view
 
 -- a table or view of the user's own schema has the name
 abbrev pub is_taken : Catalog → Name → TableName → Bool
@@ -30,13 +30,13 @@ is_taken c user t = same_user user t && is_some (entry c t)
 abbrev pub most_tables : ℕ
 most_tables = 1000
 
--- a table or view stands in the schema of its user, and there is room for it
+-- a table or view is in the schema of its user, and there is room for it
 abbrev pub has_place : Catalog → Name → TableName → Outcome (Unit {0})
 has_place c user t =
     refused_if fault.OtherSchema (not (same_user user t))
     >> refused_if fault.TooManyTables (nat_le most_tables (table_count c))
 
--- ---- what is written
+-- ---- the written parts
 
 -- the columns of a table definition with their domains, its keys, and its references with their names found
 pub record Draft : Type 0 where
@@ -56,7 +56,7 @@ drafted c user t = do
 abbrev pub draft : Catalog → Name → TableDefinition → Outcome Draft
 draft c user t = refused_if fault.NameTwice (is_taken c user (table_of user t.name)) >> drafted c user t
 
--- ---- what its rows obey
+-- ---- the constraints on its rows
 
 abbrev pub typed_descriptor : TypedColumn → ColumnDescriptor
 typed_descriptor c = record { name = c.definition.name; kind = kind_of c.domain }
@@ -108,7 +108,7 @@ drafted_table c user t d = do
     checks = checks;
   })
 
--- the base table that a definition makes behind those of a catalog
+-- the base table that a definition adds to a catalog
 abbrev pub declared_table : Catalog → Name → TableDefinition → Outcome DeclaredBase
 declared_table c user t = draft c user t >>= drafted_table c user t
 

@@ -14,7 +14,7 @@ use Rattle.sq_binding.specs.Expression.{indicator_bound, parameter_named}
 use Rattle.sq_binding.specs.Outcome.{Outcome, ◌>>=◌}
 use Rattle.sq_binding.specs.Whole.{must_hold}
 
--- a parameter whose kind agrees with that of its column
+-- a parameter whose kind agrees with the kind of its column
 abbrev pub target_bound : List Declared → Parameter × Kind → Outcome PlacedParameter
 target_bound parameters t = do
   at ← parameter_named parameters t.0.name
@@ -26,7 +26,7 @@ target_bound parameters t = do
 abbrev pub set_by : PlacedParameter → List ℕ
 set_by t = t.position ∷ option_to_list t.indicator
 
--- each in turn, where those before it set these parameters: no parameter is set twice
+-- each in turn, if the targets before it set these parameters: no parameter is set twice
 abbrev pub targets_in_turn : List Declared → (before : List ℕ) → List (Parameter × Kind)
     → Outcome (List PlacedParameter)
 targets_in_turn parameters before [] = Ok []

@@ -1,5 +1,6 @@
--- What a bound tree names is there, as far as it does not follow from what the definitions see of it: base tables stand at their places, and
--- object columns are columns of theirs, and NULL is bound to itself alone (own notion: names are places in bound trees).
+-- The tables and columns that a bound tree names exist, if this does not already follow from the part that the definitions see. Base tables
+-- are at their places, object columns are columns of them, and NULL is bound to itself alone. (Own notion: names are places in bound
+-- trees.)
 use Rattle.std.specs.Prelude.{⊤, ◌≡◌, List}
 use Rattle.std.specs.List.{AllByRecursion}
 use Rattle.sq_bound.specs.Fits.{IsBase, IsColumnOf, under}
@@ -24,7 +25,7 @@ BodyIsThere bases (body.Updatable u) = IsBase bases u.target.leaf.table
 abbrev pub CursorIsThere : List BaseTable → BoundCursor → Type 0
 CursorIsThere bases c = BodyIsThere bases c.body
 
--- what is seen as NULL is NULL
+-- an expression seen as NULL is NULL
 abbrev pub IsPlain : BoundExpr → Type 0
 IsPlain e = numbered_of e ≡ Numbered.literal Null → e ≡ Literal Null
 

@@ -1,4 +1,4 @@
--- What the queries of views and the conditions of CHECK are bound to (ISO/IEC 9075:1992, 11.9 and 11.19).
+-- The bound forms of the queries of views and the conditions of CHECK (ISO/IEC 9075:1992, 11.9 and 11.19).
 use Rattle.std.specs.Prelude.{Bool, false, not, ◌||◌, if◌then◌else◌, List, [], ◌∷◌, map, Option, None, Result, Ok, Err}
 use Rattle.std.specs.List.{enumerate_from}
 use Rattle.sq_meaning.specs.Environment.{TableName}
@@ -19,8 +19,8 @@ use Rattle.sq_binding.specs.Whole.{at_first}
 
 -- ---- views
 
--- a view: its query, what it is over where it is updatable, and whether its owner holds SELECT on all tables that it
--- names, and with the grant option
+-- A view: its query, and the table that it is over if it is updatable. Then whether its owner holds SELECT on all
+-- tables that it names, and with the grant option.
 pub record NumberedView : Type 0 where
   pub query : NumberedSelect
   pub updatable : Option NumberedUpdatable
@@ -46,7 +46,7 @@ view_bound names q = view_over names (outside names []) q
 
 -- ---- CHECK
 
--- a fault of a condition, or a subquery or USER, which may not stand there (own rule)
+-- a fault of a condition, or a subquery or USER, which a CHECK may not have (own rule)
 pub data CheckFault : Type 0 where
   broken : BindingFault → CheckFault
   not_in_check : CheckFault

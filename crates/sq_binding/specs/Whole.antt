@@ -1,4 +1,5 @@
--- What is bound by itself, in no query: its subqueries are numbered from 0, and a missing privilege is a fault where there is no other.
+-- Parts that are bound by themselves, in no query. Their subqueries are numbered from 0, and a missing privilege is a fault if there is
+-- no other.
 use Rattle.std.specs.Prelude.{Bool, false, not, if◌then◌else◌, Ok, Err}
 use Rattle.sq_meaning.specs.declared.fault.BindingFault.{BindingFault}
 use Rattle.sq_meaning.specs.declared.fault.BindingFault.TheVariants as fault
@@ -16,7 +17,7 @@ permitted x = if x.findings.lacks_privilege then Err fault.PrivilegeMissing else
 abbrev pub whole : {A : Type 0} → Binding A → Outcome A
 whole b = and_then (b at_first) permitted
 
--- what is found where a privilege is needed
+-- the findings in a part that needs a privilege
 abbrev pub needed : (is_held : Bool) → QueryFindings
 needed is_held = record {
   values = none;

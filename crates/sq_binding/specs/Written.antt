@@ -116,7 +116,7 @@ abbrev pub IsParameter : List ParameterDesc → Name → ℕ → Type 0
 IsParameter parameters name at =
     (domain : Domain) × (position_named (declared parameters) name ≡ Ok (at, domain))
 
--- a target is the parameter of the written name, and its indicator that of the written one, if one is written
+-- a target is the parameter of the written name, and its indicator is the parameter of the written indicator, if one is written
 abbrev pub IsOutputOf : List ParameterDesc → Output → Parameter → Type 0
 IsOutputOf parameters o p = placed_parameter (declared parameters) p ≡ Ok (output_seen o)
 
@@ -142,7 +142,7 @@ IsOrientationOf parameters (written.Absolute p) (orientation.Absolute d) = IsDis
 IsOrientationOf parameters (written.Relative p) (orientation.Relative d) = IsDistanceOf parameters p d
 IsOrientationOf parameters _ _ = ⊥
 
--- where no orientation is written, NEXT is implicit
+-- if no orientation is written, NEXT is implicit
 abbrev pub orientation_of : Option FetchFrom → Orientation
 orientation_of None = written.Next
 orientation_of (Some f) = unwrap_or f.orientation written.Next
@@ -158,7 +158,7 @@ IsFetchOf IsNumberOf parameters f fetch =
 abbrev pub QueryIs : Outcome PlacedQuery → BoundQuery → Type 0
 QueryIs text q = text ≡ Ok (bound.query_of q)
 
--- a column of UNION has a name where both sides have the same
+-- a column of UNION has a name if both sides have the same
 abbrev pub common_names : List (Option Name) → List (Option Name) → List (Option Name)
 common_names ls rs = map (λ p. common_name p.0 p.1) (zip ls rs)
 
@@ -177,7 +177,7 @@ leaf_item r t = record {
   columns = map column_over (zip (leaf_positions t.columns) (map descriptor_of t.columns));
 }
 
--- what is shown is a column of the table: the one at this position in the base table
+-- the shown expression is a column of the table: the one at this position in the base table
 abbrev pub IsShownAt : List Column → PlacedExpr → ℕ → Type 0
 IsShownAt columns e position =
     (p : Place) × (e ≡ column p) × (slice_get (leaf_positions columns) p.column ≡ Some position)
@@ -204,19 +204,19 @@ pub record IsUpdatableOf (known : KnownTables) (parameters : List ParameterDesc)
 
 -- ---- cursors and tables
 
--- a cursor has the rows of its query: those of the query expression, or, where it is updatable, of its only query specification
+-- a cursor has the rows of its query: of the query expression or, if it is updatable, of its only query specification
 abbrev pub HasRowsOf : KnownTables → List ParameterDesc → Query Named → CursorBody → Type 0
 HasRowsOf known parameters query (body.Rows q order) =
     QueryIs (query_placed (outside known parameters) query) q
 HasRowsOf known parameters (specification s) (body.Updatable u) = IsUpdatableOf known parameters s u
 HasRowsOf known parameters (union all left right) (body.Updatable u) = ⊥
 
--- a cursor is INSENSITIVE or SCROLL where that is written
+-- a cursor is INSENSITIVE or SCROLL if that is written
 abbrev pub HasWordsOf : Cursor → BoundCursor → Type 0
 HasWordsOf c cursor = (cursor.insensitive ≡ c.insensitive) × (cursor.scroll ≡ c.scroll)
 
--- the rows are sorted by the columns that the sort specifications name, where the columns of the query have these names; for an
--- updatable cursor there are none
+-- The rows are sorted by the columns that the sort specifications name, if the columns of the query have these names. For an updatable
+-- cursor there are none.
 abbrev pub IsSortedBy : Outcome (List (Option Name)) → List SortSpecification → CursorBody → Type 0
 IsSortedBy names by (body.Rows q sorts) = (names >>= λ ns. sort_columns ns by) ≡ Ok (map sort_seen sorts)
 IsSortedBy names by (body.Updatable u) = by ≡ []
@@ -229,7 +229,7 @@ pub record IsCursorOf (known : KnownTables) (user : Name) (parameters : List Par
   pub order : IsSortedBy (query_names_placed (tables_of known) (query_of user c.query))
       (listed_if_any c.order_by) cursor.body
 
--- what is under the table of the written name, which is the user's where no schema is written (5.4)
+-- the leaf under the table of the written name, which is the user's if no schema is written (5.4)
 abbrev pub IsUnder : KnownTables → Name → WrittenTable → Leaf → Type 0
 IsUnder known user t leaf =
     option_and_then (λ k. k.under) (meant_by known (table_of user t)) ≡ Some (under_of leaf)
@@ -241,7 +241,7 @@ abbrev pub value_placed : Surroundings → NewValue → Outcome PlacedExpr
 value_placed a (new_value.Expr e) = expr_placed a (expr_of e)
 value_placed a new_value.Null = Ok (literal Null)
 
--- the rows that are inserted: those of VALUES, or of the query (13.8)
+-- the rows that are inserted: the rows of VALUES, or of the query (13.8)
 abbrev pub IsSourceOf : Surroundings → Name → InsertSource → InsertedRows → Type 0
 IsSourceOf a user (source.Values list) (inserted.Values es) =
     ExprsAre (each (value_placed a) (listed list)) es
@@ -278,7 +278,8 @@ abbrev pub filter_placed : KnownTables → List ParameterDesc → Name → Table
 filter_placed known parameters user t c =
     changed_item known t >>= λ item. filter_on (outside known parameters) user item c
 
--- UPDATE and DELETE are of the rows that meet a condition or of all rows, or of the row of the cursor of the written name (13.6, 13.7, 13.9, 13.10)
+-- UPDATE and DELETE change the rows that meet a condition, or all rows, or the row of the cursor of the written name (13.6, 13.7, 13.9,
+-- 13.10)
 abbrev pub IsTargetOf : (Name → ℕ → Type 0) → (Cond → Outcome PlacedClause) → Option Where → ChangeTarget
     → Type 0
 IsTargetOf IsNumberOf filter None (target.Searched t) = t.condition ≡ None
@@ -338,8 +339,8 @@ pub record IsUpdateOf (IsNumberOf : Name → ℕ → Type 0) (known : KnownTable
   pub values : SetOn (outside known parameters) (table_of user u.table)
       (meant_by known (table_of user u.table)) (listed u.assignments) update.assignments
 
--- A statement in a module of the user: its cursors have the numbers that their names have, its targets are parameters of the written
--- names, the rows that it changes are under the table of the written name, and its queries, conditions and values are the written ones.
+-- A statement in a module of the user. Its cursors have the numbers of their names, and its targets are parameters of the written names.
+-- The rows that it changes are under the table of the written name, and its queries, conditions and values are the written ones.
 abbrev pub IsStatementOf : KnownTables → (Name → ℕ → Type 0) → Name → List ParameterDesc → Statement
     → BoundStatement → Type 0
 IsStatementOf known IsNumberOf user parameters (tree.Open name) (statement.Open n) = IsNumberOf name n

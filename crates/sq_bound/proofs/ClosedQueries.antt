@@ -1,4 +1,4 @@
--- A query specification that reads no column of a query around it has the same rows wherever it stands.
+-- A query specification that reads no column of a query around it has the same rows wherever it is.
 use Rattle.std.proofs.Common.{◌≡◌, ℕ, zero, suc, ◌<◌, List, [], ◌∷◌, Some, refl, ap, arith}
 use Rattle.std.specs.Prelude.{⊤, slice_get}
 use Rattle.std.specs.Option.{option_and_then}

@@ -1,4 +1,4 @@
--- What bound conditions and query specifications mean, level by level.
+-- The meanings of bound conditions and query specifications, level by level.
 use Rattle.sq_bound.specs.declared.condition.BoundFrom.{BoundFrom}
 use Rattle.std.proofs.Common.{◌≡◌, ℕ, Bool, List, [], Option, Some, None, sym, ◌∙◌, ap, map}
 use Rattle.std.specs.Option.{option_map}

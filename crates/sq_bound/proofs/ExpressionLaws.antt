@@ -1,4 +1,4 @@
--- What a bound expression means, level by level.
+-- The meaning of a bound expression, level by level.
 use Rattle.std.proofs.Common.{◌≡◌, ℕ, List, [], ◌∷◌, refl, sym, ◌∙◌, ap, map}
 use Rattle.std.specs.Prelude.{fold, slice_index_or}
 use Rattle.sq_value.specs.declared.value.Value.{Value}

@@ -1,4 +1,4 @@
--- What bound query expressions are made of, and the kinds of their columns, level by level.
+-- The parts of bound query expressions, and the kinds of their columns, level by level.
 use Rattle.std.proofs.Common.{◌≡◌, refl, sym, ◌∙◌, ap}
 use Rattle.std.specs.Prelude.{List, [], ◌∷◌, ◌++◌, flat_map, fold, map, Ok}
 use Rattle.sq_meaning.specs.Status.{◌>>=◌}

@@ -1,4 +1,4 @@
--- Numbers of subqueries, part by part: where the parts of a tree have numbers in neighbouring ranges, the tree has all of them.
+-- Numbers of subqueries, part by part: if the parts of a tree have numbers in neighbouring ranges, the tree has all of them.
 use Rattle.std.proofs.Common.{◌≡◌, ◌≤◌, ◌<◌, ◌+◌, ℕ, Bool, List, [], ◌∷◌, ◌++◌, Option, Some, None, refl, sym, ap, subst, ◌∙◌, arith}
 use Rattle.std.proofs.lemmas.Bool.{lt-ltb, le-ltb}
 use Rattle.std.specs.Prelude.{IfSome, if◌then◌else◌, nat_lt}

@@ -1,4 +1,4 @@
--- What bound query expressions mean, level by level.
+-- The meanings of bound query expressions, level by level.
 use Rattle.std.proofs.Common.{◌≡◌, sym, ◌∙◌, ap}
 use Rattle.std.specs.Prelude.{fold}
 use Rattle.sq_meaning.specs.Syntax.{specification, union}

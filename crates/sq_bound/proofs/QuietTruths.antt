@@ -1,4 +1,4 @@
--- The truth of a condition that is never a fault: where the condition is well formed, there is one.
+-- The truth of a condition that is never a fault: if the condition is well formed, it has one.
 use Rattle.std.proofs.Common.{◌≡◌, inl, inr, Bool, true, false, ◌&&◌, ◌||◌, List, [], ◌∷◌, refl, subst}
 use Rattle.std.specs.Prelude.{⊤}
 use Rattle.std.specs.List.{list_all}

@@ -1,4 +1,4 @@
--- What is asked of each column reference in a tree by place, and what follows for another depth; and the references in bound
+-- The demand on each column reference in a tree by place, and its consequence for another depth. And the references in bound
 -- trees, part by part.
 use Rattle.std.proofs.Common.{◌≡◌, ◌≤◌, ◌<◌, ℕ, suc, Bool, true, false, List, [], ◌∷◌, map, Option, Some, None, refl, sym, ap, subst, arith}
 use Rattle.std.specs.List.{AllByRecursion}

@@ -1,4 +1,4 @@
--- What is well formed stays so where more tables are there, and more parameters.
+-- A well-formed tree stays so if more tables exist, and more parameters.
 use Rattle.std.proofs.Common.{◌≡◌, ℕ, Bool, List, [], ◌∷◌, Option, Some, None, refl, ap, sym, subst, Ok, Err}
 use Rattle.std.specs.Prelude.{⊤, IsTrue, true, false, nat_lt, if◌then◌else◌, slice_get}
 use Rattle.std.specs.List.{AllByRecursion, flat_map}

@@ -1,12 +1,12 @@
--- Which columns a tree by place reads (ISO/IEC 9075:1992, 6.4, 7.9 and 8.12). A place says how many queries further out its
--- column is than the reference; the parts of a query specification stand one query deeper than it.
+-- The columns that a tree by place reads (ISO/IEC 9075:1992, 6.4, 7.9 and 8.12). A place says how many queries further out
+-- its column is than the reference. The parts of a query specification are one query deeper than it.
 use Rattle.std.specs.Prelude.{⊤, ◌≡◌, ℕ, suc, ◌+◌, ◌<◌, List, Option, IfSome}
 use Rattle.std.specs.List.{AllByRecursion}
 use Rattle.sq_meaning.specs.Environment.{Place}
 use Rattle.sq_meaning.specs.Placed.{Placed}
 use Rattle.sq_meaning.specs.Syntax.{Expr, literal, parameter, user, column, count_rows, set_function, signed, added, scaled, bracketed, SelectList, all_columns, expressions, Cond, Conds, Clause, Select, compare, compare_subquery, compare_quantified, between, in_subquery, in_list, like, is_null, exists, negated, conjunction, disjunction, no_cond, a_cond, absent, present, select}
 
--- P holds of each column reference in a tree, with how many queries deep it stands, where the tree itself stands n deep
+-- P holds for each column reference in a tree, with its depth in queries, if the tree itself is n deep
 module _ {T : Type 0} (P : ℕ → Place → Type 0) where
   abbrev pub ExprReads : ℕ → Expr (Placed T) → Type 0
   ExprReads n (literal v) = ⊤
@@ -59,7 +59,7 @@ module _ {T : Type 0} (P : ℕ → Place → Type 0) where
         ListReads (suc n) list × ClauseReads (suc n) filter × AllByRecursion (P (suc n)) by
         × ClauseReads (suc n) having
 
--- a column of a query at most so many further out than the outermost one in which the tree stands
+-- a column of a query at most so many further out than the outermost one in which the tree is
 abbrev pub IsWithin : (reach : ℕ) → ℕ → Place → Type 0
 IsWithin reach n p = p.depth < n + reach
 
@@ -71,7 +71,7 @@ IsInside n p = p.depth < n
 abbrev pub IsClosed : {T : Type 0} → Select (Placed T) → Type 0
 IsClosed q = SelectReads IsInside 0 q
 
--- a column of the query in which the tree stands is one of the first items of its FROM clause
+-- a column of the query in which the tree is belongs to one of the first items of its FROM clause
 abbrev pub IsAmongItems : (items : ℕ) → ℕ → Place → Type 0
 IsAmongItems items n p = p.depth ≡ n → p.item < items
 

@@ -1,5 +1,6 @@
--- What bound search conditions and query specifications mean: trees by place (ISO/IEC 9075:1992, 7.9 and 8.12). How
--- many items a test reads, whether something can fail, and the number of a subquery have no bearing on it.
+-- The meanings of bound search conditions and query specifications: trees by place (ISO/IEC 9075:1992, 7.9 and 8.12).
+-- The number of items that a test reads, whether something can fail, and the number of a subquery have no bearing on
+-- it.
 use Rattle.std.specs.Prelude.{Bool, if◌then◌else◌, List, [], map, Option, Some, None}
 use Rattle.std.specs.Option.{option_map}
 use Rattle.sq_tree.specs.declared.cond.Comparison.{Comparison}
@@ -39,7 +40,8 @@ compared_with Scalar op left q = compare_subquery op left q
 compared_with All op left q = compare_quantified op quantifier.All left q
 compared_with Any op left q = compare_quantified op quantifier.Any left q
 
--- what groups a query specification: its set functions in the order of the text, the columns of GROUP BY, and HAVING
+-- the grouping of a query specification: its set functions in the order of the text, the columns of GROUP BY, and
+-- HAVING
 pub record Groups : Type 0 where
   pub functions : List PlacedExpr
   pub columns : List meaning.Place
@@ -111,7 +113,7 @@ abbrev pub specification_layer : BoundSpecification-F C C C PlacedSelect C Group
 specification_layer s =
     select_by s.distinct s.list s.from.tables (clause [] s.condition) (groups_if s.grouping)
 
--- the search condition that a bound one is where the set functions of the group are these, and its parts
+-- the search condition of a bound one, if the set functions of the group are these, and its parts
 unfoldable pub cond_of : List PlacedExpr → BoundCond → PlacedCond
 cond_of functions c =
     fold-BoundCond C C C PlacedSelect C Groups predicate_layer cond_layer conj_layer specification_layer

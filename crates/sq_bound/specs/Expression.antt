@@ -1,4 +1,4 @@
--- What a bound expression means: a tree by place (ISO/IEC 9075:1992, 6.11).
+-- The meaning of a bound expression: a tree by place (ISO/IEC 9075:1992, 6.11).
 use Rattle.std.specs.Prelude.{List, [], fold, slice_index_or}
 use Rattle.sq_value.specs.declared.value.Value.TheVariants.{Chars}
 use Rattle.sq_tree.specs.declared.expr.Sign.TheVariants as sign
@@ -24,7 +24,7 @@ place_meant p = record { depth = p.depth; item = p.item; column = p.column }
 abbrev pub parameter_meant : Input → PlacedParameter
 parameter_meant p = record { position = p.parameter; indicator = p.indicator }
 
--- what has no value anywhere: no sign stands before a text
+-- an expression that has no value anywhere: a text has no sign
 abbrev pub missing : PlacedExpr
 missing = signed sign.Minus (literal (Chars []))
 

@@ -1,5 +1,5 @@
--- What a bound tree names is there: the tree fits the base tables, the cursors and the parameters that it was bound for.
--- (Own notion: names are places in bound trees, ISO/IEC 9075:1992 knows none.)
+-- The tables, cursors and parameters that a bound tree names exist: it fits the base tables, the cursors and the
+-- parameters that it was bound for. (Own notion: names are places in bound trees, ISO/IEC 9075:1992 knows none.)
 use Rattle.std.specs.Prelude.{⊤, ◌≡◌, ◌<◌, ℕ, nat_eq, nat_lt, Bool, true, false, ◌&&◌, not, List, [], ◌∷◌, length, map, Option, Some, IfSome, slice_get}
 use Rattle.std.specs.List.{AllByRecursion, AllZip, enumerate_from, list_all, list_any, zip}
 use Rattle.sq_value.specs.Domain.{IsInDomain}
@@ -28,11 +28,11 @@ use Rattle.sq_bound.specs.declared.statement.Output.{Output}
 
 -- ---- base tables
 
--- a base table stands at its place
+-- a base table is at its place
 abbrev pub IsBase : List BaseTable → BaseTable → Type 0
 IsBase bases b = slice_get bases b.place ≡ Some b
 
--- the base table under a base table or an updatable view stands at its place
+-- the base table under a base table or an updatable view is at its place
 abbrev pub IsOver : List BaseTable → TableDesc → Type 0
 IsOver bases t = IfSome t.leaf (λ l. IsBase bases l.table)
 
@@ -80,7 +80,7 @@ lacks_value p = p.0.not_null && is_null p.1
 abbrev pub has_its_values : BaseTable → List Value → Bool
 has_its_values t row = not (list_any lacks_value (zip t.columns row))
 
--- no row of any table is null where it may not be
+-- no row of any table is null in a column that may not be
 abbrev pub not_nulls_hold : List BaseTable → Content → Bool
 not_nulls_hold bases content =
     list_all (λ p. list_all (λ n. has_its_values p.1 n.row) (table_at content p.0).rows)

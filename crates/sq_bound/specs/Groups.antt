@@ -1,4 +1,4 @@
--- What groups a bound query specification: its set functions (ISO/IEC 9075:1992, 6.5, 7.7 to 7.9).
+-- The grouping of a bound query specification: its set functions (ISO/IEC 9075:1992, 6.5, 7.7 to 7.9).
 use Rattle.std.specs.Prelude.{⊤, ◌≡◌, true, List, ◌++◌, map, Option, None, Some}
 use Rattle.sq_meaning.specs.Query.{clause_functions, is_grouped, list_functions}
 use Rattle.sq_meaning.specs.Syntax.{expressions}
@@ -9,8 +9,8 @@ use Rattle.sq_bound.specs.declared.condition.BoundSpecification.{BoundSpecificat
 use Rattle.sq_bound.specs.declared.condition.Grouping.{Grouping, out-Grouping}
 use Rattle.sq_bound.specs.declared.expression.BoundExpr.{BoundExpr}
 
--- The set functions of a group's select list and HAVING in the order of the text are those that are noted, and the query is
--- grouped by GROUP BY, by HAVING or by a set function.
+-- The set functions of a group's select list and HAVING, in the order of the text, are the noted ones. The query is grouped
+-- by GROUP BY, by HAVING or by a set function.
 pub record AreGroupsOf (list : List BoundExpr) (grouping : Grouping) : Type 0 where
   pub functions : list_functions
       (expressions (map (expr_of (map call_of (out-Grouping grouping).set_functions)) list))

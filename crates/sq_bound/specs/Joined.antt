@@ -1,4 +1,4 @@
--- What a bound query expression is made of, and the kinds of its columns (ISO/IEC 9075:1992, 7.10): both sides of a UNION
+-- The parts of a bound query expression, and the kinds of its columns (ISO/IEC 9075:1992, 7.10). Both sides of a UNION
 -- have as many columns, of common kinds, to which their rows are brought. UNION groups to the left.
 use Rattle.std.specs.Prelude.{Bool, List, [], ◌∷◌, ◌++◌, if◌then◌else◌, flat_map, fold, map, Ok}
 use Rattle.std.specs.Cmp.Lexicographic.{pointwise}
@@ -46,7 +46,7 @@ union_specifications =
 abbrev pub Kinds : Type 0
 Kinds = Outcome (List Kind)
 
--- the kinds, where they are those that were noted with the columns
+-- the kinds, if they are the ones that were noted with the columns
 abbrev pub kept_kinds : List ResultColumn → List Kind → Kinds
 kept_kinds columns kinds =
     if pointwise same_kind kinds (map (λ c. c.kind) columns) then Ok kinds else not_well_formed

@@ -74,9 +74,9 @@ is_named_by leaf (Some own) k =
 abbrev pub has_no_fewer : (List ℕ → Bool) → List ℕ → List ℕ → Bool
 has_no_fewer fits key other = not (fits other) || nat_le (length key) (length other)
 
--- The number of a key that fits, where no key that fits has fewer columns, or none where no key fits. The tests that name the columns of a
--- key are the first of those that name the columns of a longer one, so where one of the values compared is null for the shorter key, it is
--- for the longer one too.
+-- The number of a key that fits and has no more columns than any other that fits, or none if no key fits. The tests that name the columns
+-- of a key are the first of the tests that name the columns of a longer one. So if one of the values compared is null for the shorter key,
+-- it is for the longer one too.
 abbrev pub IsShortest : (List ℕ → Bool) → List (List ℕ) → Option ℕ → Type 0
 IsShortest fits keys None = list_any fits keys ≡ false
 IsShortest fits keys (Some k) =

@@ -1,4 +1,5 @@
--- What a name of a table or view means: where its rows are, its columns, and what is under it (ISO/IEC 9075:1992, 5.4, 6.3 and 7.9).
+-- The meaning of a name of a table or view: the place of its rows, its columns, and the base table under it (ISO/IEC 9075:1992, 5.4,
+-- 6.3 and 7.9).
 use Rattle.std.specs.Prelude.{◌≡◌, ℕ, List, Option, Some}
 use Rattle.std.specs.Option.{option_map}
 use Rattle.sq_lex.specs.declared.name.Name.{Name}
@@ -9,8 +10,8 @@ use Rattle.sq_bound.specs.declared.names.Column.{Column}
 use Rattle.sq_bound.specs.declared.names.Leaf.{Leaf}
 use Rattle.sq_bound.specs.declared.names.TableDesc.{TableDesc}
 
--- The base table under a table that may be changed, by its place; the conditions of the views in between, each on a row of the base
--- table, from inside out; and how many of them, from inside out, new and changed rows have to meet.
+-- The base table under a table that may be changed, by its place. Then the conditions of the views in between, each on a row of the
+-- base table, from inside out. And the number of them, from inside out, that new and changed rows have to meet.
 pub record Under : Type 0 where
   pub base : ℕ
   pub conditions : List BoundCond
@@ -28,7 +29,7 @@ pub record KnownTable : Type 0 where
 abbrev pub known_by : TableDesc → KnownTable
 known_by t = record { place = place_of t.body; columns = t.columns; under = option_map under_of t.leaf }
 
--- the table or view of each owner and name, where there is one
+-- the table or view of each owner and name, if there is one
 abbrev pub KnownTables : Type 0
 KnownTables = (user name : Name) → Option KnownTable
 

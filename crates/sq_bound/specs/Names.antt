@@ -19,7 +19,7 @@ same_kind (Chars m) (Chars n) = nat_eq m n
 same_kind (Vary m) (Vary n) = nat_eq m n
 same_kind _ _ = false
 
--- the kind stands at this position
+-- the kind is at this position
 abbrev pub is_kind_at : List Kind → ℕ → Kind → Bool
 is_kind_at [] position k = false
 is_kind_at (l ∷ kinds) zero k = same_kind l k

@@ -1,6 +1,6 @@
--- What is noted of query specifications and of the tests of their WHERE clauses, at any depth (ISO/IEC 9075:1992, 7.9 and
--- 8.12): whether they may end with a status, the columns of how many items of FROM, from the left, a test reads, and what
--- groups a query specification.
+-- The notes on query specifications and on the tests of their WHERE clauses, at any depth (ISO/IEC 9075:1992, 7.9 and
+-- 8.12). They say whether these may end with a status, and how many items of FROM, from the left, a test reads at most.
+-- They also say how a query specification is grouped.
 use Rattle.std.specs.Prelude.{◌≡◌, ℕ, Bool, true, false, List, [], IfSome}
 use Rattle.std.specs.List.{AllByRecursion}
 use Rattle.sq_meaning.specs.Sure.{is_sure, is_sure_expr, is_sure_select}
@@ -25,11 +25,11 @@ may_fail (View n) = true
 abbrev pub AreSure : List PlacedExpr → Type 0
 AreSure functions = AllByRecursion (λ f. is_sure_expr f ≡ true) functions
 
--- an expression never ends with a status where none of the query's set functions does
+-- an expression never ends with a status if none of the query's set functions does
 abbrev pub IsSureExpr : BoundExpr → Type 0
 IsSureExpr e = (functions : List PlacedExpr) → AreSure functions → is_sure_expr (expr_of functions e) ≡ true
 
--- a condition never ends with a status where none of the query's set functions does
+-- a condition never ends with a status if none of the query's set functions does
 abbrev pub IsSureTree : (List PlacedExpr → PlacedCond) → Type 0
 IsSureTree tree = (functions : List PlacedExpr) → AreSure functions → is_sure may_fail (tree functions) ≡ true
 
@@ -41,8 +41,8 @@ IsReadExpr items e = ExprReadsItems items (expr_of [] e)
 abbrev pub IsReadTree : (items : ℕ) → PlacedCond → Type 0
 IsReadTree items tree = ReadsItems items tree
 
--- A test that is not noted to be one that may end with a status never does, and it reads no more items of FROM, from the
--- left, than are noted.
+-- A test without the note that it may end with a status never does. It reads no more items of FROM, from the left, than
+-- are noted.
 pub record IsNotedTest (t : BoundTest) : Type 0 where
   pub sure : t.can_fail ≡ false → IsSureTree (λ functions. test_of functions t)
   pub items : IsReadTree t.items (test_of [] t)
@@ -54,8 +54,8 @@ AreNotedTests c = AllByRecursion IsNotedTest (out-BoundConj c).tests
 abbrev pub HasNotes : BoundCond → Type 0
 HasNotes c = AllByRecursion AreNotedTests (out-BoundCond c).terms
 
--- A query specification: the tests of its WHERE clause are noted as they are, it never ends with a status unless that is
--- noted, and what groups it is noted.
+-- A query specification: the tests of its WHERE clause are noted as they are, and its grouping is noted. It never ends
+-- with a status unless that is noted.
 pub record IsNoted (q : BoundSpecification) : Type 0 where
   pub tests : IfSome (out-BoundSpecification q).condition HasNotes
   pub sure : (out-BoundSpecification q).can_fail ≡ false → is_sure_select may_fail (select_of q) ≡ true

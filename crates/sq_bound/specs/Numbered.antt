@@ -1,5 +1,5 @@
--- Numbers of subqueries: a subquery with a number reads no column of a query around it, so that it is evaluated once at most,
--- and no two subqueries of a bound tree have one number.
+-- Numbers of subqueries. A subquery with a number reads no column of a query around it, so that it is evaluated once at most.
+-- No two subqueries of a bound tree have one number.
 use Rattle.std.specs.Prelude.{⊤, ◌≡◌, ◌≤◌, ◌<◌, ℕ, List, Option, Some, IfSome}
 use Rattle.std.specs.List.{AllByRecursion}
 use Rattle.sq_bound.specs.Columns.{IsClosed}
@@ -54,11 +54,11 @@ EachWith With P trees = AllByRecursion (With P) trees
 abbrev pub number_of : BoundSpecification → Option ℕ
 number_of q = (out-BoundSpecification q).number
 
--- what has a number reads no column of a query around it
+-- a query specification with a number reads no column of a query around it
 abbrev pub IsRightlyNumbered : BoundSpecification → Type 0
 IsRightlyNumbered q = IfSome (number_of q) (λ n. IsClosed (select_of q))
 
--- what has a number is the one that the number names
+-- a query specification with a number is the one that the number names
 abbrev pub IsNamed : (ℕ → Option BoundSpecification) → BoundSpecification → Type 0
 IsNamed named q = IfSome (number_of q) (λ n. named n ≡ Some q)
 

@@ -1,4 +1,4 @@
--- What a bound query expression means: a tree by place (ISO/IEC 9075:1992, 7.10). UNION groups to the left.
+-- The meaning of a bound query expression: a tree by place (ISO/IEC 9075:1992, 7.10). UNION groups to the left.
 use Rattle.std.specs.Prelude.{fold}
 use Rattle.sq_meaning.specs.Syntax.{Query, specification, union}
 use Rattle.sq_meaning.specs.Placed.{Placed}

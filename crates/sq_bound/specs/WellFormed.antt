@@ -1,5 +1,5 @@
--- Which bound trees are well formed (ISO/IEC 9075:1992, 6.3 to 6.5, 6.11, 7.3 to 7.11, clauses 8 and 13): their trees by
--- place are, and what is known of their columns beforehand is what the definitions give.
+-- The bound trees that are well formed (ISO/IEC 9075:1992, 6.3 to 6.5, 6.11, 7.3 to 7.11, clauses 8 and 13). Their trees
+-- by place are, and the kinds known of their columns beforehand are the kinds that the definitions give.
 use Rattle.std.specs.Prelude.{⊤, ◌≡◌, ◌<◌, ◌⊎◌, ℕ, length, nat_eq, nat_lt, if◌then◌else◌, IsTrue, true, List, [], ◌∷◌, ◌++◌, map, slice_get, Some, IfSome, Ok}
 use Rattle.std.specs.List.{AllByRecursion, AllZip}
 use Rattle.sq_value.specs.Domain.{kind_of}
@@ -54,13 +54,13 @@ use Rattle.sq_bound.specs.declared.statement.InsertedRows.{InsertedRows}
 use Rattle.sq_bound.specs.declared.statement.InsertedRows.TheVariants as inserted
 use Rattle.sq_bound.specs.declared.statement.Output.{Output}
 
--- ---- what is known of tables and parameters
+-- ---- the kinds of tables and parameters
 
--- the kinds of the columns of each table and view that is there
+-- the kinds of the columns of each existing table and view
 abbrev pub TableKinds : Type 0
 TableKinds = TablePlace → Outcome (List Kind)
 
--- a base table alone is there
+-- only one base table exists
 abbrev pub only : ℕ → List Kind → TableKinds
 only place kinds (Base n) = if nat_eq n place then Ok kinds else not_well_formed
 only place kinds (View n) = not_well_formed
@@ -74,7 +74,7 @@ abbrev pub before_view : ℕ → TableKinds → TableKinds
 before_view place columns (Base n) = columns (Base n)
 before_view place columns (View n) = if nat_lt n place then columns (View n) else not_well_formed
 
--- what is there is still there
+-- tables that existed before still exist
 abbrev pub Extends : TableKinds → TableKinds → Type 0
 Extends before after = (t : TablePlace) (kinds : List Kind) → before t ≡ Ok kinds → after t ≡ Ok kinds
 
@@ -100,7 +100,7 @@ kinds_of_parameters parameters = map (λ p. kind_of p.domain) parameters
 abbrev pub base_kinds : BaseTable → List Kind
 base_kinds b = map (λ c. kind_of c.domain) b.columns
 
--- where a row of a base table alone is in scope
+-- in the scope of a row of one base table
 abbrev pub of_base_at : ℕ → Levels
 of_base_at place = of_lines (Base place ∷ []) ∷ []
 
@@ -109,8 +109,8 @@ of_base b = of_base_at b.place
 
 -- ---- expressions, conditions and queries, whatever rows the tables have
 
--- A bound expression of a kind: its tree, where the query has these set functions and maybe more behind them, has the
--- kind, and may stand at these levels.
+-- A bound expression of a kind. Its tree, for a query with these set functions and maybe more after them, has the kind,
+-- and may occur at these levels.
 pub record IsExpr (columns : TableKinds) (parameters : List Kind) (levels : Levels)
     (calls : List SetFunctionCall) (k : Kind) (e : BoundExpr) : Type 0 where
   pub tree : PlacedExpr
@@ -174,7 +174,7 @@ abbrev pub IsViewAmong : List BoundSpecification → TableBody → Type 0
 IsViewAmong queries (body.Base b) = ⊤
 IsViewAmong queries (body.View v) = slice_get queries v.place ≡ Some v.query
 
--- the query at a view's place is well formed over the tables that were there before, and its columns are of these kinds
+-- the query at a view's place is well formed over the tables that existed before, and its columns are of these kinds
 abbrev pub IsViewQuery : TableKinds → List BoundSpecification → ℕ → List Kind → Type 0
 IsViewQuery columns queries place kinds =
     ∥ Has (λ q. IsSelect (before_view place columns) [] [] q × (kinds ≡ kinds_of_select q))
@@ -211,7 +211,7 @@ IsCursor columns parameters c = IsCursorBody columns parameters (kinds_of_result
 
 -- ---- statements
 
--- a target gets values of a kind: its parameter is of numbers where they are, and its indicator parameter is of whole
+-- a target gets values of a kind: its parameter is of numbers if they are numbers, and its indicator parameter is of whole
 -- numbers (9.1)
 abbrev pub TakesKind : List Kind → Output → Kind → Type 0
 TakesKind parameters o k =
@@ -226,7 +226,7 @@ TakeKinds parameters = AllZip (TakesKind parameters)
 abbrev pub MayStore : ObjectColumn → Kind → Type 0
 MayStore c k = IsTrue (is_comparable k (kind_of c.domain))
 
--- what a column gets: NULL, or the value of an expression that may be stored there (13.8, 13.9)
+-- the new value of a column: NULL, or the value of an expression that may be stored there (13.8, 13.9)
 abbrev pub IsNewValue : TableKinds → List Kind → Levels → ObjectColumn → BoundExpr → Type 0
 IsNewValue columns parameters levels c e =
     (e ≡ Literal Null) ⊎ ((k : Kind) × IsExpr columns parameters levels [] k e × MayStore c k)
@@ -256,7 +256,7 @@ IsOrientation parameters (orientation.Absolute d) = IsDistance parameters d
 IsOrientation parameters (orientation.Relative d) = IsDistance parameters d
 IsOrientation parameters _ = ⊤
 
--- a statement of a procedure with these parameters, where the cursors have columns of these kinds
+-- a statement of a procedure with these parameters, if the cursors have columns of these kinds
 abbrev pub IsStatement : TableKinds → List (List Kind) → List Kind → BoundStatement → Type 0
 IsStatement columns cursors parameters (statement.Open n) = ⊤
 IsStatement columns cursors parameters (statement.Fetch f) =

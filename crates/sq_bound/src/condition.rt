@@ -16,14 +16,14 @@ pub enum TablePlace {
     View(usize),
 }
 
-/// A search condition (ISO/IEC 9075:1992, 8.12): true where one of its terms is.
+/// A search condition (ISO/IEC 9075:1992, 8.12): true if one of its terms is.
 #[cycle(bound_cond)]
 #[derive(Drop)]
 pub struct BoundCond {
     pub terms: Items<BoundConj>,
 }
 
-/// A boolean term: true where all its tests are.
+/// A boolean term: true if all its tests are.
 #[cycle(bound_cond)]
 #[derive(Drop)]
 pub struct BoundConj {
@@ -43,7 +43,7 @@ pub struct BoundTest {
     pub can_fail: bool,
 }
 
-/// What stands between a comparison operator and its subquery.
+/// The values of a subquery that a comparison operator compares with.
 #[derive(Clone, Copy, Debug, PartialEq, Eq)]
 pub enum Compared {
     /// The subquery's one value, or null.
@@ -63,7 +63,7 @@ pub enum Predicate {
     Between(bool, BoundExpr, BoundExpr, BoundExpr),
     InQuery(bool, BoundExpr, Boxed<BoundSpecification>),
     InList(bool, BoundExpr, Items<BoundExpr>),
-    /// The text, the pattern, and the escape character where one is written.
+    /// The text, the pattern, and the escape character if one is written.
     Like(bool, BoundExpr, BoundExpr, Option<BoundExpr>),
     Null(bool, BoundExpr),
     Exists(Boxed<BoundSpecification>),
@@ -106,7 +106,7 @@ pub struct Grouping {
     pub having: Option<BoundCond>,
 }
 
-/// A result column: what is known of its values, and its name where it has one.
+/// A result column: the kind of its values, and its name if it has one.
 #[derive(Clone, Copy)]
 pub struct ResultColumn {
     pub name: Option<Name>,

@@ -4,8 +4,8 @@ use sq_items::{Boxed, Items};
 use sq_tree::{SetFunction, Sign};
 use sq_value::Value;
 
-/// Where a column's value stands: how many queries further out, in which item of that query's FROM clause, and in which
-/// column of it. All count from 0.
+/// The place of a column's value: the number of queries further out, the item of that query's FROM clause, and the column
+/// of that item. All count from 0.
 #[derive(Clone, Copy, Debug, PartialEq, Eq)]
 pub struct Place {
     pub depth: usize,
@@ -13,7 +13,7 @@ pub struct Place {
     pub column: usize,
 }
 
-/// The place of a parameter whose value is read, and of its indicator parameter, which makes it null where it is negative.
+/// The place of a parameter whose value is read, and of its indicator parameter, which makes it null if it is negative.
 #[derive(Clone, Copy, Debug, PartialEq, Eq)]
 pub struct Input {
     pub parameter: usize,
@@ -33,7 +33,7 @@ pub enum Operator {
 #[cycle(bound_expr)]
 #[derive(Drop)]
 pub enum BoundExpr {
-    /// A literal, or NULL where a value is to be stored.
+    /// A literal, or NULL as a value to be stored.
     Literal(Value),
     Parameter(Input),
     User,

@@ -13,7 +13,7 @@ use crate::expression::BoundExpr;
 use sq_items::Items;
 use sq_tree::Comparison;
 
-/// The key with the fewest columns by which a condition names a row: the condition is one term, and its first tests say
+/// The key with the fewest columns by which a condition names a row. The condition is one term. Its first tests say
 /// `column = x` for the columns of the key, each with a literal or a parameter x.
 pub fn shortest_key(keys: &[Items<usize>], condition: &BoundCond) -> Option<usize>
     ensures { IsShortestKey keys.now condition.now result }

@@ -1,5 +1,5 @@
-//! What texts are bound to: trees whose names are places, and the tables that names mean (ISO/IEC 9075:1992, clauses 6 to 8, 11
-//! and 13).
+//! The results of binding texts: trees whose names are places, and the tables that names mean (ISO/IEC 9075:1992, clauses 6 to
+//! 8, 11 and 13).
 #![tactic(auto)]
 
 mod condition;

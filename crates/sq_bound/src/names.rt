@@ -1,4 +1,4 @@
-//! What names mean: tables and views, cursors and parameters.
+//! The meanings of names: tables and views, cursors and parameters.
 
 ghost use Rattle.std.specs.Prelude.{◌≡◌, ◌≤◌, ◌<◌, nat_lt, length, map, slice_get, true, IfSome, List, Some};
 ghost use Rattle.std.specs.List.{list_all};
@@ -31,7 +31,7 @@ pub trait Names {
 
     ghost base_tables: { Self → List BaseTable };
 
-    /// What each owner and name means.
+    /// The meaning of each owner and name.
     ghost known: { Self → KnownTables };
 
     /// The queries of the views, each at its place.
@@ -114,14 +114,14 @@ pub struct Column {
     pub ghost bounded: { is_bounded kind ≡ true },
 }
 
-/// What a table is.
+/// A base table, or a view.
 #[derive(Drop)]
 pub enum TableBody {
     Base(Shared<BaseTable>),
     View(View),
 }
 
-/// A base table: what its rows hold and obey (11.3 to 11.9).
+/// A base table: its columns, and the constraints on its rows (11.3 to 11.9).
 #[derive(Drop)]
 pub struct BaseTable {
     /// The place of the table in the store.
@@ -139,7 +139,7 @@ pub struct BaseTable {
     ghost referencing: { list_all (λ r. are_positions (length columns) r.by_key) references ≡ true },
 }
 
-/// What a column of a base table holds.
+/// A column of a base table: its domain, whether it may be null, and its default.
 #[derive(Drop)]
 pub struct BaseColumn {
     pub domain: Domain,
@@ -165,7 +165,7 @@ pub enum ColumnDefault {
     User,
 }
 
-/// A reference (11.8): where no column of it is null, a row of the table has the same values in its columns.
+/// A reference (11.8): if no column of it is null, a row of the table has the same values in its columns.
 #[derive(Drop)]
 pub struct Reference {
     pub columns: Items<usize>,
@@ -185,7 +185,7 @@ pub struct View {
     pub query: BoundSpecification,
 }
 
-/// What is under an updatable view, or under a base table: the rows of a base table that it shows.
+/// The leaf under an updatable view, or under a base table: the rows of a base table that it shows.
 #[derive(Drop)]
 pub struct Leaf {
     pub table: Shared<BaseTable>,
@@ -221,7 +221,7 @@ impl TableDesc {
     ghost use Rattle.sq_bound.specs.Noted.{may_fail};
     ghost use Rattle.sq_bound.specs.WellFormed.{place_of};
 
-    /// Where the table stands.
+    /// The place of the table.
     pub fn place(&self) -> TablePlace
         ensures { result ≡ place_of self.now.body }
     {

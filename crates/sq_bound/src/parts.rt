@@ -1,4 +1,4 @@
-//! Parts of which one may have a fault.
+//! Parts, one of which may have a fault.
 
 ghost use Rattle.std.specs.Prelude.{◌≡◌, IfErr, IfOk, Ok, is_ok, true};
 ghost use Rattle.sq_bound.specs.Parts.{IsFaultOf};

@@ -20,7 +20,7 @@ pub struct BoundQuery {
     pub columns: Items<ResultColumn>,
 }
 
-/// UNION or UNION ALL, the term behind it, and the columns to which both sides are brought.
+/// UNION or UNION ALL, the term after it, and the columns to which both sides are brought.
 #[cycle(bound_query)]
 #[derive(Drop)]
 pub struct BoundUnion {
@@ -44,8 +44,8 @@ pub struct SortColumn {
     pub descending: bool,
 }
 
-/// The rows of a base table that a statement or cursor may change: those that meet the conditions of the views in between,
-/// and then its own.
+/// The rows of a base table that a statement or cursor may change. They meet the conditions of the views in between, and
+/// then its own.
 #[derive(Drop)]
 pub struct Target {
     /// The table or view that is named.
@@ -55,10 +55,10 @@ pub struct Target {
     pub leaf: Shared<Leaf>,
     /// The condition on a row of the base table.
     pub condition: Option<BoundCond>,
-    /// The key of the base table whose columns the condition's first tests compare, each with a literal or a parameter: one
-    /// with the fewest columns, where there are more. The condition is one term, and no view is in between.
+    /// The key of the base table whose columns the condition's first tests compare, each with a literal or a parameter. It
+    /// has the fewest columns, if there are several. The condition is one term, and no view is in between.
     pub key: Option<usize>,
-    /// Whether the truth of no condition, those of the views included, is ever a fault.
+    /// Whether the truth of no condition, the views' included, is ever a fault.
     pub is_quiet: bool,
     ghost is_under: { base ≡ leaf.table.place },
     ghost keyed: { option_all (is_named_by leaf condition) key ≡ true },
@@ -66,7 +66,7 @@ pub struct Target {
     ghost quiet: { is_quiet ≡ (are_quiet_conds leaf.conditions && option_all is_quiet_cond condition) },
 }
 
-/// What an updatable query is over, and the columns of the base table that its select list names.
+/// The target of an updatable query, and the columns of the base table that its select list names.
 #[derive(Drop)]
 pub struct UpdatableQuery {
     pub target: Target,
@@ -84,7 +84,7 @@ pub struct BoundCursor {
     pub body: CursorBody,
 }
 
-/// What a cursor goes over.
+/// The rows that a cursor goes over.
 #[derive(Drop)]
 pub enum CursorBody {
     /// The rows of a query, in the order of the sort keys.

@@ -1,4 +1,4 @@
-//! A value with several owners: base tables, and what stands under views, are held by several descriptions.
+//! A value with several owners: several descriptions hold one base table, or one leaf of a view.
 
 ghost use Rattle.std.specs.Prelude.{◌≡◌, IfOk};
 

@@ -70,7 +70,7 @@ pub struct BoundSelect {
 pub struct BoundInsert {
     /// The place of the base table that gets the rows.
     pub base: usize,
-    /// What is under the table that is named.
+    /// The leaf under the named table.
     pub leaf: Shared<Leaf>,
     /// The columns of the base table that get the values, in the order of the values.
     pub columns: Items<ObjectColumn>,
@@ -78,7 +78,7 @@ pub struct BoundInsert {
     ghost is_under: { base ≡ leaf.table.place },
 }
 
-/// Where inserted values come from.
+/// The source of inserted values.
 #[derive(Drop)]
 pub enum InsertedRows {
     Values(Items<BoundExpr>),
@@ -98,7 +98,7 @@ pub struct PositionedTarget {
     pub cursor: usize,
     /// The place of the base table.
     pub base: usize,
-    /// What is under the table that is named.
+    /// The leaf under the named table.
     pub leaf: Shared<Leaf>,
     ghost is_under: { base ≡ leaf.table.place },
 }

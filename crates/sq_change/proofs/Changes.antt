@@ -1,4 +1,5 @@
--- What INSERT, UPDATE and DELETE do to the tables, and which rows they change.
+-- The effects of INSERT, UPDATE and DELETE on the tables, and the rows that
+-- they change.
 pub mod Applied
 pub mod Chosen
 pub mod Held

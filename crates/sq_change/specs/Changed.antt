@@ -1,4 +1,4 @@
--- What a statement is going to change, by its kind.
+-- The changes that a statement is going to make, by its kind.
 use Rattle.std.specs.Prelude.{◌≡◌, ◌≤◌, ◌+◌, ◌-◌, ℕ, Bool, true, false, List, [], ◌∷◌, length, map, nat_eq, Option, Ok, Vec}
 use Rattle.std.specs.Borrow.{Bor}
 use Rattle.std.specs.List.{AllByRecursion, AllZip, Any, list_all}
@@ -50,7 +50,7 @@ abbrev pub AreOnRowsPut : TableKinds → List Kind → List BoundCond → List C
 AreOnRowsPut columns parameters conditions changes =
     AllByRecursion (λ row. AllByRecursion (IsOnRow columns parameters row) conditions) (rows_put changes)
 
--- each row that changes put in a table is there after all of them
+-- each row that changes put in a table is in it after all of them
 abbrev pub ArePutThere : Table → List Change → Type 0
 ArePutThere t changes =
     AllByRecursion (λ row. Any (λ r. r.row ≡ row) (changed_by t changes).rows) (rows_put changes)
@@ -100,15 +100,15 @@ pub record Removals (s : Seen) (t : ChangeTarget) (on : Option ℕ) (changes : L
   pub chosen : Chosen s t on numbers
   pub all : changes ≡ map Remove numbers
 
--- ---- what a change leaves alone
+-- ---- the rest, which a change leaves alone
 
--- in keys other than the lost ones, the values that rows of the table had are there still; and the rows that are put in are
+-- In keys other than the lost ones, the values that rows of the table had are still in it. So are the rows that are put in.
 pub record KeepsRest (t : BaseTable) (before : Table) (changed : Changed) : Type 0 where
   pub keys : KeepsKeys t.keys changed.lost_keys.items before (changed_by before changed.changes.items)
   pub put : ArePutThere before changed.changes.items
 
--- changes can be made in a table, where rows may have so many numbers: the rows that they put in fit it, there is a number for each new one,
--- and keys other than the lost ones lose no values
+-- Changes can be made in a table whose rows may have so many numbers. The rows that they put in fit it, and there is a number for each new
+-- one. Keys other than the lost ones lose no values.
 pub record CanBeMade (t : BaseTable) (before : Table) (row_numbers : ℕ) (changed : Changed) : Type 0 where
   pub fit : FitTable t changed.changes.items
   pub numbers : insert_count changed.changes.items ≤ row_numbers + 1 - before.next

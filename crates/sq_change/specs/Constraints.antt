@@ -1,5 +1,5 @@
--- What a change has to obey (ISO/IEC 9075:1992, 4.10, 11.4 to 11.9, 11.19): check options, row by row; then NOT NULL and CHECK, row by
--- row; then the keys of the table that changes; then the references of all tables.
+-- The rules for a change (ISO/IEC 9075:1992, 4.10, 11.4 to 11.9, 11.19). First come check options, row by row, and then NOT NULL
+-- and CHECK, row by row. Then come the keys of the table that changes, and last the references of all tables.
 use Rattle.std.specs.List.{enumerate_from, list_all}
 use Rattle.std.specs.Prelude.{ℕ, Bool, ◌&&◌, ◌||◌, is_some, take, List, Ok}
 use Rattle.sq_value.specs.Key.{in_columns}
@@ -62,7 +62,7 @@ references_met bases content =
     list_all (λ p. list_all (reference_met_in (keys_of_bases bases) content p.0) p.1.references)
     (enumerate_from 0 bases)
 
--- ---- what holds of the tables between statements, besides keys
+-- ---- constraints on the tables between statements, besides keys
 
 -- NOT NULL and references
 abbrev pub constraints_hold : List BaseTable → Content → Bool

@@ -33,13 +33,13 @@ abbrev pub IsStoredFor : List ObjectColumn → ℕ → Value → Type 0
 IsStoredFor columns position v =
     (c : ObjectColumn) × Contains columns c × (c.position ≡ position) × IsInDomain c.domain v
 
--- ---- what may be stored (9.2)
+-- ---- values that may be stored (9.2)
 
 -- a value for each column: null, a number for a domain of numbers, or a text for one of texts
 abbrev pub FitColumns : List ObjectColumn → List Value → Type 0
 FitColumns = AllZip (λ c v. FitsKind c.domain v)
 
--- the value of an expression on a line is null or of the domain's kind, and where it ends with a status, that is not 42000
+-- the value of an expression on a line is null or of the domain's kind; if it ends with a status, that is not 42000
 abbrev pub IsStorable : Domain → BoundExpr → Line → List Value → Name → Type 0
 IsStorable domain e line parameters user =
     (r : Result Value Fault) → HasValueOn r e line parameters user → IfOk r (FitsKind domain) × IfErr r MayEnd
@@ -55,8 +55,8 @@ AreAssignable assignments row parameters user =
 
 -- ---- statements
 
--- the source of an insert statement is well formed where the parameters, which have these values, are of some kinds; its query
--- may read these tables
+-- The parameters, with these values, are of some kinds for which the source of an insert statement is well formed. Its query may
+-- read these tables.
 pub record MayGive (bases : List BaseTable) (queries : List BoundSpecification) (columns : TableKinds)
     (content : Content) (user : Name)
     (values : List Value) (objects : List ObjectColumn) (source : InsertedRows) : Type 0 where
@@ -65,8 +65,8 @@ pub record MayGive (bases : List BaseTable) (queries : List BoundSpecification) 
   pub reads : MayRead bases queries columns content user values parameters tables
   pub given : IsSource columns parameters objects source
 
--- a statement may find the rows that it changes: its conditions are well formed where the parameters, which have these values, are
--- of some kinds, and may read these tables
+-- A statement may find the rows that it changes. The parameters, with these values, are of some kinds for which its conditions are
+-- well formed. They may read these tables.
 pub record MayChoose (bases : List BaseTable) (queries : List BoundSpecification) (columns : TableKinds)
     (content : Content) (user : Name)
     (values : List Value) (t : ChangeTarget) : Type 0 where
@@ -75,7 +75,8 @@ pub record MayChoose (bases : List BaseTable) (queries : List BoundSpecification
   pub reads : MayRead bases queries columns content user values parameters tables
   pub target : IsChangeTarget columns parameters t
 
--- the set clauses of an update statement are for columns of the base table, and well formed where the parameters are of some kinds
+-- The parameters, with these values, are of some kinds for which the set clauses of an update statement are well formed. They are
+-- for columns of the base table.
 pub record MayAssign (columns : TableKinds) (values : List Value) (table : BaseTable)
     (assignments : List BoundAssignment) : Type 0 where
   pub parameters : List Kind

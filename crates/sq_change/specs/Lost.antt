@@ -36,7 +36,7 @@ row_under t (Some number) = row_of (row_at t number)
 abbrev pub row_changed : Table → Change → Option Row
 row_changed t change = row_under t (number_changed change)
 
--- the values of a row in a key, where none is null
+-- the values of a row in a key, if none is null
 abbrev pub key_lost : ℕ → Option Row → List LostKey
 key_lost key None = []
 key_lost key (Some values) = record { key = key; values = values } ∷ []
@@ -56,7 +56,7 @@ lost_if keys some (Some row) = lost_of keys some row
 abbrev pub lost_by : Table → Keys → List ℕ → List Change → List LostKey
 lost_by t keys some changes = flat_map (λ change. lost_if keys some (row_changed t change)) changes
 
--- ---- keys to which there are references
+-- ---- keys with references to them
 
 abbrev pub is_reference_to : ℕ → ℕ → Reference → Bool
 is_reference_to table key r = nat_eq r.table table && nat_eq r.key key
@@ -89,8 +89,9 @@ are_free bases content table lost =
     list_all (λ p. list_all (free_by (keys_of_bases bases) content table lost p.0) p.1.references)
     (enumerate_from 0 bases)
 
--- What is asked after changes of a table decides whether references hold: the rows to which the rows that are put in it refer, each by a key of
--- its table, and the values that its rows may have lost in those of these keys to which there are references.
+-- The rows and values asked for after changes of a table decide whether references hold. They are the rows to which the rows put in it
+-- refer, each by a key of its table. And they are the values that its rows may have lost, in the keys of this list to which a reference
+-- exists.
 pub record DecidesReferences (bases : List BaseTable) (own_keys : List Keys) (t : BaseTable) (before : Table)
     (changes : List Change) (lost_keys : List ℕ) (asked : Asked) : Type 0 where
   pub known : are_of_keys own_keys asked.referenced.items ≡ true

@@ -1,5 +1,5 @@
--- What INSERT, UPDATE and DELETE make of what they read (ISO/IEC 9075:1992, 13.6 to 13.10): the numbers of the rows that they change,
--- and the new rows, or the status that comes first. Check options and constraints come after all of it.
+-- The first results of INSERT, UPDATE and DELETE (ISO/IEC 9075:1992, 13.6 to 13.10). They are the numbers of the rows that they
+-- change, and the new rows, or the status that comes first. Check options and constraints come after all of it.
 use Rattle.std.specs.List.{enumerate_from, position, zip}
 use Rattle.std.specs.Prelude.{ℕ, ◌+◌, Bool, List, [], ◌∷◌, length, nat_eq, nat_le, slice_get, Option, None, Some, option_and_then, Ok, Err}
 use Rattle.sq_lex.specs.declared.name.Name.{Name}
@@ -41,14 +41,14 @@ use Rattle.sq_query.specs.Row.{outside}
 use Rattle.sq_query.specs.Table.{stored_numbered}
 use Rattle.sq_query.specs.Target.{conditions_of, is_true_of, numbers_chosen}
 
--- what a statement reads: the queries of the views, the tables before it, its user, and the values of the parameters
+-- the inputs of a statement: the queries of the views, the tables before it, its user, and the values of the parameters
 pub record Seen : Type 0 where
   pub views : List BoundSpecification
   pub tables : Content
   pub user : Name
   pub values : List Value
 
--- what a statement of this user reads
+-- the inputs of a statement of this user
 abbrev pub seen_by : List BoundSpecification → Content → Name → List Value → Seen
 seen_by views tables user values = record { views = views; tables = tables; user = user; values = values }
 
@@ -62,7 +62,7 @@ Fails {A} f outcome = Meets {A = A} (Err f) outcome
 
 -- ---- the rows that UPDATE and DELETE change
 
--- searched: the numbers of the rows for which each condition in turn is true, of which there has to be one (13.7, 13.10)
+-- searched: the numbers of the rows for which each condition in turn is true, at least one (13.7, 13.10)
 abbrev pub numbers_found : Shown → Seen → Target → Outcome (List ℕ)
 numbers_found shown s t =
     stored_numbered s.tables t.base >>= numbers_chosen (is_true_of shown s.values s.user) (conditions_of t)
@@ -123,7 +123,7 @@ stored_in p = assigned p.0.domain p.1
 abbrev pub row_stored : List ObjectColumn → Row → Outcome Row
 row_stored columns row = each stored_in (zip columns row)
 
--- the rows of a query, of which there has to be one
+-- the rows of a query, at least one
 abbrev pub rows_found : Shown → Seen → BoundSpecification → Outcome (List Row)
 rows_found shown s q = rows (by_place shown) (select_of q) (outermost (inputs_of s.values) s.user) >>= if_some
 

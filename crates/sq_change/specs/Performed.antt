@@ -1,6 +1,6 @@
--- What INSERT, UPDATE and DELETE come to (ISO/IEC 9075:1992, 13.6 to 13.10): the tables after the statement, or the status with which it
--- ends. Statuses come in this order: of choosing rows; no data; of values and storing; of row numbers; of check options; of constraints.
--- All reading is of the tables before the statement.
+-- The outcomes of INSERT, UPDATE and DELETE (ISO/IEC 9075:1992, 13.6 to 13.10): the tables after the statement, or the status with which
+-- it ends. Statuses come in this order: of choosing rows; no data; of values and storing; of row numbers; of check options; of
+-- constraints. All reading is of the tables before the statement.
 use Rattle.std.specs.Prelude.{ℕ, List, [], map, Option}
 use Rattle.sq_store.specs.Content.{Content, table_at}
 use Rattle.sq_meaning.specs.Status.{Outcome, ◌>>=◌}
@@ -13,7 +13,7 @@ use Rattle.sq_change.specs.Constraints.{completed}
 use Rattle.sq_change.specs.Made.{Seen, Shown, numbers_changed, rows_inserted}
 use Rattle.sq_change.specs.Statement.{update_made, with_replaced, with_rows, without}
 
--- new rows stand behind those that were there (13.8)
+-- new rows come after the earlier ones (13.8)
 abbrev pub insert_outcome : Shown → Seen → List BaseTable → ℕ → BoundInsert → Outcome Content
 insert_outcome shown s bases row_numbers i =
     rows_inserted shown s row_numbers i

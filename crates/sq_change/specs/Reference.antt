@@ -53,7 +53,7 @@ are_rows_there keys content rows = list_all (is_row_there keys content) rows
 
 -- ---- keys that lose nothing
 
--- in each other key, the values that rows had are there still
+-- in each other key, the values that rows had are still in the table
 abbrev pub KeepsKeys : Keys → List ℕ → Table → Table → Type 0
 KeepsKeys keys lost before after =
     (key : ℕ) (columns : List ℕ) → slice_get keys key ≡ Some columns → list_any (nat_eq key) lost ≡ false

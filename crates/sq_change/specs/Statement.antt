@@ -1,5 +1,5 @@
--- What INSERT, UPDATE and DELETE do to the tables where they are performed (ISO/IEC 9075:1992, 13.6 to 13.10). One base table changes, and
--- no other. Performed says when they are.
+-- The effects of INSERT, UPDATE and DELETE on the tables, if they are performed (ISO/IEC 9075:1992, 13.6 to 13.10). One base table changes,
+-- and no other. Performed says when they are.
 use Rattle.std.specs.Prelude.{⊤, IfSome, IsSome, ◌≡◌, ℕ, true, List, Option, fold, Ok}
 use Rattle.std.specs.List.{AllByRecursion}
 use Rattle.sq_lex.specs.declared.name.Name.{Name}
@@ -27,16 +27,16 @@ use Rattle.sq_change.specs.Made.{Seen, Shown, numbers_changed, rows_updated}
 abbrev pub IsShown : Seen → Shown → Type 0
 IsShown s shown = AreMeant s.views s.tables s.user shown
 
--- What a store with these tables and keys keeps for the base tables: each has its rows, with values in the domains of its columns, its keys,
--- and no null in a column with NOT NULL.
+-- A store with these tables and keys keeps the base tables. It has the rows of each, with values in the domains of its columns, and its
+-- keys. No column with NOT NULL has a null.
 pub record KeepsTables (bases : List BaseTable) (content : Content) (own_keys : List Keys) : Type 0 where
   pub tables : holds bases content ≡ true
   pub in_domains : AreInDomains bases content
   pub keys : own_keys ≡ keys_of_bases bases
   pub not_null : not_nulls_hold bases content ≡ true
 
--- the tables are legal for the base tables: each of these has its rows, with values in the domains of its columns, and the constraints
--- hold (11.4, 11.8)
+-- The tables are legal for the base tables. Each of these has its rows, with values in the domains of its columns, and the constraints hold
+-- (11.4, 11.8).
 pub record AreLegal (bases : List BaseTable) (content : Content) : Type 0 where
   pub rows : holds bases content ≡ true
   pub in_domains : AreInDomains bases content
@@ -77,7 +77,7 @@ Chosen s t on numbers = (shown : Shown) → IsShown s shown → numbers_changed 
 
 -- ---- UPDATE (13.9, 13.10)
 
--- other rows under the numbers of rows that are there
+-- other rows under the numbers of existing rows
 abbrev pub with_replaced : Table → List Numbered → Table
 with_replaced t rows = fold (λ u r. replaced u r.number r.row) t rows
 
@@ -93,7 +93,8 @@ without t numbers = fold removed t numbers
 
 -- ---- statements that can be performed, on tables with this content, by this user and with these values of parameters
 
--- an insert statement is of a base table, its columns are columns of it, and its source is well formed and may read what it reads
+-- An insert statement is of a base table, and its columns are columns of it. Its source is well formed and may read the tables that it
+-- reads.
 pub record CanInsert (bases : List BaseTable) (queries : List BoundSpecification) (kinds : TableKinds)
     (content : Content) (user : Name) (values : List Value) (i : BoundInsert) : Type 0 where
   pub leaf : IsLeaf kinds i.leaf
@@ -101,15 +102,15 @@ pub record CanInsert (bases : List BaseTable) (queries : List BoundSpecification
   pub columns : AllByRecursion (IsColumnOf i.leaf.table) i.columns
   pub given : MayGive bases queries kinds content user values i.columns i.source
 
--- a statement can choose the rows that it changes: it is of a base table, its conditions are well formed and may read what they read, and a
--- positioned one is given a row
+-- A statement can choose the rows that it changes. It is of a base table, and its conditions are well formed and may read the tables that
+-- they read. A positioned one is given a row.
 pub record CanChoose (bases : List BaseTable) (queries : List BoundSpecification) (kinds : TableKinds)
     (content : Content) (user : Name) (values : List Value) (t : ChangeTarget) (on : Option ℕ) : Type 0 where
   pub base : IsBase bases (under t).table
   pub given : IsGiven t on
   pub may : MayChoose bases queries kinds content user values t
 
--- an update statement can choose its rows, a row that it is given is there, and its set clauses are well formed
+-- an update statement can choose its rows, a row that it is given exists, and its set clauses are well formed
 pub record CanUpdate (bases : List BaseTable) (queries : List BoundSpecification) (kinds : TableKinds)
     (content : Content) (user : Name) (values : List Value) (u : BoundUpdate) (on : Option ℕ) : Type 0 where
   pub choose : CanChoose bases queries kinds content user values u.target on

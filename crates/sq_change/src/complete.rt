@@ -1,4 +1,4 @@
-//! A change of a base table, where check options and constraints allow it.
+//! A change of a base table, if check options and constraints allow it.
 
 ghost use Rattle.std.specs.Prelude.{◌≡◌, ◌<◌, ◌≤◌, ◌+◌, ◌-◌, true, length, List, IfErr, IfOk, MatchResult, OnErr, OnOk, Some};
 ghost use Rattle.std.specs.List.{list_all};
@@ -98,8 +98,8 @@ pub(crate) fn complete<N: Names, S: Store>(
     satisfied
 }
 
-/// Tests the rows that are put in a table against check options and constraints on one row, and gives what has to be asked
-/// of references afterwards.
+/// Tests the rows that are put in a table against check options and constraints on one row. It answers what references
+/// have to be asked afterwards.
 fn rows_admitted<N: Names, S: Store>(
     setting: &Setting<'_, N, S>,
     leaf: &Leaf,
@@ -140,7 +140,7 @@ fn rows_admitted<N: Names, S: Store>(
     asked_by(setting, table, changes, changed.lost_keys.as_slice())
 }
 
-/// Makes changes in the store, where no two rows have the same key afterwards.
+/// Makes changes in the store, if no two rows have the same key afterwards.
 fn apply<S: Store>(
     alloc: Global,
     store: &mut S,

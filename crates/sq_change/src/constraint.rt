@@ -1,4 +1,5 @@
-//! What new and changed rows have to meet: check options, NOT NULL and CHECK (ISO/IEC 9075:1992, 11.4, 11.9, 11.19).
+//! The conditions that new and changed rows have to meet: check options, NOT NULL and CHECK (ISO/IEC 9075:1992,
+//! 11.4, 11.9, 11.19).
 
 ghost use Rattle.std.specs.Prelude.{◌≡◌, length, true, List, take, IfErr, IfOk, Ok};
 ghost use Rattle.std.specs.List.{AllByRecursion, list_all, list_any, zip};

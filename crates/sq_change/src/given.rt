@@ -116,7 +116,7 @@ fn given_values<N: Names, S: Store>(
     Ok(row)
 }
 
-/// The rows of a query, of which there has to be one.
+/// The rows of a query, at least one.
 fn rows_found<N: Names, S: Store>(
     setting: &Setting<'_, N, S>,
     query: &BoundSpecification,
@@ -247,7 +247,7 @@ fn given_at<'a>(columns: &[ObjectColumn], given: &'a [Value], place: usize) -> O
     Some(&given[listed])
 }
 
-/// Where the column at a place is listed.
+/// The position in the list of the column at a place.
 fn listed_at(columns: &[ObjectColumn], place: usize) -> Option<usize>
     ensures { result ≡ position (λ column. nat_eq column.position place) columns.now }
 {

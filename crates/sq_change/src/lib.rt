@@ -1,9 +1,10 @@
 //! INSERT, UPDATE and DELETE, over whatever store keeps the tables (ISO/IEC 9075:1992, 13.6 to 13.10).
 //!
-//! A bound statement holds what is under the table that it names. Callers ensure that the store keeps the tables of
-//! the names and their keys, that the statement is over one of these tables, that set clauses are for columns of it,
-//! and that the source of an insert statement and set clauses are well formed: so each value is null, or a number or
-//! text as its column asks. A statement that is well formed as a whole never ends with 42000.
+//! A bound statement holds the leaf under the table that it names. Callers ensure that the store keeps the tables of
+//! the names and their keys. They ensure that the statement is over one of these tables, and that set clauses are
+//! for columns of it. They also ensure that the source of an insert statement and set clauses are well formed. So
+//! each value is null, or a number or text as its column asks. A statement that is well formed as a whole never ends
+//! with 42000.
 #![tactic(auto)]
 
 mod complete;

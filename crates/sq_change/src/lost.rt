@@ -27,8 +27,7 @@ pub(crate) struct LostKey {
     values: Key,
 }
 
-/// The values of the rows that changes take out or put others in place of, in those of these keys to which there are
-/// references.
+/// The values, in the keys of these to which a reference exists, of the rows that changes take out or replace.
 pub(crate) fn lost_by<N: Names, S: Store>(
     setting: &Setting<'_, N, S>,
     table: &BaseTable,
@@ -48,7 +47,7 @@ pub(crate) fn lost_by<N: Names, S: Store>(
     lost_in(setting, table, changes, keys.as_slice())
 }
 
-/// The lost keys of a table to which there are references.
+/// The lost keys of a table to which a reference exists.
 fn referred_keys<N: Names>(
     alloc: Global,
     names: &N,
@@ -69,7 +68,7 @@ fn referred_keys<N: Names>(
     Ok(referred)
 }
 
-/// Whether there is a reference to a key of a table.
+/// Whether a reference to a key of a table exists.
 fn is_referred<N: Names>(names: &N, table: usize, key: usize) -> bool
     ensures { result ≡ is_referred (N.base_tables names.now) table key }
 {
@@ -115,7 +114,7 @@ fn lost_in<N: Names, S: Store>(
     Ok(lost)
 }
 
-/// Adds the values of a row in these keys, where none is null.
+/// Adds the values of a row in these keys, if none is null.
 fn push_lost(
     alloc: Global,
     lost: &mut Vec<LostKey>,
@@ -161,8 +160,8 @@ pub(crate) fn all_free<N: Names, S: Store>(
     Ok(())
 }
 
-/// Whether no row of the base table at a place refers to one of these values of keys of another, unless a row of that has
-/// them still.
+/// Whether no row of the base table at a place refers to a lost value of another table's keys. A value that a row of that
+/// table still has doesn't count.
 fn references_free<S: Store>(
     store: &S,
     place: usize,
@@ -193,7 +192,8 @@ fn is_to(reference: &Reference, table: usize) -> bool
     reference.table == table
 }
 
-/// Whether by a reference no row of the table at a place refers to one of these values of keys, unless a row has them still.
+/// Whether by a reference no row of the table at a place refers to a lost value of a key. A value that a row still has
+/// doesn't count.
 fn reference_free<S: Store>(
     store: &S,
     place: usize,
@@ -214,8 +214,8 @@ fn reference_free<S: Store>(
     Ok(())
 }
 
-/// Whether values are of another key than a reference is to, or by it no row of the table at a place refers to them, or a
-/// row has them still.
+/// Whether the reference is to another key than the lost values are of, no row at a place refers to them by it, or a row
+/// still has them.
 fn is_free<S: Store>(
     store: &S,
     place: usize,

@@ -20,7 +20,7 @@ use sq_expression::{Failure, Fault};
 use sq_store::{Change, Meter, Store};
 use sq_value::{Key, Row};
 
-/// A row that has to be there: the one with these values in a key of a table.
+/// A row that has to exist: the row with these values in a key of a table.
 #[derive(Drop)]
 pub(crate) struct Referenced {
     table: usize,
@@ -28,15 +28,15 @@ pub(crate) struct Referenced {
     values: Key,
 }
 
-/// What decides whether references hold after changes of a table: the rows to which the rows that are put in it refer, and
-/// the values of keys that rows of it may have lost.
+/// The rows and values that decide whether references hold after changes of a table. They are the rows to which the rows
+/// put in it refer, and the values of keys that rows of it may have lost.
 #[derive(Drop)]
 pub(crate) struct Asked {
     referenced: Vec<Referenced>,
     lost: Vec<LostKey>,
 }
 
-/// What has to be asked after changes of a table by which rows may lose their values in these keys.
+/// The rows and values to ask for after changes of a table, by which rows may lose their values in these keys.
 pub(crate) fn asked_by<N: Names, S: Store>(
     setting: &Setting<'_, N, S>,
     table: &BaseTable,
@@ -117,8 +117,8 @@ fn push_referenced<N: Names, S: Store>(
     Ok(())
 }
 
-/// Whether references hold after changes of a table: those of the rows that were put in it, and those to the values of keys
-/// that rows of it may have lost.
+/// Whether references hold after changes of a table. It asks for the references of the rows that were put in it, and for
+/// the references to the key values that its rows may have lost.
 pub(crate) fn references_satisfied<N: Names, S: Store>(
     names: &N,
     store: &S,
@@ -139,7 +139,7 @@ pub(crate) fn references_satisfied<N: Names, S: Store>(
     all_free(names, store, table, asked.lost.as_slice())
 }
 
-/// Whether there are all these rows.
+/// Whether all these rows exist.
 fn all_there<S: Store>(store: &S, referenced: &[Referenced]) -> Result<(), Fault>
     requires { are_of_keys (S.key_columns store.now) referenced.now ≡ true }
     ensures meant { Meets result (demanded (are_rows_there (S.key_columns store.now)
@@ -152,7 +152,7 @@ fn all_there<S: Store>(store: &S, referenced: &[Referenced]) -> Result<(), Fault
     Ok(())
 }
 
-/// Whether there is such a row.
+/// Whether such a row exists.
 fn is_there<S: Store>(store: &S, referenced: &Referenced) -> Result<(), Fault>
     requires { is_of_key (S.key_columns store.now) referenced.now ≡ true }
     ensures meant { Meets result (demanded (is_row_there (S.key_columns store.now)

@@ -29,7 +29,7 @@ pub fn row_put(change: &Change) -> Option<&Row>
     }
 }
 
-/// The row of a table that a change takes out or puts another in place of, if it is there.
+/// The row of a table that a change takes out or replaces, if it exists.
 pub(crate) fn row_changed<'a, S: Store>(
     store: &'a S,
     table: usize,
@@ -74,6 +74,7 @@ pub(crate) fn has_null(row: &[Value], columns: &[usize]) -> bool
     false
 }
 
+/// Whether the value is null.
 pub fn is_null(value: &Value) -> bool
     ensures { result ≡ is_null value.now }
 {

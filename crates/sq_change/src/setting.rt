@@ -1,4 +1,4 @@
-//! What a statement reads.
+//! The inputs of a statement.
 
 ghost use Rattle.std.specs.Prelude.{◌≡◌, List, IfErr};
 ghost use Rattle.std.specs.Option.{option_copied};
@@ -30,6 +30,7 @@ pub struct Setting<'a, N: Names, S: Store> {
 }
 
 impl<'a, N: Names, S: Store> Setting<'a, N, S> {
+    /// The setting of these parts.
     pub fn new(
         alloc: Global,
         names: &'a N,

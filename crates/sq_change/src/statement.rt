@@ -25,9 +25,17 @@ use sq_store::{Change, Meter, Store};
 use std::alloc::{AllocError, Global};
 
 /// Performs an insert statement (ISO/IEC 9075:1992, 13.8). All new rows are made before any is tested. Faults come in
-/// this order: the query's; 02000 if it has no row; the faults of values and of storing them, row by row; S1L00 if
-/// there are too few row numbers; check options; NOT NULL and CHECK, row by row; keys; references. A well-formed
-/// statement never ends with 42000.
+/// this order:
+/// - the query's;
+/// - 02000 if it has no row;
+/// - the faults of values and of storing them, row by row;
+/// - S1L00 if there are too few row numbers;
+/// - check options;
+/// - NOT NULL and CHECK, row by row;
+/// - keys;
+/// - references.
+///
+/// A well-formed statement never ends with 42000.
 pub fn insert<N: Names, S: Store>(
     alloc: Global,
     names: &N,
@@ -96,11 +104,17 @@ pub fn find_inserted<N: Names, S: Store>(
 }
 
 /// Performs an update statement (13.9, 13.10). `on` is the number of the row that the cursor is on, for a positioned
-/// one. The store keeps the tables of the names and their keys, the statement is over one of these tables, and its set
-/// clauses are for columns of it and well formed. All rows are changed before any is tested. Faults come in this order:
-/// the search condition's; 02000 if it keeps no row; the faults of values and of storing them, row by row; check
-/// options; NOT NULL and CHECK, row by row; keys; references, to and from the rows. A well-formed statement never ends
-/// with 42000.
+/// one. The store keeps the tables of the names and their keys. The statement is over one of these tables, and its set
+/// clauses are well formed and for columns of it. All rows are changed before any is tested. Faults come in this order:
+/// - the search condition's;
+/// - 02000 if it keeps no row;
+/// - the faults of values and of storing them, row by row;
+/// - check options;
+/// - NOT NULL and CHECK, row by row;
+/// - keys;
+/// - references, to and from the rows.
+///
+/// A well-formed statement never ends with 42000.
 pub fn update<N: Names, S: Store>(
     alloc: Global,
     names: &N,

@@ -36,8 +36,7 @@ pub fn leaf_under(target: &ChangeTarget) -> &Leaf
     }
 }
 
-/// The numbers of the rows: of those that the search condition keeps, of which there has to be one, or of the row that a
-/// cursor is on.
+/// The numbers of the rows that the search condition keeps, at least one, or of the row that a cursor is on.
 pub(crate) fn numbers_changed<N: Names, S: Store>(
     setting: &Setting<'_, N, S>,
     target: &ChangeTarget,
@@ -95,8 +94,8 @@ fn list_only(alloc: Global, number: u64) -> Result<Vec<u64>, Fault>
     Ok(numbers)
 }
 
-/// The rows that a statement changes, with their numbers: the rows that the search condition keeps, at least one, or
-/// the row that a cursor is on.
+/// The rows that a statement changes, with their numbers. They are the rows that the search condition keeps, at
+/// least one, or the row that a cursor is on.
 pub fn rows_changed<'a, N: Names, S: Store>(
     setting: &Setting<'a, N, S>,
     target: &ChangeTarget,

@@ -1,4 +1,4 @@
--- What is said of cursors.
+-- The remarks on cursors.
 use Rattle.std.proofs.Common.{◌≡◌, List, [], ◌∷◌, Some, None, Result, Ok, Err, IfOk, Bool, true, false, if◌then◌else◌, refl, sym, subst}
 use Rattle.std.specs.Prelude.{OnOk}
 use Rattle.std.specs.Borrow.{Bor}

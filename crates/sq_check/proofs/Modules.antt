@@ -1,4 +1,4 @@
--- What is said of modules.
+-- The remarks on modules.
 use Rattle.std.proofs.Common.{◌≡◌, List}
 use Rattle.std.specs.List.{AllZip}
 use Rattle.std.specs.Map.{keys_of}

@@ -1,4 +1,4 @@
--- A text is walked through once: each part begins behind the tokens of the one before it.
+-- A text is walked through once: each part begins after the tokens of the one before it.
 use Rattle.std.proofs.Common.{◌≡◌, ◌∙◌, ℕ, ◌+◌, ◌<◌, List, ◌++◌, length, length-append, get_or, ap, arith}
 use Rattle.sq_tree.specs.Tree.{Tokens}
 use Rattle.sq_tree.specs.Starts.{before_element, tokens_of_first}

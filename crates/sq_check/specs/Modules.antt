@@ -1,4 +1,4 @@
--- What is to be said of the items of modules, each at its first token (ISO/IEC 9075:1992, 12.1 and 13.1).
+-- The remarks on the items of modules, each at its first token (ISO/IEC 9075:1992, 12.1 and 13.1).
 use Rattle.std.specs.Prelude.{◌≡◌, ℕ, suc, ◌-◌, ◌^◌, min, ⊤, List, [], ◌∷◌, ◌++◌}
 use Rattle.std.specs.List.{AllByRecursion, AllZip}
 use Rattle.std.specs.Map.{keys_of}
@@ -46,8 +46,8 @@ AllAt P place _ _ = ⊥
 abbrev pub AreMarks : Catalog → Program → ModuleText → List Mark → Type 0
 AreMarks catalog p m marks = AllAt (IsMark catalog p m) 0 m.items marks
 
--- The modules are bound as a program, whose procedures are those that they declare, each bound as it is written or with a fault; and
--- this is what is to be said of the items of each.
+-- The modules are bound as a program. Its procedures are the procedures that they declare, each bound as it is written or with a
+-- fault. And these are the remarks on the items of each.
 pub record AreChecked (catalog : Catalog) (modules : List ModuleText)
     (marks : List (List Mark)) : Type 0 where
   pub program : Program
@@ -58,11 +58,11 @@ pub record AreChecked (catalog : Catalog) (modules : List ModuleText)
 
 -- ---- while a module is looked at
 
--- procedures that open the cursors under which they stand
+-- procedures, each with the name of a cursor that it opens
 abbrev pub AreOpeners : Program → ModuleText → List (Name × Bor BoundProcedure) → Type 0
 AreOpeners p m openers = AllByRecursion (λ e. IsOpener p m e.0 e.1.now) openers
 
--- the mark of an item at this token stands behind those before
+-- the mark of an item at this token comes after the marks before
 abbrev pub IsMarkAdded : Catalog → Program → ModuleText → ℕ → ModuleItem → List Mark → List Mark → Type 0
 IsMarkAdded catalog p m token i before after =
     (mark : Mark) × (after ≡ before ++ mark ∷ []) × IsMarkAt catalog p m token i mark

@@ -1,4 +1,4 @@
--- What is to be said of the procedures, cursors and views of texts (ISO/IEC 9075:1992, 11.19 and clause 13).
+-- The remarks on the procedures, cursors and views of texts (ISO/IEC 9075:1992, 11.19 and clause 13).
 use Rattle.std.specs.Prelude.{◌≡◌, Bool, if◌then◌else◌, List, [], Option, Some, None, IfSome, is_some, Result, Ok, Err}
 use Rattle.std.specs.List.{IsAmong}
 use Rattle.std.specs.Map.{lookup}
@@ -72,12 +72,13 @@ pub record AreParametersFor (p : Program) (m : ModuleText) (cursor : Name)
   pub opens : IfSome opener (IsOpener p m cursor)
   pub are : parameters ≡ parameters_of opener
 
--- what is said of a cursor with this body
+-- the remark on a cursor with this body
 abbrev pub IsOfBody : Cursor → CursorBody → Remark → Type 0
 IsOfBody c (body.Updatable query) remark = remark ≡ Updatable
 IsOfBody c (body.Rows query order) remark = (rule : Rule) × IsRuleOf c rule × (remark ≡ NotUpdatable rule)
 
--- a remark is the cursor's fault, as the definitions find it, or says what its body is, which is bound as it is written and well formed
+-- A remark is the cursor's fault, as the definitions find it. Or it says the cursor's body, which is bound as it is written and well
+-- formed.
 abbrev pub IsOfResult : Catalog → Name → List ParameterDesc → Cursor → Remark → Result BoundCursor Broken
     → Type 0
 IsOfResult catalog user parameters c remark (Err fault) =
@@ -91,7 +92,7 @@ abbrev pub IsRemarkWith : Catalog → Name → List ParameterDesc → Cursor →
 IsRemarkWith catalog user parameters c remark =
     (bound : Result BoundCursor Broken) × IsOfResult catalog user parameters c remark bound
 
--- what is said of a cursor, for the parameters of the procedure that opens it
+-- the remark on a cursor, for the parameters of the procedure that opens it
 pub record IsCursorRemark (catalog : Catalog) (p : Program) (m : ModuleText) (c : Cursor)
     (remark : Remark) : Type 0 where
   pub parameters : List ParameterDesc
@@ -111,6 +112,6 @@ IsItemRemark catalog p m (item.Cursor c) remark =
 abbrev pub is_updatable : Option KnownTable → Bool
 is_updatable t = is_some_and (λ k. is_some k.under) t
 
--- a view is updatable where its name means a table that may be changed
+-- a view is updatable if its name means a table that may be changed
 abbrev pub view_remark : Option KnownTable → QuerySpecification → Remark
 view_remark t q = if is_updatable t then Updatable else NotUpdatable (query_rule q)

@@ -1,5 +1,6 @@
--- The first rule by which a query or a cursor is not updatable, as its text says (ISO/IEC 9075:1992, 7.9 and 13.1; that no WHERE has a
--- subquery is an own rule). They are the rules of `updatable_source` (Target of sq_meaning) and `updatable_query` (WellFormedStatement of sq_meaning).
+-- The first rule by which a query or a cursor is not updatable, as its text says (ISO/IEC 9075:1992, 7.9 and 13.1). An own rule is that no
+-- WHERE has a subquery. They are the rules of `updatable_source` (Target of sq_meaning) and `updatable_query` (WellFormedStatement of
+-- sq_meaning).
 use Rattle.std.specs.Prelude.{◌≡◌, ◌==◌, Bool, true, false, not, ◌&&◌, if◌then◌else◌, List, [], ◌∷◌, ◌++◌, length, map, Option, Some, None, is_some, unwrap_or}
 use Rattle.std.specs.List.{list_any}
 use Rattle.sq_lex.specs.Word.{same_word}
@@ -26,7 +27,7 @@ use Rattle.sq_check.specs.declared.rule.Rule.TheVariants.{Insensitive, Scroll, O
 
 -- ---- select lists
 
--- the column that a select item is, where nothing stands around it
+-- the column of a select item that is a column reference and nothing more
 abbrev pub column_of : Expr → Option Name
 column_of e = item_name (expr_of e)
 
@@ -48,13 +49,13 @@ abbrev pub is_select : Lexeme → Bool
 is_select (lexeme.Word w) = same_word w word.Select
 is_select _ = false
 
--- the word SELECT stands in the condition
+-- the condition has the word SELECT
 abbrev pub has_subquery : Cond → Bool
 has_subquery c = list_any is_select (cond_tokens c)
 
 -- ---- the first rule
 
--- what stands behind FROM
+-- the clauses after FROM
 abbrev pub clause_rule : TableExpression → Option Rule
 clause_rule t =
     let table = out-TableExpression t in
@@ -72,7 +73,7 @@ text_rule q =
     else if not (shows_columns query.list) then Some SelectItems
     else clause_rule query.table
 
--- the first rule of a query that is not updatable: where its text breaks none, it is over a view that is not updatable
+-- the first rule of a query that is not updatable: if its text breaks none, it is over a view that is not updatable
 abbrev pub query_rule : QuerySpecification → Rule
 query_rule q = unwrap_or (text_rule q) OverView
 

@@ -1,4 +1,4 @@
--- What is to be said of the views of schemas, each at its first token (ISO/IEC 9075:1992, 11.19).
+-- The remarks on the views of schemas, each at its first token (ISO/IEC 9075:1992, 11.19).
 use Rattle.std.specs.Prelude.{ℕ, suc, ◌+◌, List, [], ◌∷◌, ◌++◌, Some}
 use Rattle.sq_lex.specs.declared.name.Name.{Name}
 use Rattle.sq_tree.specs.Starts.{before_element, schema_start, schemas}
@@ -11,12 +11,12 @@ use Rattle.sq_check.specs.Modules.{counted}
 use Rattle.sq_check.specs.Remark.{view_remark}
 use Rattle.sq_check.specs.declared.mark.Mark.{Mark}
 
--- what comes of each element by its place, from this one on
+-- the results of `f` on each element by its place, from this one on
 abbrev pub all_at : {A B : Type 0} → (ℕ → A → List B) → ℕ → List A → List B
 all_at f place [] = []
 all_at f place (x ∷ xs) = f place x ++ all_at f (suc place) xs
 
--- a view of a user's schema at this token, where names mean these tables
+-- a view of a user's schema at this token, if names mean these tables
 abbrev pub marks_at : KnownTables → Name → ℕ → SchemaElement → List Mark
 marks_at names user token (element.View v) =
     record {

@@ -1,4 +1,4 @@
-//! What is to be said of cursors (ISO/IEC 9075:1992, 13.1).
+//! The remarks on cursors (ISO/IEC 9075:1992, 13.1).
 
 ghost use Rattle.std.specs.Prelude.{IfOk};
 ghost use Rattle.sq_check.specs.Remark as spec;
@@ -13,7 +13,7 @@ use sq_module::bound_cursor;
 use sq_tree::Cursor;
 use std::alloc::{AllocError, Global};
 
-/// What is to be said of a cursor of a user's module, where a procedure with these parameters opens it.
+/// The remark on a cursor of a user's module, if a procedure with these parameters opens it.
 #[tactic(auto, using(crate::proofs::Cursors::with_fault, crate::proofs::Cursors::with_body))]
 pub(crate) fn cursor_remark(
     alloc: Global,
@@ -39,7 +39,7 @@ fn remark_of(alloc: Global, cursor: &Cursor, bound: BoundCursor) -> Result<Remar
     remark
 }
 
-/// What a cursor with this body is.
+/// The remark on a cursor with this body.
 #[tactic(auto, using(crate::proofs::Cursors::of_rows))]
 fn body_remark(alloc: Global, cursor: &Cursor, body: &CursorBody) -> Result<Remark, AllocError>
     ensures { IfOk result (spec.IsOfBody cursor.now body.now) }

@@ -1,5 +1,5 @@
-//! What is to be said of texts that are not refused: the fault for which a call answers 42000, and which cursors and views are
-//! updatable (ISO/IEC 9075:1992, clause 13 and 11.19).
+//! The remarks on texts that are not refused (ISO/IEC 9075:1992, clause 13 and 11.19): the fault for which a call
+//! answers 42000, and which cursors and views are updatable.
 #![tactic(auto)]
 
 mod cursor;

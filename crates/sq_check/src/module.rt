@@ -1,4 +1,4 @@
-//! What is to be said of modules (ISO/IEC 9075:1992, 12.1).
+//! The remarks on modules (ISO/IEC 9075:1992, 12.1).
 
 ghost use Rattle.std.specs.Prelude.{◌≡◌, IfErr, IfOk, MatchResult, None, OnOk, length};
 ghost use Rattle.std.specs.List.{AllZip};
@@ -24,7 +24,7 @@ use sq_spell::{module_item_start, token_count};
 use sq_tree::{Cursor, ModuleItem, ModuleText};
 use std::alloc::{AllocError, Global};
 
-/// What is to be said of each item of modules, or their first refusal.
+/// The remarks on each item of modules, or their first refusal.
 #[tactic(auto, using(crate::proofs::Modules::are_checked))]
 pub fn check_modules(
     alloc: Global,
@@ -159,7 +159,7 @@ fn procedure_remark(program: &Program, module: Name, name: Name) -> Option<Remar
     }
 }
 
-/// What is to be said of a cursor of a module, for the parameters of the procedure that opens it.
+/// The remark on a cursor of a module, for the parameters of the procedure that opens it.
 #[tactic(auto, using(crate::proofs::Cursors::where_opened))]
 fn opened_remark(
     alloc: Global,

@@ -1,8 +1,8 @@
-//! What is to be said of a part of a text.
+//! The remark on a part of a text.
 use crate::rule::Rule;
 use sq_binder::Fault;
 
-/// What is to be said of a procedure, a cursor or a view.
+/// The remark on a procedure, a cursor or a view.
 #[derive(Clone, Copy, Debug)]
 pub enum Remark {
     /// The statement or the cursor's query has this fault, so each call answers 42000.

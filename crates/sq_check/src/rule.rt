@@ -1,5 +1,5 @@
-//! The first rule by which a query is not updatable (ISO/IEC 9075:1992, 7.9 and 13.1; that no WHERE has a subquery is an own
-//! rule).
+//! The first rule by which a query is not updatable (ISO/IEC 9075:1992, 7.9 and 13.1). An own rule is that no WHERE has a
+//! subquery.
 
 ghost use Rattle.std.specs.Prelude.{◌≡◌, ◌++◌, ◌∷◌, [], true, IfOk, Some, map, not, option_to_list};
 ghost use Rattle.std.specs.List.{list_any};
@@ -20,7 +20,7 @@ use sq_tree::{
 use std::alloc::{AllocError, Global};
 use thiserror::Error;
 
-/// A rule by which a cursor or a view is not updatable. Where several hold, the first in this order is answered.
+/// A rule by which a cursor or a view is not updatable. If several hold, the answer is the first in this order.
 #[derive(Clone, Copy, Debug, PartialEq, Eq, Error)]
 pub enum Rule {
     #[error("INSENSITIVE")]
@@ -36,10 +36,10 @@ pub enum Rule {
     /// FROM names more than one table.
     #[error("more than one table")]
     SeveralTables,
-    /// An item of the select list is no column, or a column stands twice.
+    /// An item of the select list is no column, or a column occurs twice.
     #[error("select list")]
     SelectItems,
-    /// A subquery stands in WHERE.
+    /// WHERE has a subquery.
     #[error("subquery")]
     Subquery,
     #[error("GROUP BY")]
@@ -51,7 +51,7 @@ pub enum Rule {
     OverView,
 }
 
-/// The first rule by which a cursor is not updatable, where it isn't.
+/// The first rule by which a cursor is not updatable, if it isn't.
 #[tactic(auto, using(crate::proofs::Sole::rule_by))]
 pub(crate) fn cursor_rule(alloc: Global, cursor: &Cursor) -> Result<Rule, AllocError>
     ensures { IfOk result (spec.IsRuleOf cursor.now) }
@@ -108,7 +108,7 @@ fn sole_term(term: &QueryTerm) -> Option<&QuerySpecification>
     }
 }
 
-/// The first rule by which a query specification is not updatable, where it isn't.
+/// The first rule by which a query specification is not updatable, if it isn't.
 pub(crate) fn query_rule(alloc: Global, query: &QuerySpecification) -> Result<Rule, AllocError>
     ensures { IfOk result (λ rule. rule ≡ spec.query_rule query.now) }
 {
@@ -134,7 +134,7 @@ fn text_rule(alloc: Global, query: &QuerySpecification) -> Result<Option<Rule>, 
     clause_rule(alloc, &query.table)
 }
 
-/// The first rule behind FROM.
+/// The first rule after FROM.
 fn clause_rule(alloc: Global, table: &TableExpression) -> Result<Option<Rule>, AllocError>
     ensures { IfOk result (λ rule. rule ≡ spec.clause_rule table.now) }
 {
@@ -150,7 +150,7 @@ fn clause_rule(alloc: Global, table: &TableExpression) -> Result<Option<Rule>, A
     Ok(None)
 }
 
-/// Whether a subquery stands in a condition, if there is one.
+/// Whether a condition, if there is one, has a subquery.
 fn has_subquery_where(alloc: Global, condition: &Option<Cond>) -> Result<bool, AllocError>
     ensures { IfOk result (λ has. has ≡ is_some_and spec.has_subquery condition.now) }
 {

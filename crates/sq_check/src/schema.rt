@@ -1,4 +1,4 @@
-//! What is to be said of the views of schemas (ISO/IEC 9075:1992, 11.19).
+//! The remarks on the views of schemas (ISO/IEC 9075:1992, 11.19).
 
 ghost use Rattle.std.specs.Prelude.{◌≡◌, ◌++◌, IfOk, OnOk, map};
 ghost use Rattle.sq_catalog.specs.Catalog.{known};
@@ -19,7 +19,7 @@ use std::alloc::{AllocError, Global};
 /// `CREATE SCHEMA AUTHORIZATION name`.
 const HEAD_TOKENS: usize = 4;
 
-/// What is to be said of the views of each text.
+/// The remarks on the views of each text.
 pub fn check_schemas(
     alloc: Global,
     catalog: &Catalog,
@@ -34,7 +34,8 @@ pub fn check_schemas(
     Ok(marks)
 }
 
-/// The views of a text, which is walked through once: each schema begins behind the tokens of the one before it.
+/// The remarks on the views of a text, which is walked through once: each schema begins after the tokens of the
+/// one before it.
 fn views_of(alloc: Global, catalog: &Catalog, text: &SchemaText) -> Result<Items<Mark>, AllocError>
     ensures { IfOk result (λ marks. marks ≡ text_marks (known catalog.now) text.now) }
 {

@@ -1,5 +1,5 @@
--- What is right, part by part. The parts of an outcome are evaluated in order, and 42000 of one is 42000 of the whole: so where the
--- whole is right each part that is evaluated is.
+-- Right outcomes, part by part. The parts of an outcome are evaluated in order, and 42000 of one is 42000 of the whole. So if the
+-- whole is right, each part that is evaluated is.
 use Rattle.std.proofs.Common.{◌≡◌, Bool, true, false, Result, ◌∙◌, ap, Ok, Err}
 use Rattle.std.specs.Result.{IsErrAnd}
 use Rattle.sq_value.specs.Truth.{negation}

@@ -1,4 +1,4 @@
--- The values of one column, of which IN asks whether one is equal (ISO/IEC 9075:1992, 8.4 and 8.7).
+-- The values of one column; IN asks whether one of them is equal (ISO/IEC 9075:1992, 8.4 and 8.7).
 use Rattle.std.specs.Prelude.{◌≡◌, Bool, true, false, ◌||◌, if◌then◌else◌, List, []}
 use Rattle.std.specs.List.{fold, list_any}
 use Rattle.sq_value.specs.SetFunctions.{is_null}
@@ -25,7 +25,7 @@ with_row keys row = with_key keys (first_value row)
 abbrev pub keys_among : List Row → List (List Value)
 keys_among rows = fold with_row [] rows
 
--- ---- which kinds of values there are
+-- ---- the kinds of values that occur
 
 abbrev pub no_kinds : Kinds
 no_kinds = record { nulls = false; numbers = false; texts = false }
@@ -52,7 +52,7 @@ has_unknown k (Chars t) = k.nulls || k.numbers
 abbrev pub is_among : List (List Value) → Value → Bool
 is_among keys v = if is_null v then false else list_any (same_row (alone v)) keys
 
--- true where one is equal, else unknown where a comparison is
+-- true if one is equal, else unknown if a comparison is
 abbrev pub truth_among : (is_among has_unknown : Bool) → Truth
 truth_among true u = True
 truth_among false true = Unknown

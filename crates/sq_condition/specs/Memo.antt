@@ -1,4 +1,4 @@
--- What is kept of the subqueries of a statement that read no column of a query around them: each is evaluated at most once.
+-- The memo of a statement's subqueries that read no column of a query around them: each is evaluated at most once.
 use Rattle.std.specs.Prelude.{◌≡◌, ℕ, nat_eq, List, IfSome, Ok, Err}
 use Rattle.std.specs.Borrow.{Bor}
 use Rattle.std.specs.List.{AllByRecursion}
@@ -20,14 +20,14 @@ use Rattle.sq_condition.specs.declared.memo.Outcome.{Outcome as Kept}
 use Rattle.sq_condition.specs.declared.memo.Outcome.TheVariants as kept
 use Rattle.sq_condition.specs.declared.memo.TableColumn.{TableColumn}
 
--- what a subquery ends with: its rows, or a status
+-- the outcome of a subquery: its rows, or a status
 abbrev pub MeantRows : Type 0
 MeantRows = Outcome (List Row)
 
 abbrev pub MeantTruth : Type 0
 MeantTruth = Outcome Truth
 
--- what the subqueries end with, by their numbers
+-- the outcomes of the subqueries, by their numbers
 abbrev pub Meant : Type 0
 Meant = ℕ → MeantRows
 
@@ -35,11 +35,11 @@ Meant = ℕ → MeantRows
 abbrev pub existing : MeantRows → MeantTruth
 existing rows = rows >>= λ rs. Ok (known (has_rows rs))
 
--- the members that are kept with rows are those of the rows
+-- the members that are kept with rows are the members of the rows
 abbrev pub HasMembers : KeptRows → Type 0
 HasMembers found = IfSome found.members (λ members. AreOf members found.rows.items)
 
--- what a subquery ended with, as it is kept, where that is right
+-- the kept outcome of a subquery, if its outcome is right
 abbrev pub IsKept : Kept → MeantRows → Type 0
 IsKept (kept.Rows found) meant = (IsRight meant → meant ≡ Ok found.rows.items) × HasMembers found
 IsKept (kept.Status failure) meant = IsRight meant → meant ≡ Err (status_of failure)

@@ -4,6 +4,6 @@ use Rattle.sq_value.specs.Truth.{negation}
 use Rattle.sq_value.specs.declared.truth.Truth.{Truth}
 use Rattle.sq_meaning.specs.Status.{Outcome, ◌>>=◌}
 
--- with NOT where it is written
+-- with NOT if it is written
 abbrev pub with_not : Bool → Outcome Truth → Outcome Truth
 with_not written outcome = if written then (outcome >>= λ t. Ok (negation t)) else outcome

@@ -1,4 +1,5 @@
--- What is known of the subqueries of a condition or of a query specification before it is evaluated (ISO/IEC 9075:1992, 7.11).
+-- The facts known about the subqueries of a condition or of a query specification before it is evaluated (ISO/IEC 9075:1992,
+-- 7.11).
 use Rattle.std.specs.Prelude.{◌≡◌, List, IfSome}
 use Rattle.sq_meaning.specs.Environment.{Scope}
 use Rattle.sq_meaning.specs.Query.{rows}
@@ -16,8 +17,8 @@ use Rattle.sq_condition.specs.Memo.{Meant, IsMemoOf}
 use Rattle.sq_expression.specs.declared.context.Context.{Context}
 use Rattle.sq_condition.specs.declared.memo.Memo.{Memo}
 
--- A query specification with a number ends with what is meant by that number, whatever queries are around it; and all that is
--- noted of it is true.
+-- A query specification with a number ends with the rows meant by that number, whatever queries are around it. All notes on
+-- it are true.
 pub record IsKnown (context : Context) (meant : Meant) (q : BoundSpecification) : Type 0 where
   pub anywhere : IfSome (number_of q)
       (λ n. (scopes : List (Scope (Unit {0})))
@@ -46,7 +47,7 @@ KnowsGrouping context g meant = GroupingWith (IsKnown context meant) g
 abbrev pub KnowsQuery : Context → BoundSpecification → Meant → Type 0
 KnowsQuery context q meant = SelectWith (IsKnown context meant) q
 
--- Where the query specifications are known, and all that is kept is what they end with, it still is, and P holds.
+-- If the query specifications are known, and the memo keeps only their outcomes, it still does, and P holds.
 abbrev pub Remembers : Context → (Meant → Type 0) → Memo → Memo → Type 0 → Type 0
 Remembers context Knows old new P =
     (meant : Meant) → Knows meant → IsMemoOf context meant old → IsMemoOf context meant new × P

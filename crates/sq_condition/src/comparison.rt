@@ -28,7 +28,7 @@ fn holds(comparison: Comparison, order: Ordering) -> bool
     }
 }
 
-/// Unknown where a value is null.
+/// The truth of a comparison of two values, unknown if one is null.
 pub(crate) fn compare_values(comparison: Comparison, left: &Value, right: &Value) -> Truth
     ensures { result ≡ meaning.comparison comparison left.now right.now }
 {
@@ -77,7 +77,7 @@ pub(crate) fn compared_with_rows(
     }
 }
 
-/// A scalar subquery is null where it has no row, and may not have two.
+/// A scalar subquery is null if it has no row, and may not have two.
 fn compared_with_only(comparison: Comparison, left: &Value, rows: &[Row]) -> Result<Truth, Fault>
     ensures { Meets result (compared_with_found comparison Compared.Scalar left.now rows.now) }
 {

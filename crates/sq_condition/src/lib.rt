@@ -1,5 +1,5 @@
-//! The truth of search conditions, and the rows of the query specifications that stand in them or alone, once the rows
-//! of the tables are there (ISO/IEC 9075:1992, 7.4 to 7.9 and clause 8).
+//! The truth of search conditions, and the rows of query specifications, in conditions or alone (ISO/IEC 9075:1992,
+//! 7.4 to 7.9 and clause 8). The rows of the tables are given.
 #![tactic(auto)]
 
 mod comparison;

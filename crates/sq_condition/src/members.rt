@@ -21,7 +21,7 @@ pub(crate) struct Members {
     kinds: Kinds,
 }
 
-/// Which kinds of values there are.
+/// The kinds of values that occur.
 #[derive(Clone, Copy)]
 struct Kinds {
     nulls: bool,
@@ -50,8 +50,8 @@ impl Kinds {
         }
     }
 
-    /// Whether the comparison of a value with one of these is unknown: one of the two is null, or one is a number and
-    /// the other a text.
+    /// Whether the comparison of a value with one of these is unknown. One of the two is then null, or one is a
+    /// number and the other a text.
     fn has_unknown(self, value: &Value) -> bool
         ensures { result ≡ has_unknown self value.now }
     {
@@ -106,7 +106,7 @@ impl Members {
         Ok(())
     }
 
-    /// Whether one of the values is equal to this one (8.7): false among none, and unknown where a null might be it.
+    /// Whether one of the values is equal to this one (8.7): false among none, and unknown if a null might be it.
     #[tactic(auto, using(crate::proofs::Membership::among_rows))]
     pub(crate) fn has(&self, alloc: Global, value: &Value) -> Result<Truth, Fault>
         ensures { (rows : List (List AnyValue)) → AreOf self.now rows

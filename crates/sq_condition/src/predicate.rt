@@ -16,7 +16,7 @@ use sq_expression::{Context, Fault, Frame, standing_value, value};
 use sq_tree::Comparison;
 use sq_value::{Truth, Value, like};
 
-/// The truth, or its negation where NOT is written.
+/// The truth, or its negation if NOT is written.
 pub(crate) fn negated_if(is_negated: bool, truth: Result<Truth, Fault>) -> Result<Truth, Fault>
     ensures { (outcome : Outcome Truth) → Meets truth outcome → Meets result (with_not is_negated outcome) }
 {
@@ -74,7 +74,7 @@ fn comparison_with(
     }
 }
 
-/// `operand BETWEEN low AND high`. The upper end isn't evaluated where the lower one already makes it false.
+/// `operand BETWEEN low AND high`. The upper end isn't evaluated if the lower one already makes it false.
 pub(crate) fn between_truth(
     operand: &BoundExpr,
     low: &BoundExpr,

@@ -1,4 +1,4 @@
--- Values that are lent where they stand.
+-- Values that are lent from their places.
 use Rattle.std.proofs.Common.{◌≡◌, Option, Some, None, Ok, Bor, ap, sym, ◌∙◌}
 use Rattle.std.specs.Prelude.{IfSome}
 use Rattle.std.specs.Option.{option_copied}

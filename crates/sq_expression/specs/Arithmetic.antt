@@ -7,7 +7,7 @@ use Rattle.sq_meaning.specs.Expression.{sum_of, product_of}
 use Rattle.sq_bound.specs.declared.expression.Operator.{Operator}
 use Rattle.sq_bound.specs.declared.expression.Operator.TheVariants.{Plus, Minus, Times, Over}
 
--- what an operator gives
+-- the result of an operator
 abbrev pub operation : Operator → Value → Value → Outcome Value
 operation Plus = sum_of sign.Plus
 operation Minus = sum_of sign.Minus

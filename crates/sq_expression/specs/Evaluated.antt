@@ -1,4 +1,4 @@
--- A value that is lent where it stands, or made.
+-- A value that is lent from its place, or made.
 use Rattle.std.specs.Prelude.{Option, Some, None}
 use Rattle.std.specs.Borrow.{Bor}
 use Rattle.sq_value.specs.declared.value.Value.{Value}

@@ -1,4 +1,4 @@
--- What a statement ends with that has no answer (ISO/IEC 9075:1992, 22.1).
+-- The end of a statement that has no answer (ISO/IEC 9075:1992, 22.1).
 use Rattle.std.specs.Prelude.{◌≡◌, ◌≢◌, List, Result, Ok, Err, Vec, ⊤}
 use Rattle.std.specs.declared.alloc.Global.{Global}
 use Rattle.sq_value.specs.declared.value.Value.{Value}
@@ -66,7 +66,7 @@ MeetsAs view (Err fault.NoMemory) outcome = ⊤
 abbrev pub IsRight : {A : Type 0} → Outcome A → Type 0
 IsRight outcome = outcome ≢ not_well_formed
 
--- the answer is the outcome, where that is right
+-- the answer is the outcome, if that is right
 abbrev pub Means : {A : Type 0} → Result A Fault → Outcome A → Type 0
 Means result outcome = IsRight outcome → Meets result outcome
 
@@ -89,7 +89,7 @@ HasRows = MeetsAs rows_in
 abbrev pub values_in : Vec Value Global → List Value
 values_in values = values.items
 
--- where the outcome is right
+-- the same for rows, if the outcome is right
 abbrev pub MeansRows : Result (Vec (List Value) Global) Fault → Outcome (List (List Value)) → Type 0
 MeansRows = MeansAs rows_in
 

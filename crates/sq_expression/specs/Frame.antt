@@ -34,7 +34,7 @@ abbrev mutual
   scopes_around None' = []
   scopes_around (Some' p frame) = scopes_of frame
 
--- the values of the set functions of the group that a frame stands for
+-- the values of the set functions of the group that a frame represents
 abbrev pub group_values : Frame → List Value
 group_values frame = (out-Frame frame).functions.now
 

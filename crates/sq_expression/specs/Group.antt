@@ -42,7 +42,8 @@ lines_of_list list = lines_lent list.items
 abbrev pub line_lists : ByKey (Bor (List (Bor Row))) → List (List Line)
 line_lists classes = map lines_of_list classes.lists.items
 
--- what the clauses behind GROUP BY see of a group: its first line, and the values of its set functions
+-- the part of a group that the clauses after GROUP BY see: its first line, and the values of its set
+-- functions
 abbrev pub seen_of_group : List PlacedExpr → Option (Bor Frame) → Context → List Line
     → Outcome (Line × List Value)
 seen_of_group calls outer context group =

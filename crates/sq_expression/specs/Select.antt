@@ -14,7 +14,7 @@ use Rattle.sq_expression.specs.Lines.{line_env}
 use Rattle.sq_expression.specs.declared.context.Context.{Context}
 use Rattle.sq_expression.specs.declared.frame.Frame.{Frame}
 
--- the values of a select list, where the set functions have these values
+-- the values of a select list, if the set functions have these values
 abbrev pub row_shown : (functions : List Value) → List BoundExpr → Env (Unit {0}) → Context → Outcome Row
 row_shown functions list env context =
     listed_values (reading context) (expressions (map (expr_of (map literal functions)) list)) env

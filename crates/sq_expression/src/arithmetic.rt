@@ -1,4 +1,4 @@
-//! Arithmetic: null where an operand is null (ISO/IEC 9075:1992, 6.12).
+//! Arithmetic: null if an operand is null (ISO/IEC 9075:1992, 6.12).
 
 ghost use Rattle.std.specs.Prelude.{◌+◌, ◌-◌, max};
 ghost use Rattle.sq_meaning.specs.Expression.{number_outcome, with_places, with_sign};

@@ -1,4 +1,4 @@
-//! What stays the same while a statement's expressions and queries are evaluated.
+//! The inputs that stay the same while a statement's expressions and queries are evaluated.
 
 use crate::table::{BaseRows, ViewRows};
 use sq_lex::Name;

@@ -1,4 +1,4 @@
-//! A value that is lent where it stands, or made.
+//! A value that is lent from its place, or made.
 
 ghost use Rattle.std.specs.Prelude.{◌≡◌, IfOk};
 
@@ -10,7 +10,7 @@ use std::marker::Model;
 #[derive(Drop)]
 pub struct Evaluated<'a> {
     lent: Option<&'a Value>,
-    /// The value where none is lent.
+    /// The value if none is lent.
     made: Value,
 }
 
@@ -24,7 +24,7 @@ impl<'a> Model for Evaluated<'a> {
 }
 
 impl<'a> Evaluated<'a> {
-    /// A value that stands somewhere.
+    /// A value lent from its place.
     pub(crate) fn lent(value: &'a Value) -> Evaluated<'a>
         ensures { result ≡ value.now }
     {
@@ -54,7 +54,7 @@ impl<'a> Evaluated<'a> {
         }
     }
 
-    /// The value itself, a copy where it was lent.
+    /// The value itself, or a copy if it was lent.
     pub(crate) fn into_value(self, alloc: Global) -> Result<Value, AllocError>
         ensures { IfOk result (λ value. value ≡ self.entry) }
     {

@@ -42,7 +42,8 @@ pub fn value<'a>(
     }
 }
 
-/// The value of a literal, a column, or a parameter without an indicator, which stands somewhere. None says nothing.
+/// The value of a literal, a column, or a parameter without an indicator, lent from its place. The answer may be
+/// `None` for any expression.
 pub fn standing_value<'a>(
     expr: &'a BoundExpr,
     frame: &Frame<'a>,
@@ -61,14 +62,14 @@ pub fn standing_value<'a>(
     }
 }
 
-/// The value of a column where it stands.
+/// The value of a column, lent from its place.
 fn standing_column<'a>(place: Place, frame: &Frame<'a>) -> Option<&'a Value>
     ensures { IfSome result (λ v. column_meant frame.now place ≡ Ok v.now) }
 {
     value_at(place.depth, place, frame)
 }
 
-/// The value of a parameter without an indicator where it stands.
+/// The value of a parameter without an indicator, lent from its place.
 fn standing_input<'a>(input: Input, parameters: &'a [Value]) -> Option<&'a Value>
     ensures { IfSome result
         (λ v. placed_value (parameter_meant input) (inputs_of parameters.now) ≡ Ok v.now) }
@@ -120,7 +121,7 @@ fn signed_or_fault<'a>(
     Ok(Evaluated::made(signed(sign, operand.get())?))
 }
 
-/// What the operator gives of the left value and the right one, or the right one's fault.
+/// The result of the operator on the left value and the right one, or the right one's fault.
 fn calculated_or_fault<'a>(
     operator: Operator,
     left: Evaluated<'a>,
@@ -148,7 +149,7 @@ fn function_value<'a>(number: usize, frame: &Frame<'a>) -> Result<Evaluated<'a>,
     }
 }
 
-/// A parameter's value, and null where its indicator is below zero.
+/// A parameter's value, or null if its indicator is below zero.
 fn input_value<'a>(input: Input, parameters: &'a [Value]) -> Result<Evaluated<'a>, Fault>
     ensures { Meets result (placed_value (parameter_meant input) (inputs_of parameters.now)) }
 {
@@ -211,7 +212,7 @@ fn pad_name(name: Name) -> [u8; 18]
     codes
 }
 
-/// The value itself, a copy where it stands somewhere.
+/// The value itself, or a copy if it is lent.
 pub fn owned_value(
     expr: &BoundExpr,
     frame: &Frame<'_>,

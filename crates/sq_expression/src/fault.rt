@@ -8,7 +8,7 @@ use sq_value::{ArithmeticFault, LikeFault, RetrieveFault, StoreFault};
 use std::alloc::{AllocError, AllocFailed};
 use thiserror::Error;
 
-/// Why there is no answer: a status, or that memory ran out.
+/// The reason why there is no answer: a status, or that memory ran out.
 #[derive(Clone, Copy, Debug, PartialEq, Eq, Error)]
 pub enum Fault {
     #[error("it ends with a status")]

@@ -20,7 +20,7 @@ use sq_value::{Key, Row, Value};
 use std::alloc::Global;
 
 /// The groups of a grouped query by its grouping columns, each with its first line and the values of its set functions.
-/// Without grouping columns there is one, also of no lines.
+/// Without grouping columns there is one group, even of no lines.
 pub fn group_lines<'a>(
     columns: &[Place],
     calls: &[SetFunctionCall],

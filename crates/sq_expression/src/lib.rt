@@ -1,8 +1,9 @@
-//! The values of expressions on lines of rows, of set functions over groups of lines, and of select lists, once the
-//! rows of the tables are there (ISO/IEC 9075:1992, clause 6, 7.7 and 7.9). No expression has a query in it.
+//! The values of expressions on lines of rows, of set functions over groups of lines, and of select lists (ISO/IEC
+//! 9075:1992, clause 6, 7.7 and 7.9). The rows of the tables are given. No expression has a query in it.
 //!
-//! As far as its type says, a bound expression could name a place, a parameter, a table or a set function that isn't
-//! there, or have a number where a text must stand. Its outcome is then 42000, as in the definitions.
+//! As far as its type says, a bound expression could name a place, a parameter, a table or a set function that
+//! doesn't exist. It could also have a number in the place of a text. Its outcome is then 42000, as in the
+//! definitions.
 #![tactic(auto)]
 
 mod arithmetic;

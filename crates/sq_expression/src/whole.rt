@@ -1,4 +1,4 @@
-//! Whole numbers, of which most expressions are made. Arithmetic on them takes fewer steps than on values.
+//! Whole numbers, the values of most expressions. Arithmetic on them takes fewer steps than on values.
 
 ghost use Rattle.std.specs.Prelude.{◌≡◌, IfSome, Ok};
 ghost use Rattle.sq_expression.specs.Arithmetic.{operation};
@@ -11,7 +11,7 @@ use std::marker::Model;
 /// The least number of 19 digits.
 const NINETEEN_DIGITS: i64 = 1_000_000_000_000_000_000;
 
-/// A number of at most 18 digits, none of them behind the point. Contracts see it as the number.
+/// A number of at most 18 digits, with none after the point. Contracts see it as the number.
 #[derive(Clone, Copy)]
 pub(crate) struct Whole {
     number: i64,
@@ -31,7 +31,7 @@ impl Model for Whole {
 
 #[tactic(auto, using(sq_value::proofs::Casts::casts))]
 impl Whole {
-    /// The number, where it has at most 18 digits.
+    /// The number, if it has at most 18 digits.
     fn of_digits(number: i64) -> Option<Whole>
         ensures { IfSome result (λ n. n ≡ number) }
     {
@@ -61,7 +61,8 @@ impl Whole {
         Value::Num(Decimal::new(self.number, 0))
     }
 
-    /// What an operator gives of this number and another one. None says nothing.
+    /// The result of an operator on this number and another one. The answer may be `None` for any
+    /// operands.
     pub(crate) fn calculated(self, operator: Operator, other: Whole) -> Option<Whole>
         ensures { IfSome result (λ n. operation operator (whole self) (whole other) ≡ Ok (whole n)) }
     {

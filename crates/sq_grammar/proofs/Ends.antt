@@ -1,4 +1,5 @@
--- Where a rule ends: what may not follow it, and where reading stops.
+-- The end of a rule: the tokens that may not follow it, and the places where
+-- reading stops.
 pub mod Behind
 pub mod Follows
 pub mod Stops

@@ -1,4 +1,4 @@
--- Round brackets, of which at most MAX_DEPTH may be open at once (own rule).
+-- Round brackets; at most MAX_DEPTH may be open at once (own rule).
 use Rattle.std.specs.Prelude.{ℕ, Bool, ◌&&◌, nat_eq, take, drop, fold}
 use Rattle.sq_lex.specs.declared.lexeme.Lexeme.TheVariants as lexeme
 use Rattle.sq_lex.specs.declared.symbol.Symbol.TheVariants as symbol

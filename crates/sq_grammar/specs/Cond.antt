@@ -1,5 +1,5 @@
--- Search conditions (ISO/IEC 9075:1992, 7.11 and 8). A bracket at the start of a test may open a condition or an expression, so what stands
--- behind it is read once, as either, and what came out decides how to go on.
+-- Search conditions (ISO/IEC 9075:1992, 7.11 and 8). A bracket at the start of a test may open a condition or an expression. So the tokens
+-- after it are read once, as either, and the result decides how to go on.
 use Rattle.std.specs.Prelude.{ℕ, zero, suc, Bool, true, false, ◌&&◌, [], ◌∷◌, Option, Some, None, if◌then◌else◌}
 use Rattle.sq_lex.specs.declared.lexeme.Lexeme.{Lexeme}
 use Rattle.sq_lex.specs.declared.lexeme.Lexeme.TheVariants as lexeme
@@ -46,7 +46,7 @@ compared_if_any = token_if_any
 abbrev pub sees_query : Tokens → Bool
 sees_query ts = sees (lexeme.Symbol symbol.Open) ts && sees (lexeme.Word word.Select) (rest ts)
 
--- a condition has to stand here
+-- only a condition fits here
 abbrev pub only_cond : {A : Type 0} → CondOrExpr A → Parser A
 only_cond (came.Cond x) = pure x
 only_cond (came.Expr e) = stuck
@@ -61,9 +61,9 @@ null_tail = do
   expect_word word.Null
   pure (tails.Null negated)
 
--- `inner` reads behind a bracket that is one of the `left` that may be opened
+-- `inner` reads after a bracket that is one of the `left` that may be opened
 module _ (left : ℕ) (inner : Parser (CondOrExpr Cond)) where
-  -- a query specification behind a bracket
+  -- a query specification after a bracket
   abbrev pub inner_query : Parser QuerySpecification
   inner_query = specification (expressions.inside left) (must_be_cond inner)
 
@@ -157,7 +157,7 @@ module _ (left : ℕ) (inner : Parser (CondOrExpr Cond)) where
   by_comparison None = eat_word word.Is >>= by_is
   by_comparison (Some op) = found (comparison_tail op)
 
-  -- what follows the first expression of a predicate, if it comes
+  -- the part of a predicate after its first expression, if it comes
   unfoldable pub tail : Parser (Option Tail)
   tail = one_if_any comparison_of >>= by_comparison
 
@@ -229,7 +229,7 @@ module _ (left : ℕ) (inner : Parser (CondOrExpr Cond)) where
   unfoldable pub level : Parser (CondOrExpr Cond)
   level = conj >>= disjoined
 
--- behind a bracket that is one of the `left` that may be opened
+-- after a bracket that is one of the `left` that may be opened
 unfoldable pub inside : ℕ → Parser (CondOrExpr Cond)
 inside zero = stuck
 inside (suc left) = level left (inside left)

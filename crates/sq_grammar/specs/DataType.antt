@@ -17,7 +17,7 @@ use Rattle.sq_grammar.specs.declared.type_word.TypeWord.{TypeWord}
 use Rattle.sq_grammar.specs.declared.type_word.TypeWord.TheVariants as first
 use Rattle.sq_grammar.specs.Reading.{Parser, ◌>>=◌, ◌>>◌, pure, stuck, eat_word, expect_symbol, one_if_any, number, behind, comma}
 
--- number [ "," number ] ")", where the bracket is read already
+-- number [ "," number ] ")", after the bracket, which is read already
 unfoldable pub precision_from : Parser Precision
 precision_from = do
   precision ← number
@@ -29,7 +29,7 @@ precision_from = do
 unfoldable pub precision : Parser (Option Precision)
 precision = behind (lexeme.Symbol symbol.Open) precision_from
 
--- number ")", where the bracket is read already
+-- number ")", after the bracket, which is read already
 unfoldable pub length_from : Parser Number
 length_from = do
   n ← number
@@ -52,7 +52,7 @@ abbrev pub by_varying : CharacterWord → Bool → Parser DataType
 by_varying w true = length_in >>= λ n. pure (Varying (varying_of w) n)
 by_varying w false = length_if_any >>= λ n. pure (Character w n)
 
--- [ VARYING ] and the length, behind CHARACTER or CHAR
+-- [ VARYING ] and the length, after CHARACTER or CHAR
 unfoldable pub character_type : CharacterWord → Parser DataType
 character_type w = eat_word word.Varying >>= by_varying w
 

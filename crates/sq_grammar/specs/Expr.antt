@@ -52,7 +52,7 @@ close = expect_symbol symbol.Close
 abbrev pub column : Name → Parser Primary
 column n = column_from n >>= λ c. pure (primary.Column c)
 
--- `inner` reads an expression behind a bracket that is one of the `left` that may be opened
+-- `inner` reads an expression after a bracket that is one of the `left` that may be opened
 module _ (left : ℕ) (inner : Parser Expr) where
   abbrev pub argument_of : SetFunction → Bool → Parser Primary
   argument_of f true = close >> pure primary.CountRows
@@ -162,7 +162,7 @@ module _ (left : ℕ) (inner : Parser Expr) where
       rest = added;
     }))
 
--- behind a bracket that is one of the `left` that may be opened
+-- after a bracket that is one of the `left` that may be opened
 unfoldable pub inside : ℕ → Parser Expr
 inside zero = stuck
 inside (suc left) = level left (inside left)

@@ -92,7 +92,7 @@ signed_number = do
   n ← number
   pure (record { sign = sign; number = n })
 
--- columns = "(" name { "," name } ")", where the bracket is read already
+-- columns = "(" name { "," name } ")", after the bracket, which is read already
 unfoldable pub columns_from : Parser (CommaList Name)
 columns_from = do
   columns ← comma_separated name

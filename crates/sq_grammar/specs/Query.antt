@@ -11,7 +11,7 @@ use Rattle.sq_grammar.specs.Reading.{Parser, ◌>>=◌, ◌>>◌, pure, stuck, e
 use Rattle.sq_grammar.specs.Expr.{close}
 use Rattle.sq_grammar.specs.Cond.{query_specification}
 
--- `inner` reads behind a bracket that is one of the `left` that may be opened
+-- `inner` reads after a bracket that is one of the `left` that may be opened
 module _ (left : ℕ) (inner : Parser Query) where
   -- "(" query ")"
   unfoldable pub bracketed : Parser Query
@@ -45,7 +45,7 @@ module _ (left : ℕ) (inner : Parser Query) where
     rest ← all (behind (lexeme.Word word.Union) union_term)
     pure (roll-Query (record { first = first; rest = rest }))
 
--- behind a bracket that is one of the `left` that may be opened
+-- after a bracket that is one of the `left` that may be opened
 unfoldable pub inside : ℕ → Parser Query
 inside zero = stuck
 inside (suc left) = level left (inside left)

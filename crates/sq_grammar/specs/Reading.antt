@@ -1,5 +1,5 @@
--- Reading tokens from left to right. Each production of the grammar is a parser: it answers the tree that it read and the tokens
--- after it, or where it is stuck.
+-- Reading tokens from left to right. Each production of the grammar is a parser. It answers the tree that it read and the tokens
+-- after it, or the place where it is stuck.
 use Rattle.std.specs.Prelude.{ℕ, zero, suc, ◌+◌, Bool, true, false, List, [], ◌∷◌, ◌++◌, length, Option, Some, None, Result, Ok, Err, nat_lt, nat_eq, if◌then◌else◌}
 use Rattle.sq_lex.specs.declared.lexeme.Lexeme.{Lexeme}
 use Rattle.sq_lex.specs.declared.lexeme.Lexeme.TheVariants as lexeme
@@ -13,7 +13,7 @@ use Rattle.sq_lex.specs.Word.{same_word}
 use Rattle.sq_tree.specs.declared.list.CommaList.{CommaList}
 pub use Rattle.sq_tree.specs.Tree.{Tokens}
 
--- What was read and the tokens after it; or how many tokens are left where the next one does not fit.
+-- The tree that was read and the tokens after it; or the number of tokens left if the next one does not fit.
 abbrev pub Outcome : Type 0 → Type 0
 Outcome A = Result (A × Tokens) ℕ
 
@@ -88,16 +88,16 @@ expect_symbol s = expect (lexeme.Symbol s)
 unfoldable pub opening_bracket : ℕ → Parser (Unit {0})
 opening_bracket left = if nat_eq left 0 then stuck else expect_symbol symbol.Open
 
--- takes the first of these tokens that comes next, and gives what it stands for
+-- takes the first of these tokens that comes next, and gives the value beside it
 abbrev pub token_if_any : {A : Type 0} → List (Lexeme × A) → Parser (Option A)
 token_if_any [] = pure None
 token_if_any (x ∷ xs) = do
   found ← eat x.0
   if found then pure (Some x.1) else token_if_any xs
 
--- ---- tokens of which there are many
+-- ---- tokens of a kind
 
--- what the first token says, where it is one of these
+-- the value of the first token, if it is one of these
 abbrev pub first_of : {A : Type 0} → (Lexeme → Option A) → Tokens → Option A
 first_of of [] = None
 first_of of (t ∷ ts) = of t
@@ -138,13 +138,13 @@ number = one_of number_of
 
 -- ---- optional parts and lists
 
--- what stands behind the word or symbol, if that comes next
+-- the part after the word or symbol, if that comes next
 abbrev pub behind : {A : Type 0} → Lexeme → Parser A → Parser (Option A)
 behind token p = do
   found ← eat token
   if found then (p >>= λ x. pure (Some x)) else pure None
 
--- what was read already stands before what is read
+-- the items read already come before those that are read now
 abbrev pub with_front : {A : Type 0} → List A → Outcome (List A) → Outcome (List A)
 with_front front outcome = and_then outcome (λ xs. pure (front ++ xs))
 

@@ -33,7 +33,7 @@ use Rattle.sq_grammar.specs.DataType.{data_type}
 use Rattle.sq_grammar.specs.Cond as conditions
 use Rattle.sq_grammar.specs.Cond.{must_be_cond, query_specification}
 
--- In what follows the first words of a rule, up to where the rules differ, are read already.
+-- Each rule below begins after the words that it has in common with others; they are read already.
 
 -- REFERENCES table-name [ columns ]
 unfoldable pub references_from : Parser References
@@ -142,7 +142,7 @@ element_name left (Some n) = column_definition left n >>= λ c. pure (elements.C
 unfoldable pub table_element : ℕ → Parser TableElement
 table_element left = one_if_any name_of >>= element_name left
 
--- CREATE TABLE table-name "(" item { "," item } ")", where `left` brackets may be opened behind this one
+-- CREATE TABLE table-name "(" item { "," item } ")"; `left` brackets may be opened after this one
 unfoldable pub table_definition : ℕ → Parser TableDefinition
 table_definition left = do
   n ← table_name
@@ -234,7 +234,7 @@ grant = do
   o ← grant_option
   pure (record { privileges = ps; table_word = w; table = t; grantees = gs; grant_option = o })
 
--- CREATE comes next, and behind it TABLE or VIEW
+-- CREATE comes next, and after it TABLE or VIEW
 abbrev pub sees_created : Tokens → Bool
 sees_created ts = sees (lexeme.Word word.Create) ts
     && (sees (lexeme.Word word.Table) (rest ts) || sees (lexeme.Word word.View) (rest ts))
@@ -260,7 +260,7 @@ abbrev pub by_grant : ℕ → ℕ → Bool → Parser (Option SchemaElement)
 by_grant left inner true = grant >>= λ g. pure (Some (Grant g))
 by_grant left inner false = λ ts. (if sees_created ts then created left inner else nothing) ts
 
--- table | view | grant, if it comes; `inner` brackets may be opened behind that of a table
+-- table | view | grant, if it comes; `inner` brackets may be opened inside a table's own
 unfoldable pub element : ℕ → ℕ → Parser (Option SchemaElement)
 element left inner = eat_word word.Grant >>= by_grant left inner
 

@@ -2,7 +2,7 @@
 
 use sq_tree::Expr;
 
-/// What was read where a condition may begin with an expression: a part of the condition, or the expression alone.
+/// The part read at a possible beginning of a condition: a part of the condition, or an expression alone.
 #[derive(Drop)]
 pub enum CondOrExpr<T> {
     Cond(T),

@@ -1,8 +1,8 @@
 //! The grammar as reading: each rule is a function from tokens to a tree and the tokens after it. And the first steps of the
 //! parser: the tokens still to be read, lists with commas, names and data types.
 //!
-//! The definitions are in `specs/`. `proofs/` shows that what is read is spelled by its tokens, that the tokens of every tree
-//! are read as it unless it is too deep, and so that no two trees of one kind have one list of tokens.
+//! The definitions are in `specs/`. `proofs/` shows that the tokens read for a tree spell it. It also shows that the tokens
+//! of every tree are read as that tree, unless it is too deep. So no two trees of one kind have one list of tokens.
 #![tactic(auto)]
 
 mod brackets;

@@ -1,5 +1,5 @@
-//! Lists with commas, over what reads an item. Where an item stops, a `match` and not `?` ends the list, so that the proof
-//! has a name for the stop.
+//! Lists with commas, over a function that reads an item. If an item stops, a `match` and not `?` ends the list, so that
+//! the proof has a name for the stop.
 
 ghost use Rattle.std.specs.Prelude.{◌≡◌, ◌<◌, ◌≤◌, Option, length, OnOk};
 ghost use Rattle.sq_grammar.specs.List.{Advances, AdvancesIfAny, Follows};
@@ -13,7 +13,7 @@ use sq_lex::Symbol;
 use sq_tree::CommaList;
 use std::alloc::Global;
 
-/// Items, each behind a comma.
+/// Items, each after a comma.
 #[tactic(auto, using(crate::proofs::Reading::Many::loops))]
 fn more<T: Drop, P: Fn(&mut Reader<'_>) -> Result<T, Stop>>(
     alloc: Global,

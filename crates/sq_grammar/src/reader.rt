@@ -145,7 +145,7 @@ impl<'a> Reader<'a> {
         Ok(())
     }
 
-    /// Takes an opening bracket, of which `left` may still be opened.
+    /// Takes an opening bracket, if at least one of `left` may still be opened.
     #[tactic(auto, unfolding(crate::specs::Reading::opening_bracket))]
     pub fn open(&mut self, left: usize) -> Result<(), Stop>
         ensures value { Reads (spec.opening_bracket left self.old) result self.new }

@@ -55,7 +55,7 @@ impl<T> Items<T> {
         self.items.as_slice()
     }
 
-    /// How many elements there are.
+    /// The number of elements.
     pub fn len(&self) -> usize
         ensures { result ≡ length self.now }
     {

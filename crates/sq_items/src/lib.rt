@@ -1,7 +1,7 @@
-//! A list and a box that contracts see as what they hold.
+//! A list and a box that contracts see as their contents.
 //!
-//! A tree built of them has no pointer in its value, so two trees are equal where one means it, also where a type
-//! reaches itself through them.
+//! The value of a tree built of them has no pointer. So two trees are equal if their contents are, even if a type
+//! contains itself through them.
 #![tactic(auto)]
 
 mod boxed;

@@ -1,4 +1,4 @@
--- A literal of which some characters are read already.
+-- A literal, some of whose characters are read already.
 use Rattle.std.proofs.Common.{◌≡◌, ℕ, zero, suc, ◌+◌, ◌-◌, ◌<◌, ◌≤◌, List, [], ◌∷◌, ◌++◌, length, take, refl, ap, sym, ◌∙◌, arith, append_assoc, add_assoc}
 use Rattle.std.proofs.Common.{Bool, true, false, cond, get_or, drop, drop-cons, add-one}
 use Rattle.std.proofs.lemmas.Bool.{lt-ltb, ltb-true, ltb-false, ne_eqb}

@@ -33,7 +33,7 @@ is_white b = b == blank || b == tab || b == carriage_return || b == line_feed
 abbrev pub is_line_end : ℕ → Bool
 is_line_end b = b == carriage_return || b == line_feed
 
--- what may stand in a text literal
+-- a character of a text literal
 abbrev pub is_printable : ℕ → Bool
 is_printable b = nat_le blank b && nat_le b tilde
 

@@ -1,4 +1,4 @@
--- What stands at the front of a text (ISO/IEC 9075:1992, 5.2 <token> and <separator>): the longest piece from there, or a fault.
+-- The piece at the front of a text (ISO/IEC 9075:1992, 5.2 <token> and <separator>): the longest one from there, or a fault.
 use Rattle.std.specs.Prelude.{ℕ, ◌+◌, ◌-◌, ◌<◌, ◌≤◌, Bool, ◌&&◌, ◌||◌, ◌==◌, nat_lt, if◌then◌else◌, List, length, map, take, drop, slice_index, Option, Some, None}
 use Rattle.std.specs.Char.{is_ascii_digit, is_ascii_alphabetic, to_ascii_uppercase}
 use Rattle.std.specs.List.{prefix_len}
@@ -47,11 +47,11 @@ begins_number bytes =
     is_ascii_digit (slice_index bytes 0)
     || (slice_index bytes 0 == point && is_ascii_digit (slice_index bytes 1))
 
--- how many digits stand at the front
+-- the number of digits at the front
 abbrev pub digits : List ℕ → ℕ
 digits bytes = prefix_len (has class.Digit) bytes
 
--- how many bytes a point and the digits after it take, 0 where there is no point
+-- the size of a point and the digits after it, 0 if there is no point
 abbrev pub fraction_size : List ℕ → ℕ
 fraction_size bytes = if slice_index bytes 0 == point then 1 + digits (drop 1 bytes) else 0
 
@@ -77,7 +77,7 @@ piece_of_literal (BadByte at) = piece.Fault (1 + at) fault.BadByte
 unfoldable pub text : List ℕ → Piece
 text bytes = piece_of_literal (literal (drop 1 bytes))
 
--- the longer symbol, where there is one
+-- the longer symbol, if there is one
 abbrev pub longest_symbol : Option Symbol → Option Symbol → Piece
 longest_symbol (Some two) one = piece.Token 2 (lexeme.Symbol two)
 longest_symbol None (Some one) = piece.Token 1 (lexeme.Symbol one)

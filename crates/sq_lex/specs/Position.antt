@@ -20,6 +20,6 @@ next position b =
 abbrev pub past : Position → List ℕ → Position
 past position bytes = fold next position bytes
 
--- the position of a byte of a text, and past the text's end that of its end
+-- the position of a byte of a text; past the text's end it is the position of the end
 abbrev pub position : List ℕ → ℕ → Position
 position text byte = past start (take byte text)

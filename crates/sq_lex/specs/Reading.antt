@@ -1,4 +1,4 @@
--- The reading of a text: its bytes as a row of separators and tokens, each as long as it can be, or the first fault from the left.
+-- The reading of a text: its bytes as a row of separators and tokens, each as long as possible. Or the first fault from the left.
 use Rattle.std.specs.Prelude.{◌≡◌, ℕ, zero, suc, ◌-◌, List, [], ◌∷◌, ◌++◌, take, Result, Ok, Err}
 use Rattle.sq_lex.specs.declared.fault.LexError.{LexError}
 use Rattle.sq_lex.specs.declared.fault.LexError.TheVariants.{NoMemory, Fault}
@@ -19,12 +19,12 @@ token_at position lexeme = record { lexeme = lexeme; start = position.byte }
 abbrev pub fault_at : Position → LexFaultKind → LexFault
 fault_at position kind = record { kind = kind; line = position.line; column = position.column }
 
--- tokens, and then those of what follows
+-- tokens, and then the tokens of the rest
 abbrev pub followed : List Token → Result (List Token) LexFault → Result (List Token) LexFault
 followed tokens (Ok more) = Ok (tokens ++ more)
 followed tokens (Err fault) = Err fault
 
--- the piece at the front of the bytes at a position, and then the tokens of what is left behind it
+-- the piece at the front of the bytes at a position, and then the tokens of the bytes after it
 abbrev pub with_piece : Position → List ℕ → Piece → (ℕ → Result (List Token) LexFault)
     → Result (List Token) LexFault
 with_piece position bytes (piece.Separator size) rest = rest size
@@ -32,7 +32,7 @@ with_piece position bytes (piece.Token size lexeme) rest =
     followed (token_at position lexeme ∷ []) (rest size)
 with_piece position bytes (piece.Fault at kind) rest = Err (fault_at (past position (take at bytes)) kind)
 
--- the tokens of the bytes at a position, where the first `left` bytes still belong to the piece before
+-- the tokens of the bytes at a position, if the first `left` bytes still belong to the piece before
 abbrev pub tokens_from : Position → ℕ → List ℕ → Result (List Token) LexFault
 tokens_from position left [] = Ok []
 tokens_from position (suc left) (b ∷ bytes) = tokens_from (next position b) left bytes

@@ -1,4 +1,4 @@
--- The spellings of the reserved words (ISO/IEC 9075:1992, 5.2 <reserved word>, of which these are in the language).
+-- The reserved words of ISO/IEC 9075:1992, 5.2, that the language has, and their spellings.
 use Rattle.std.specs.Prelude.{ℕ, nat_eq, slice_index, List, [], ◌∷◌, Option, Some, None, codes, if◌then◌else◌}
 use Rattle.std.specs.Cmp.Lexicographic.{pointwise}
 use Rattle.sq_lex.specs.declared.word.Word.{Word}
@@ -38,7 +38,7 @@ lookup (entry ∷ entries) spelling = if pointwise nat_eq entry.0 spelling then 
 unfoldable pub reserved : List ℕ → Option Word
 reserved spelling = lookup reserved_words spelling
 
--- where the words of each letter from A to Z begin among them, and where they end
+-- the place among them of the first word of each letter from A to Z, and then their end
 abbrev pub starts : List ℕ
 starts = 0 ∷ 8 ∷ 10 ∷ 19 ∷ 26 ∷ 28 ∷ 33 ∷ 35 ∷ 36 ∷ 44 ∷ 44 ∷ 45 ∷ 48 ∷ 51 ∷ 55 ∷ 61 ∷ 66 ∷ 66 ∷ 69 ∷ 78 ∷ 80 ∷ 84 ∷ 88 ∷ 91 ∷ 91 ∷ 91 ∷ 91 ∷ []
 

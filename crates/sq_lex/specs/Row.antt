@@ -3,7 +3,7 @@ use Rattle.std.specs.Prelude.{ℕ, ◌≡◌, ◌+◌, List, [], ◌∷◌, ◌+
 use Rattle.sq_lex.specs.declared.token.Token.{Token}
 use Rattle.sq_lex.specs.Spelling.{IsLongest, IsSeparator}
 
--- the first bytes of a text, up to the given one, are separators and these tokens, each the longest spelling where it starts
+-- the first bytes of a text, up to the given one, are separators and these tokens, each the longest spelling from its start
 pub data IsRow (text : List ℕ) : ℕ → List Token → Type 0 where
   nothing : IsRow text 0 []
   separator : (at size : ℕ) (tokens : List Token) → IsRow text at tokens → IsSeparator (drop at text) size

@@ -44,7 +44,7 @@ symbol_codes symbol.Greater = codes ">"
 symbol_codes symbol.LessOrEqual = codes "<="
 symbol_codes symbol.GreaterOrEqual = codes ">="
 
--- the rows of the table of tokens: a word is folded to upper case, and is a name where it is not reserved
+-- the rows of the table of tokens: a word is folded to upper case, and is a name if it is not reserved
 abbrev pub IsSpelling : List ℕ → Lexeme → Type 0
 IsSpelling bytes (lexeme.Word word) =
     IsWordSpelling bytes × (reserved (map to_ascii_uppercase bytes) ≡ Some word)
@@ -60,7 +60,7 @@ pub record IsLongest (bytes : List ℕ) (size : ℕ) (l : Lexeme) : Type 0 where
   pub spelled : IsSpelling (take size bytes) l
   pub longest : (n : ℕ) (m : Lexeme) → size < n → n ≤ length bytes → IsSpelling (take n bytes) m → ⊥
 
--- two minus signs and what may stand in a comment, up to the end of the line or of the text
+-- two minus signs and the characters of a comment, up to the end of the line or of the text
 pub record IsComment (bytes : List ℕ) (size : ℕ) : Type 0 where
   pub begun : begins_comment bytes ≡ true
   pub each : list_all (has class.Comment) (take size bytes) ≡ true
@@ -70,8 +70,8 @@ pub record IsComment (bytes : List ℕ) (size : ℕ) : Type 0 where
 abbrev pub IsSeparator : List ℕ → ℕ → Type 0
 IsSeparator bytes size = ((is_white (slice_index bytes 0) ≡ true) × (size ≡ 1)) ⊎ IsComment bytes size
 
--- a separator is one, and a token is the longest spelling there. Of a fault nothing is said: where a word, a number or a literal is too long, or a
--- letter stands directly after a number, fewer bytes may be a spelling, and the text has no reading all the same
+-- A separator is one, and a token is the longest spelling there. Nothing is said of a fault. If a word, a number or a literal is too long,
+-- or a letter comes directly after a number, fewer bytes may be a spelling. The text has no reading all the same.
 abbrev pub IsSpelled : List ℕ → Piece → Type 0
 IsSpelled bytes (piece.Separator size) = IsSeparator bytes size
 IsSpelled bytes (piece.Token size l) = IsLongest bytes size l

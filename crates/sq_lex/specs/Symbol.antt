@@ -1,4 +1,4 @@
--- The symbols and their spellings (ISO/IEC 9075:1992, 5.1 and 5.2, of which these are in the language).
+-- The symbols of ISO/IEC 9075:1992, 5.1 and 5.2, that the language has, and their spellings.
 use Rattle.std.specs.Prelude.{ℕ, Bool, nat_eq, Option, Some, None, if◌then◌else◌, ◌==◌}
 use Rattle.sq_lex.specs.declared.symbol.Symbol.{Symbol}
 use Rattle.sq_lex.specs.declared.symbol.Symbol.TheVariants as symbol

@@ -4,13 +4,13 @@ ghost use Rattle.std.specs.Prelude.{◌≡◌, ◌<◌, ◌≤◌, true, length,
 ghost use Rattle.std.specs.List.{prefix_len};
 ghost use Rattle.sq_lex.specs.Characters as spec;
 
-/// A kind of character of which runs are read.
+/// A kind of character whose runs are read.
 #[derive(Clone, Copy, Debug)]
 pub enum Class {
     /// Letters, digits and `_`.
     Word,
     Digit,
-    /// What may stand in a comment.
+    /// A character of a comment.
     Comment,
 }
 
@@ -25,7 +25,7 @@ impl Class {
         }
     }
 
-    /// How many characters of this kind stand at the front.
+    /// The number of characters of this kind at the front.
     pub fn run(self, bytes: &[u8]) -> usize
         ensures value { result ≡ prefix_len (spec.has self) bytes.now }
         ensures within { result ≤ length bytes.now }
@@ -39,18 +39,21 @@ impl Class {
     }
 }
 
+/// Whether the byte is white space: a blank, a tab, a carriage return or a line feed.
 pub fn is_white(byte: u8) -> bool
     ensures { result ≡ spec.is_white byte }
 {
     byte == b' ' || byte == b'\t' || byte == b'\r' || byte == b'\n'
 }
 
+/// Whether the byte ends a line: a carriage return or a line feed.
 pub fn is_line_end(byte: u8) -> bool
     ensures { result ≡ spec.is_line_end byte }
 {
     byte == b'\r' || byte == b'\n'
 }
 
+/// Whether the byte is a printable character of ASCII, from the blank to the tilde.
 pub fn is_printable(byte: u8) -> bool
     ensures { result ≡ spec.is_printable byte }
 {

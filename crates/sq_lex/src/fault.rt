@@ -1,11 +1,11 @@
-//! What is wrong with a text that has no reading.
+//! The faults of a text that has no reading.
 
 ghost use Rattle.std.specs.Prelude.{◌≡◌};
 
 use std::alloc::{AllocError, AllocFailed};
 use thiserror::Error;
 
-/// What keeps a text from being read.
+/// The kind of fault that keeps a text from being read.
 #[derive(Clone, Copy, Debug, PartialEq, Eq)]
 pub enum LexFaultKind {
     /// A byte that begins no token and is no white space, or that a comment or a literal may not have.
@@ -17,7 +17,7 @@ pub enum LexFaultKind {
     LongName,
     /// A letter directly after a number of at most 18 digits.
     NumberThenLetter,
-    /// A number of more than 18 digits, leading zeros counted, whatever stands behind it.
+    /// A number of more than 18 digits, leading zeros counted, whatever follows it.
     LongNumber,
     /// A literal of more than 240 characters, a doubled quote counted once.
     LongText,

@@ -1,4 +1,4 @@
-//! Lexemes: what tokens say.
+//! Lexemes: tokens without their positions.
 
 use crate::name::Name;
 use crate::number::Number;
@@ -7,7 +7,7 @@ use crate::text::Characters;
 use crate::word::Word;
 use sq_items::Boxed;
 
-/// A lexeme: what a token says, without where it stands.
+/// A lexeme: a token without its position.
 #[derive(Debug, Drop)]
 pub enum Lexeme {
     /// A reserved word.

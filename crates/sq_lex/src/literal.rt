@@ -35,7 +35,7 @@ fn keep(characters: &mut Items<u8>, character: u8) -> Result<(), AllocError>
 }
 
 impl Literal {
-    /// The literal whose opening quote stands before these bytes, with its first 241 characters.
+    /// The literal whose opening quote comes before these bytes, with its first 241 characters.
     #[tactic(auto, using(crate::proofs::LiteralLemmas::kept_more, crate::proofs::LiteralLemmas::kept_closed))]
     pub fn after_quote(alloc: Global, bytes: &[u8]) -> Result<Literal, AllocError>
         ensures value { IfOk result (λ literal. literal ≡ spec.kept (spec.literal bytes.now)) }

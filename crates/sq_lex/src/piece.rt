@@ -21,19 +21,19 @@ use crate::text::Characters;
 use sq_items::{Boxed, Items};
 use std::alloc::{AllocError, Global};
 
-/// What stands at the front of a text.
+/// The piece at the front of a text.
 #[derive(Debug, Drop)]
 pub enum Piece {
     /// White space or a comment, with its length in bytes.
     Separator(usize),
     /// A token, with its length in bytes.
     Token { size: usize, lexeme: Lexeme },
-    /// A fault, with how many bytes stand before it.
+    /// A fault, with the number of bytes before it.
     Fault { at: usize, kind: LexFaultKind },
 }
 
 impl Piece {
-    /// The piece at the front of bytes that are not at their end. A separator is white space or a comment; a token's bytes
+    /// The piece at the front of bytes that are not at their end. A separator is white space or a comment. A token's bytes
     /// are a spelling of its lexeme, and no more of the bytes are a spelling of any lexeme.
     #[tactic(auto, unfolding(crate::specs::Piece::first_piece), using(crate::proofs::Longest::piece_is_spelled))]
     pub fn first(alloc: Global, bytes: &[u8]) -> Result<Piece, AllocError>
@@ -130,7 +130,7 @@ fn begins_number(bytes: &[u8]) -> bool
     first.is_ascii_digit() || (first == b'.' && byte_at(bytes, 1).is_ascii_digit())
 }
 
-/// How many bytes a point and the digits after it take, 0 where there is no point.
+/// The size of a point and the digits after it, or 0 if there is no point.
 fn fraction_size(bytes: &[u8]) -> usize
     ensures value { result ≡ spec.fraction_size bytes.now }
     ensures within { result ≤ length bytes.now }
@@ -170,7 +170,7 @@ fn number(bytes: &[u8]) -> Piece
     }
 }
 
-/// The token of a literal of these characters, which takes `size` bytes behind its opening quote.
+/// The token of a literal of these characters, which takes `size` bytes after its opening quote.
 fn closed(alloc: Global, characters: Items<u8>, size: usize) -> Result<Piece, AllocError>
     requires size { size < 2 ^ 63 }
     requires printable { All IsPrintable characters }

@@ -3,7 +3,7 @@
 ghost use Rattle.std.specs.Prelude.{◌≡◌, ◌+◌, ◌<◌, ◌≤◌, ◌^◌, length};
 ghost use Rattle.sq_lex.specs.Position as spec;
 
-/// Where a byte stands in a text.
+/// The place of a byte in a text.
 #[derive(Clone, Copy, Debug)]
 pub struct Position {
     /// From 0.
@@ -15,7 +15,8 @@ pub struct Position {
 }
 
 impl Position {
-    /// The position of a byte of a text, and past the text's end that of its end.
+    /// The position of a byte of a text. Past the text's end it is the position
+    /// of the end.
     pub fn of(text: &[u8], byte: usize) -> Position
         ensures { result ≡ spec.position text.now byte }
     {

@@ -15,7 +15,7 @@ use std::alloc::Global;
 /// The tokens of a text with their first bytes, or its first fault (ISO/IEC 9075:1992, 5.2, tokens and separators, and 5.3,
 /// literals). It takes time linear in the text.
 ///
-/// Between tokens stands only white space and comments, and each token is the longest spelling at its position.
+/// Only white space and comments separate the tokens, and each token is the longest spelling at its position.
 pub fn lex(alloc: Global, text: &[u8]) -> Result<Vec<Token>, LexError>
     ensures row { IfOk result (λ tokens. IsRow text.now (length text.now) tokens.items) }
     ensures value { MatchResult result
@@ -30,7 +30,7 @@ pub fn lex(alloc: Global, text: &[u8]) -> Result<Vec<Token>, LexError>
     Ok(tokens)
 }
 
-/// Reads the piece of a text at a byte, adds its token where it is one, and answers its size.
+/// Reads the piece of a text at a byte, adds its token if it is one, and answers its size.
 fn read_piece(
     alloc: Global,
     tokens: &mut Vec<Token>,

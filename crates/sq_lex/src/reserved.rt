@@ -100,7 +100,7 @@ static RESERVED: [(&[u8], Word); 91] = [
     (b"WORK", Word::Work),
 ];
 
-/// Where the words of each letter from A to Z begin in the table, and where it ends.
+/// The index in the table of the first word of each letter from A to Z, and then the end of the table.
 static STARTS: [u8; 27] = [
     0, 8, 10, 19, 26, 28, 33, 35, 36, 44, 44, 45, 48, 51, 55, 61, 66, 66, 69, 78, 80, 84, 88, 91,
     91, 91, 91,

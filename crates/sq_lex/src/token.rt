@@ -1,8 +1,8 @@
-//! Tokens: lexemes and where they stand.
+//! Tokens: lexemes and their positions.
 
 use crate::lexeme::Lexeme;
 
-/// A lexeme and where it stands in the text, of which `Position::of` makes a line and a column.
+/// A lexeme and its position in the text, from which `Position::of` makes a line and a column.
 #[derive(Debug, Drop)]
 pub struct Token {
     pub lexeme: Lexeme,

@@ -1,4 +1,4 @@
--- What an outcome that goes on is made of.
+-- The parts of an outcome that goes on.
 use Rattle.std.specs.Prelude.{◌≡◌, refl, Ok, Err}
 use Rattle.sq_meaning.specs.Status.{Outcome, and_then}
 

@@ -1,4 +1,4 @@
--- The set functions of well-formed expressions, conditions and clauses are well formed where those stand (ISO/IEC
+-- The set functions of well-formed expressions, conditions and clauses are well formed in the same place (ISO/IEC
 -- 9075:1992, 6.5).
 use Rattle.std.proofs.Common.{List, ◌++◌, Option, Some, None, Ok, Err}
 use Rattle.std.specs.Prelude.{Bool}

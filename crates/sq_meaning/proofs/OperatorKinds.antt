@@ -1,4 +1,4 @@
--- What an operator gives for operands of their kinds is of the operator's kind (ISO/IEC 9075:1992, 6.5 and 6.12), or ends
+-- An operator on operands of their kinds gives a value of the operator's kind (ISO/IEC 9075:1992, 6.5 and 6.12), or ends
 -- with a status other than 42000.
 use Rattle.std.proofs.Common.{◌≡◌, ℕ, Bool, true, false, ◌&&◌, List, [], ◌∷◌, Some, refl, sym, ap, subst, ◌∙◌, Ok, Err, arith, eq-eqb}
 use Rattle.std.proofs.lemmas.List.{length-append, length-replicate, length-take}

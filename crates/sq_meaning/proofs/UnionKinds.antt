@@ -1,4 +1,4 @@
--- The rows of a well-formed query expression are of its kinds, also in the order of ORDER BY, or there are none for another
+-- The rows of a well-formed query expression are of its kinds, also in the order of ORDER BY. Or there are none for another
 -- cause than 42000 (ISO/IEC 9075:1992, 7.10 and 13.1).
 use Rattle.std.proofs.Common.{◌≡◌, ℕ, Bool, true, false, List, [], ◌∷◌, ◌++◌, ap, subst, ◌∙◌, Ok, Err, arith}
 use Rattle.std.proofs.lemmas.List.{length-append, length-replicate}

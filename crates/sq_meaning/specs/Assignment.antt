@@ -20,7 +20,7 @@ assigned d Null = Ok Null
 assigned d (Num n) = or_status NumericValueOutOfRange (option_map Num (storing.fitted d n))
 assigned d (Chars t) = or_status TextTooLong (option_map Chars (storing.kept_text d t))
 
--- the value as a parameter of the domain receives it and, where a text was cut, its length before (9.1)
+-- the value as a parameter of the domain receives it and, if a text was cut, its length before (9.1)
 abbrev pub retrieved_into : Domain → Value → Outcome Retrieved
 retrieved_into d Null = Ok (record { value = Null; uncut = None })
 retrieved_into d (Num n) =

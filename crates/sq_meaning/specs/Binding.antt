@@ -106,7 +106,7 @@ is_of_text (Ok (kind.Chars n)) = true
 is_of_text (Ok (kind.Vary n)) = true
 is_of_text _ = false
 
--- a number where a text must stand, or the reverse
+-- a number in the place of a text, or the reverse
 abbrev pub kind_mismatch : Site → Bool
 kind_mismatch (Site.number_wanted k) = is_of_text k
 kind_mismatch (Site.text_wanted k) = is_of_number k
@@ -151,7 +151,7 @@ misplaced_function k _ = false
 abbrev pub is_at : Place → Place → Bool
 is_at p q = p.item == q.item && p.column == q.column
 
--- the grouping columns, where a grouped query is around
+-- the grouping columns, if a grouped query is around
 abbrev pub grouping_places : Known → EnclosingQuery → Option (List Place)
 grouping_places k query = option_map (flat_map (λ c. fits_here k c query)) query.grouping
 
@@ -236,7 +236,7 @@ abbrev pub target_twice : Site → Bool
 target_twice (Site.targets ps) = has_name_twice (flat_map parameter_names ps)
 target_twice _ = false
 
--- ---- what is changed (13.6 to 13.10)
+-- ---- the tables and cursors that are changed (13.6 to 13.10)
 
 abbrev pub cursor_known : Known → Name → Option KnownCursor
 cursor_known k name = find (λ c. same_name c.name name) k.cursors
@@ -244,8 +244,8 @@ cursor_known k name = find (λ c. same_name c.name name) k.cursors
 abbrev pub is_over : TableName → KnownCursor → Bool
 is_over t c = is_some_and (same_table t) c.table
 
--- a table that is there and is not updatable, or a positioned statement on a cursor that is there and is not updatable, or
--- is over another table
+-- an existing table that is not updatable; or a positioned statement on an existing cursor that is not updatable or is
+-- over another table
 abbrev pub not_updatable : Known → Site → Bool
 not_updatable k (Site.table_changed t) = is_known_table k t && is_err (target_of k.tables t)
 not_updatable k (Site.positioned t cursor) =
@@ -320,7 +320,7 @@ breaks j fault.UnknownCursor = unknown_cursor j.known
 breaks j fault.BadOrientation = bad_orientation j.known
 breaks j fault.PrivilegeMissing = privilege_missing j.holds
 
--- every fault but that of a missing privilege
+-- every fault but a missing privilege
 abbrev pub syntax_faults : List BindingFault
 syntax_faults =
     fault.UnknownTable ∷ fault.UnknownColumn ∷ fault.AmbiguousName ∷ fault.KindMismatch

@@ -1,4 +1,4 @@
--- What schema elements make: the descriptors of their tables and views (ISO/IEC 9075:1992, 11.3, 11.4 and 11.19).
+-- The descriptors of tables and views that schema elements make (ISO/IEC 9075:1992, 11.3, 11.4 and 11.19).
 use Rattle.std.specs.List.{zip}
 use Rattle.std.specs.Prelude.{ℕ, Bool, true, false, List, [], ◌∷◌, map, count_by, Option, unwrap_or, Some, None}
 use Rattle.std.specs.Result.{result_ok}
@@ -44,7 +44,7 @@ table_descriptor place owner t = record {
   body = base_table place;
 }
 
--- a view's columns have the names of its column list, or else those of its query
+-- a view's columns have the names of its column list, or else the names of its query
 abbrev pub names_written : Option (CommaList Name) → List (Option Name) → List (Option Name)
 names_written None otherwise = otherwise
 names_written (Some columns) otherwise = map Some (listed columns)

@@ -38,8 +38,8 @@ use Rattle.sq_meaning.specs.Catalog.{column_domain, tables_of}
 use Rattle.sq_meaning.specs.Constraints.{all_satisfied, constraints_checked, demanded}
 use Rattle.sq_meaning.specs.Schema.{BaseTable, Elements, base_tables, column_definitions, place_among}
 
--- what a statement reads: the schema elements, the greatest row number, the database, the parameters, and the module's
--- user
+-- the inputs of a statement: the schema elements, the greatest row number, the database, the parameters, and the
+-- module's user
 pub record Setting : Type 0 where
   pub elements : Elements
   pub row_numbers : ℕ
@@ -93,7 +93,7 @@ completed_with s t content = do
   _ ← constraints_checked s.elements t content
   Ok content
 
--- the database with a table changed, where check options and constraints allow it
+-- the database with a table changed, if check options and constraints allow it
 abbrev pub completed : Setting → Target → BaseTable → List Row → Table → Outcome Content
 completed s target t rows changed = do
   _ ← check_options_met s target rows
@@ -128,7 +128,7 @@ given_rows s t places (source.Query q) = do
   some ← if_some found
   each (stored_row t places) some
 
--- what a column without a value gets (11.5); USER is the caller
+-- the value of a column that is given none (11.5); USER is the caller
 abbrev pub value_of_default : Name → Option DefaultValue → Value
 value_of_default user None = value.Null
 value_of_default user (Some (default.Number n)) = value.Num (number_with_sign n)
@@ -174,7 +174,7 @@ abbrev pub which_target : Setting → TableName → Which → Outcome Target
 which_target s name (Which.searched clause) = searched_target (tables_in s) name clause
 which_target s name (Which.numbered n) = searched_target (tables_in s) name absent
 
--- the numbers of the rows that are changed; where the search condition keeps none, there is no data
+-- the numbers of the rows that are changed; if the search condition keeps none, there is no data
 abbrev pub numbers_changed : Setting → Target → Which → Outcome (List ℕ)
 numbers_changed s target (Which.searched clause) =
     chosen_numbers (reading_in s) (outer_env s) target (rows_at s target.place) >>= if_some

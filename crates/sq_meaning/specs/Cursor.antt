@@ -4,22 +4,22 @@ use Rattle.sq_value.specs.SetFunctions.{numbers}
 use Rattle.sq_value.specs.declared.value.Value.{Value}
 use Rattle.sq_meaning.specs.Query.{rows}
 
--- A cursor is closed; or it is over the rows of its table under numbers that OPEN fixed: those still to come, and the
--- one that it is on, if it is on one; or it is over rows that OPEN fixed, at a place: 0 before the first of them, n on
--- the nth, and one more than their count behind the last.
+-- A cursor is in one of three states. It is closed. Or it is over the rows of its table under numbers that OPEN fixed:
+-- the numbers still to come, and the number that it is on, if any. Or it is over rows that OPEN fixed, at a place. The
+-- place is 0 before the first of them, n on the nth, and one more than their count after the last.
 pub data CursorState : Type 0 where
   closed : CursorState
   over_numbers : List ℕ → Option ℕ → CursorState
   over_rows : List (List Value) → ℕ → CursorState
 
--- where a cursor stands after OPEN
+-- the place of a cursor after OPEN
 abbrev pub before_numbers : List ℕ → CursorState
 before_numbers numbers = CursorState.over_numbers numbers None
 
 abbrev pub before_rows : List (List Value) → CursorState
 before_rows rows = CursorState.over_rows rows 0
 
--- where a FETCH goes (13.3, fetch orientation)
+-- the direction of a FETCH (13.3, fetch orientation)
 pub data Move : Type 0 where
   next : Move
   prior : Move
@@ -37,7 +37,7 @@ wanted Move.last count place = pos count
 wanted (Move.absolute n) count place = if int_le (pos 0) n then n else (pos (count + 1) +ℤ n)
 wanted (Move.relative n) count place = pos place +ℤ n
 
--- no place is before 0 or behind the last by more than one
+-- no place is before 0 or after the last by more than one
 abbrev pub bounded : ℕ → ℤ → ℕ
 bounded count (pos place) = min place (count + 1)
 bounded count (negsuc _) = 0
@@ -75,7 +75,7 @@ fetched now move (CursorState.over_numbers numbers on) = to_next now numbers
 fetched now move (CursorState.over_rows rows place) =
     at_place rows (bounded (length rows) (wanted move (length rows) place))
 
--- ---- what a cursor is on
+-- ---- the row that a cursor is on
 
 abbrev pub is_open : CursorState → Bool
 is_open CursorState.closed = false

@@ -1,5 +1,5 @@
--- What a database and the parameters of a call are where they are as declared (ISO/IEC 9075:1992, 4.10, 11.19 and 12.3), for
--- trees by name.
+-- The conditions that a database and the parameters of a call meet if they are as declared (ISO/IEC 9075:1992, 4.10, 11.19
+-- and 12.3), for trees by name.
 use Rattle.std.specs.Prelude.{◌≡◌, ⊤, List, [], ◌∷◌, find, Option, Some, None, Ok}
 use Rattle.std.specs.List.{AllZip}
 use Rattle.std.specs.Option.{option_map}
@@ -15,8 +15,8 @@ use Rattle.sq_meaning.specs.Kind.{select_kinds}
 use Rattle.sq_meaning.specs.Tables.{Tables, TableBody, base_table, viewed_table, Declared, column_kinds, kinds_by_name, by_name, rows_in}
 use Rattle.sq_meaning.specs.WellFormed.{HasValue, AreRowsOf, WellFormedSelect}
 
--- the rows of a base table are of the kinds of its columns; the query of a view is well formed in the tables before it,
--- and has those kinds
+-- The rows of a base table are of the kinds of its columns. The query of a view is well formed in the tables before it,
+-- and has those kinds.
 abbrev pub IsBodyOf : Tables → Content → Name → List Kind → TableBody → Type 0
 IsBodyOf earlier content caller kinds (base_table place) = AreRowsOf kinds (rows_in (table_at content place))
 IsBodyOf earlier content caller kinds (viewed_table q check_option) =

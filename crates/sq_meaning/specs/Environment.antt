@@ -1,5 +1,6 @@
--- Where expressions are evaluated (ISO/IEC 9075:1992, 5.4, 6.3 and 6.4): scopes of items of FROM, the nearest first,
--- the parameters of the call, and the user. A column reference means the nearest scope in which an item fits.
+-- The environment in which expressions are evaluated (ISO/IEC 9075:1992, 5.4, 6.3 and 6.4): scopes of items of FROM,
+-- the nearest first, the parameters of the call, and the user. A column reference means the nearest scope in which
+-- an item fits.
 use Rattle.std.specs.Prelude.{ℕ, zero, suc, Bool, true, false, if◌then◌else◌, ◌&&◌, nat_eq, List, [], ◌∷◌, map, pos, int_lt, find, position, slice_get, Option, Some, None, Ok}
 use Rattle.std.specs.List.{filter_map, enumerate_from}
 use Rattle.std.specs.Option.{option_map, option_and_then}
@@ -30,7 +31,7 @@ pub record TableReference : Type 0 where
   pub table : TableName
   pub correlation : Option Name
 
--- an item of FROM: what names it, and the names of its columns
+-- an item of FROM: its name, and the names of its columns
 pub record Item : Type 0 where
   pub reference : TableReference
   pub columns : List Name
@@ -49,8 +50,8 @@ pub record Input : Type 0 where
   pub name : Name
   pub value : Value
 
--- The items of a FROM with a row of each. After grouping these rows are the first of a group, and the group is there
--- for the set functions (of a group without rows there is no first).
+-- The items of a FROM with a row of each. After grouping these rows are the first of a group, and the set functions
+-- read the group. (Of a group without rows there is no first.)
 pub record Scope (H : Type 0) : Type 0 where
   pub items : List H
   pub line : Line
@@ -80,7 +81,7 @@ is_below_zero Null = false
 is_below_zero (Num n) = int_lt n.unscaled (pos 0)
 is_below_zero (Chars t) = false
 
--- null where the indicator parameter is below zero
+-- null if the indicator parameter is below zero
 abbrev pub with_indicator : {I : Type 0} → (I → Outcome Value) → Option I → Value → Outcome Value
 with_indicator read None v = Ok v
 with_indicator read (Some i) v = read i >>= λ w. Ok (if is_below_zero w then Null else v)
@@ -93,7 +94,7 @@ abbrev pub input_value : Parameter → List Input → Outcome Value
 input_value p inputs =
     input_named inputs p.name >>= with_indicator (λ i. input_named inputs i.name) p.indicator
 
--- ---- what a column reference means
+-- ---- the meaning of a column reference
 
 -- how many scopes further out, which item there, and which column of it, each from 0
 pub record Place : Type 0 where
@@ -109,7 +110,7 @@ abbrev pub is_unqualified : Option Name → Bool
 is_unqualified None = true
 is_unqualified (Some schema) = false
 
--- a qualifier is the item's correlation name or, where it has none, its table's name, with or without the user
+-- a qualifier is the item's correlation name or, if it has none, its table's name, with or without the user
 abbrev pub names_reference : SpelledTable → Option Name → TableName → Bool
 names_reference q (Some correlation) table = is_unqualified q.schema && same_name q.table correlation
 names_reference q None table = is_of_user q.schema table.user && same_name q.table table.name
@@ -134,7 +135,7 @@ abbrev pub nearest : List (ℕ × ℕ) → Outcome Place → Outcome Place
 nearest [] further = further >>= λ p. Ok (record p { depth = suc p.depth })
 nearest (at ∷ others) further = Ok (record { depth = zero; item = at.0; column = at.1 })
 
--- the place of a column by its name, where these items are in scope
+-- the place of a column by its name, if these items are in scope
 abbrev pub place_of : ColumnReference → List (List Item) → Outcome Place
 place_of r [] = not_well_formed
 place_of r (items ∷ outer) = nearest (fitting r items) (place_of r outer)

@@ -24,8 +24,8 @@ use Rattle.sq_meaning.specs.Syntax.{Naming, Expr, literal, parameter, user, colu
 use Rattle.sq_meaning.specs.Environment.{Row, Input, Scope, Env, Place, within, alone, items_in, value_at}
 use Rattle.sq_meaning.specs.Rows.{firsts}
 
--- How the parts of a tree that refer to something are read: the place of a column where these items are in scope, a
--- parameter's value, what is known of an item of FROM, and its rows.
+-- The readings of the parts of a tree that refer to something. They give the place of a column if these items are in
+-- scope, a parameter's value, the head of an item of FROM, and its rows.
 pub record Reading (N : Naming) : Type 0 where
   pub place : N.Column → List (List N.Item) → Outcome Place
   pub input : N.Parameter → List Input → Outcome Value
@@ -37,7 +37,7 @@ pub record Reading (N : Naming) : Type 0 where
 abbrev pub number_outcome : Result Number ArithmeticFault → Outcome Value
 number_outcome result = with_status arithmetic_status (number_or_fault result)
 
--- between numbers; null where an operand is null
+-- between numbers; null if an operand is null
 abbrev pub calculated : (Number → Number → Outcome Value) → Value → Value → Outcome Value
 calculated operation (Num a) (Num b) = operation a b
 calculated operation Null Null = Ok Null
@@ -49,7 +49,7 @@ abbrev pub sum_of : Sign → Value → Value → Outcome Value
 sum_of Plus = calculated (λ a b. number_outcome (number.added a b))
 sum_of Minus = calculated (λ a b. number_outcome (number.subtracted a b))
 
--- no more than 18 digits are made behind the point (own rule)
+-- no more than 18 digits are made after the point (own rule)
 abbrev pub with_places : ℕ → Outcome Value → Outcome Value
 with_places places outcome = if nat_le places 18 then outcome else not_well_formed
 
@@ -78,7 +78,7 @@ is_of_scale scale Null = true
 is_of_scale scale (Num n) = n.scale == scale
 is_of_scale scale (Chars t) = false
 
--- the scale of the first number, and 0 where there is none
+-- the scale of the first number, and 0 if there is none
 abbrev pub first_scale : List Value → ℕ
 first_scale [] = 0
 first_scale (Null ∷ vs) = first_scale vs
@@ -105,7 +105,7 @@ function_value Max values = Ok (extreme Greatest values)
 abbrev pub distinct_values : Bool → List Value → List Value
 distinct_values distinct values = if distinct then firsts is_same values else values
 
--- what a function gives of the nearest scope, within the scopes around it
+-- the result of a function on the nearest scope, within the scopes around it
 abbrev pub of_nearest : {H A : Type 0} → Env H → (Scope H → Env H → Outcome A) → Outcome A
 of_nearest env f =
     elim env.scopes [ [] ↦ not_well_formed | scope ∷ outer ↦ f scope (record env { scopes = outer }) ]

@@ -1,5 +1,5 @@
--- What texts come to (own form): all schema texts are read and then judged, then all modules, then the script; then the
--- script runs. What is met first is the judgement.
+-- The judgement of texts (own form): all schema texts are read and then judged, then all modules, then the script; then
+-- the script runs. The first finding is the judgement.
 use Rattle.std.specs.Prelude.{ℕ, List, map, Option, Some, None, Result, Ok, Err}
 use Rattle.sq_tree.specs.declared.«module».ModuleText.{ModuleText}
 use Rattle.sq_tree.specs.declared.schema.SchemaText.{SchemaText}

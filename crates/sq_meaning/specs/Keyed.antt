@@ -59,7 +59,7 @@ is_keyed_where elements user inputs name (Some (rows_where.Condition c)) =
     is_some_and (λ t. is_keyed t inputs (present (cond_of user c))) (table_named elements name)
 is_keyed_where elements user inputs name _ = false
 
--- A call with these inputs is keyed if its statement is a searched UPDATE or DELETE on a base table, by a key: it reads one
+-- A call with these inputs is keyed if its statement is a searched UPDATE or DELETE on a base table, by a key. It reads one
 -- row at most.
 abbrev pub is_keyed_statement : Elements → Name → List Input → Statement → Bool
 is_keyed_statement elements user inputs (statement.Update u) =

@@ -1,4 +1,4 @@
--- What is known of an expression's values before it is evaluated: a scale, a length, or a greatest length (ISO/IEC
+-- The kind of an expression's values, known before it is evaluated: a scale, a length, or a greatest length (ISO/IEC
 -- 9075:1992, 6.11 to 6.13, 7.9 and 7.10).
 use Rattle.std.specs.Prelude.{ℕ, ◌+◌, ◌-◌, max, nat_le, if◌then◌else◌, List, [], ◌∷◌, length, Ok}
 use Rattle.std.specs.List.{flat_map}
@@ -13,8 +13,8 @@ use Rattle.sq_tree.specs.declared.expr.SetFunction.TheVariants.{Count, Sum, Avg,
 use Rattle.sq_meaning.specs.Status.{Outcome, ◌>>=◌, each, not_well_formed}
 use Rattle.sq_meaning.specs.Syntax.{Naming, Expr, literal, parameter, user, column, count_rows, set_function, signed, added, scaled, bracketed, SelectList, all_columns, expressions, Select, select, Query, specification, union}
 
--- the kinds of columns where these tables are in the FROM clauses around, the nearest first; of parameters; and of
--- all columns of a table
+-- the kinds of columns, if these tables are in the FROM clauses around, the nearest first; of parameters; and of all
+-- columns of a table
 pub record Kinds (N : Naming) : Type 0 where
   pub column : N.Column → List (List N.Table) → Outcome Kind
   pub parameter : N.Parameter → Outcome Kind
@@ -29,7 +29,7 @@ kind_of_value (value.Chars t) = Ok (Chars (length t))
 abbrev pub of_scale : ℕ → Outcome Kind
 of_scale s = if nat_le s 18 then Ok (Num s) else not_well_formed
 
--- a sign stands before numbers
+-- only a number has a sign
 abbrev pub signed_kind : Kind → Outcome Kind
 signed_kind (Num s) = Ok (Num s)
 signed_kind _ = not_well_formed
@@ -75,7 +75,7 @@ list_kinds k outer from (expressions es) = each (kind k (from ∷ outer)) es
 abbrev pub select_kinds : {N : Naming} → Kinds N → List (List N.Table) → Select N → Outcome (List Kind)
 select_kinds k outer (select distinct list from filter by having) = list_kinds k outer from list
 
--- the kind of a column of UNION (7.10): both are numbers, or both are texts, and are brought to the greater scale or
+-- the kind of a column of UNION (7.10). Both are numbers, or both are texts, and are brought to the greater scale or
 -- length; with a varying side it is varying (own rule)
 abbrev pub common_kind : Kind → Kind → Outcome Kind
 common_kind (Num s) (Num t) = Ok (Num (max s t))

@@ -41,7 +41,7 @@ use Rattle.sq_meaning.specs.Parameter.{Parameters, Reply, inputs_of, parameter_n
 use Rattle.sq_meaning.specs.Schema.{Elements}
 use Rattle.sq_meaning.specs.WellFormedStatement.{Surroundings, cursor_names, cursor_query, is_well_formed_procedure, orientation_of, select_of_statement, surroundings_of, updatable_cursor}
 
--- what runs: schema elements and modules, and the greatest number that a row may have
+-- a program: schema elements and modules, and the greatest number that a row may have
 pub record Program : Type 0 where
   pub elements : Elements
   pub modules : List ModuleText
@@ -102,7 +102,7 @@ first_state p = record {
   cursors = flat_map entries_of p.modules;
 }
 
--- ---- what surrounds a statement
+-- ---- the surroundings of a statement
 
 pub record Running : Type 0 where
   pub program : Program
@@ -208,7 +208,7 @@ shown_now r None number = None
 shown_now r (Some target) number =
     option_map (λ row. in_columns row target.columns) (numbered_row (setting r) target.place number)
 
--- no data where no row is reached; a failure of retrieving leaves the cursor where it came
+-- no data if no row is reached; a failure of retrieving leaves the cursor at the place that it reached
 abbrev pub fetch_reply : Running → Fetch → Option Row → Reply
 fetch_reply r f None = replied_with status.NoData
 fetch_reply r f (Some row) = replied_row r.parameters (listed f.targets) row
@@ -260,7 +260,7 @@ change_by r behind (Ok content) =
     (record behind { tables = content }, replied_with status.SuccessfulCompletion)
 change_by r behind (Err s) = ends_with r s
 
--- the number that the cursor is on, if its row is there
+-- the number that the cursor is on, if its row exists
 abbrev pub row_is_there : Running → Target → ℕ → Option ℕ
 row_is_there r target number = option_map (λ row. number) (numbered_row (setting r) target.place number)
 
@@ -271,7 +271,7 @@ current_number r cursor =
     (updatable_cursor (surroundings r) c))
     (cursor_named r.in_module cursor)
 
--- the rows that UPDATE and DELETE change; a positioned statement needs a cursor that is on a row that is there
+-- the rows that UPDATE and DELETE change; a positioned statement needs a cursor that is on an existing row
 abbrev pub which_rows : Running → Option Where → Outcome Which
 which_rows r None = Ok (Which.searched absent)
 which_rows r (Some (rows_where.Condition c)) =
@@ -305,7 +305,7 @@ rolled_back s = record { tables = s.committed; committed = s.committed; cursors 
 
 -- ---- a statement
 
--- the cursor that a statement names; that it is there is a rule of well-formed statements
+-- the cursor that a statement names; that it exists is a rule of well-formed statements
 abbrev pub with_named : Running → Name → (Cursor → Outcomes) → Outcomes
 with_named r name go_on =
     unwrap_or (option_map go_on (cursor_named r.in_module name))
@@ -345,7 +345,7 @@ call_of p s values m procedure =
 abbrev pub call_in : Program → State → Call → ModuleText → Option Outcomes
 call_in p s c m = option_map (call_of p s c.values m) (procedure_named m c.procedure)
 
--- the state after a call, and what it answers; a script's calls name procedures that are there
+-- the state after a call, and the call's answer; a script's calls name existing procedures
 abbrev pub outcome : Program → State → Call → Outcomes
 outcome p s c =
     unwrap_or (option_and_then (call_in p s c) (module_named p.modules c.in_module))

@@ -1,5 +1,5 @@
--- Which modules are refused, and where (ISO/IEC 9075:1992, 12.1 to 12.3 and 13.1). The greatest number of parameters,
--- and that exactly one procedure opens a cursor, are own rules.
+-- The modules that are refused, and the places (ISO/IEC 9075:1992, 12.1 to 12.3 and 13.1). The greatest number of
+-- parameters, and that exactly one procedure opens a cursor, are own rules.
 use Rattle.std.specs.List.{enumerate_from, list_any}
 use Rattle.std.specs.Prelude.{ℕ, ◌+◌, Bool, false, not, ◌||◌, List, [], ◌∷◌, map, length, is_none, if◌then◌else◌, nat_lt, ◌==◌, count_by, position, take, filter_map, Option, option_map, Some, None}
 use Rattle.sq_lex.specs.declared.name.Name.{Name}

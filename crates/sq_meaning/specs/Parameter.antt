@@ -1,5 +1,5 @@
--- The parameters of a call: their values at its start, and what is retrieved into them (ISO/IEC 9075:1992, 6.2, 9.1 and
--- 12.4).
+-- The parameters of a call: their values at its start, and the values retrieved into them (ISO/IEC 9075:1992, 6.2, 9.1
+-- and 12.4).
 use Rattle.std.specs.List.{list_any, zip}
 use Rattle.std.specs.Prelude.{Bool, false, List, [], ◌∷◌, map, ℤ, pos, negsuc, is_some, if◌then◌else◌, find, filter_map, flat_map, Option, unwrap_or, option_map, Some, None, Ok, Err}
 use Rattle.std.specs.Result.{result_ok}
@@ -28,7 +28,7 @@ pub record ParameterValue : Type 0 where
 abbrev pub Parameters : Type 0
 Parameters = List ParameterValue
 
--- the value at which a parameter starts: what is handed in, stored; null starts it at zero, at blanks or at the empty
+-- the first value of a parameter: the value handed in, stored. If null is handed in, it is zero, blanks or the empty
 -- text (own rule)
 abbrev pub started : Domain → Value → Value
 started d value.Null = start_value d
@@ -50,7 +50,7 @@ pub record Assignment : Type 0 where
   pub name : Name
   pub value : Value
 
--- what a target and its indicator are set to, and whether a text was cut
+-- the assignments to a target and its indicator, and whether a text was cut
 pub record Retrieval : Type 0 where
   pub assignments : List Assignment
   pub cut : Bool
@@ -106,7 +106,7 @@ row_retrieved parameters (target ∷ targets) (v ∷ vs) =
     and_then (target_set (domain_of_parameter parameters target.name) target v)
     (λ r. and_then (row_retrieved parameters targets vs) (λ rs. Ok (r ∷ rs)))
 
--- ---- what a call answers
+-- ---- the answer of a call
 
 -- a status, and the targets and their indicators with what they were set to
 pub record Reply : Type 0 where
@@ -128,7 +128,7 @@ outputs_of parameters retrievals =
 abbrev pub is_cut : List Retrieval → Bool
 is_cut retrievals = list_any (λ r. r.cut) retrievals
 
--- done, with the warning where a text was cut
+-- done, with the warning if a text was cut
 abbrev pub replied_done : Parameters → List Retrieval → Reply
 replied_done parameters retrievals = record {
   status = if is_cut retrievals then status.TextTruncated else status.SuccessfulCompletion;

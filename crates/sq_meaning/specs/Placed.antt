@@ -1,5 +1,6 @@
--- Trees whose columns, parameters and tables are placed: a column by how many scopes further out, which item there
--- and which column of it; a parameter by its position. Names that are looked up once become such trees.
+-- Trees whose columns, parameters and tables are placed. The place of a column is the number of scopes further
+-- out, the item there and the column of it. The place of a parameter is its position. Names that are looked up
+-- once become such trees.
 use Rattle.std.specs.Prelude.{ℕ, List, Option, slice_get, Ok}
 use Rattle.std.specs.Option.{option_map}
 use Rattle.sq_value.specs.declared.value.Value.{Value}

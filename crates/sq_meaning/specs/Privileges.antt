@@ -1,7 +1,7 @@
--- Who holds which privilege (ISO/IEC 9075:1992, 4.26, 11.19 and 11.36). A user holds one if there is a chain of schema
--- elements, each behind the one before: a CREATE that gives it to the owner, and GRANTs, each by a user to whom the one
--- before gave it with the grant option, the last of them to the user or to PUBLIC. What a view gives its owner is
--- decided where the view stands (own rule).
+-- The holders of privileges (ISO/IEC 9075:1992, 4.26, 11.19 and 11.36). A user holds a privilege if there is a chain of
+-- schema elements, each after the one before. The first is a CREATE that gives it to the owner. GRANTs follow, each by
+-- a user to whom the one before gave it with the grant option. The last of them is to the user or to PUBLIC. The
+-- privileges that a view gives its owner are decided at the place of the view (own rule).
 use Rattle.std.specs.List.{list_all, list_any}
 use Rattle.std.specs.Prelude.{Bool, true, false, not, ◌&&◌, ◌||◌, List, [], ◌∷◌, slice_get, filter_map, Option, option_map, option_and_then, Some, None, Ok}
 use Rattle.std.specs.Result.{result_ok}
@@ -30,7 +30,7 @@ use Rattle.sq_meaning.specs.Schema.{Elements, is_among, place_among, table_colum
 use Rattle.sq_meaning.specs.Site.{Site, known_tables, outside, select_sites}
 use Rattle.sq_meaning.specs.Words.{is_some_and}
 
--- whether a user holds a privilege on a table; where `grantable` is true, whether with the grant option
+-- whether a user holds a privilege on a table and, if `grantable` is true, holds it with the grant option
 abbrev pub Holding : Type 0
 Holding = (grantable : Bool) → Name → TableName → Privilege → Bool
 
@@ -48,7 +48,7 @@ abbrev pub table_gives : Name → TableDefinition → Holding
 table_gives owner t grantable user name p =
     same_name owner user && same_table (table_of owner t.name) name && is_on_column (table_columns t) p
 
--- ---- GRANT: what the grantor holds with the grant option (11.36)
+-- ---- GRANT: the privileges that the grantor holds with the grant option (11.36)
 
 abbrev pub is_in_list : Option (CommaList Name) → Name → Bool
 is_in_list None c = true
@@ -78,9 +78,9 @@ grant_gives held grantor g grantable user name p =
     && list_any (is_grantee user) (listed g.grantees)
     && implies grantable g.grant_option && held true grantor name p
 
--- ---- CREATE VIEW: what follows from the tables underneath (11.19)
+-- ---- CREATE VIEW: the privileges that follow from the tables underneath (11.19)
 
--- the tables that a query names, those of its subqueries too
+-- the tables that a query names, in its subqueries too
 abbrev pub table_in : Site → Option TableName
 table_in (Site.table_read r) = Some r.table
 table_in _ = None
@@ -113,7 +113,7 @@ updatable_here tables q =
     result_ok (updatable_source tables q >>= λ source. target_of tables source.item.reference.table
     >>= λ _. Ok source)
 
--- SELECT is held, and with the grant option where it is so held on all tables that the query names
+-- SELECT is held, and with the grant option if it is so held on all tables that the query names
 abbrev pub view_gives_owner : Holding → Tables → Name → ViewDefinition → (grantable : Bool) → Privilege → Bool
 view_gives_owner held tables owner v grantable Privilege.select =
     implies grantable (list_all (λ t. held true owner t Privilege.select)

@@ -34,7 +34,7 @@ comparison_holds Greater = is_gt
 comparison_holds LessOrEqual = is_le
 comparison_holds GreaterOrEqual = is_ge
 
--- unknown where a value is null
+-- unknown if a value is null
 abbrev pub truth_of_ordering : Comparison → Option Ordering → Truth
 truth_of_ordering op None = Unknown
 truth_of_ordering op (Some o) = known (comparison_holds op o)
@@ -69,7 +69,7 @@ abbrev pub first_value : Row → Value
 first_value [] = Null
 first_value (v ∷ vs) = v
 
--- a scalar subquery is null where it has no row
+-- a scalar subquery is null if it has no row
 abbrev pub only_value : List Row → Outcome Value
 only_value [] = Ok Null
 only_value (r ∷ []) = Ok (first_value r)
@@ -100,7 +100,7 @@ like_truth m text pattern (Some escape) env =
     >>= λ p. value m escape env
     >>= λ e. with_status like_status (liked t p (Some e))
 
--- ---- the set functions of a condition, in the order of the text; those of a subquery are its own
+-- ---- the set functions of a condition, in the order of the text; a subquery's are its own
 
 abbrev pub escape_functions : {N : Naming} → Option (Expr N) → List (Expr N)
 escape_functions None = []
@@ -159,7 +159,7 @@ group_scope items group = record { items = items; line = first_line group; group
 abbrev pub grouping_values : {N : Naming} → Reading N → List N.Column → Env N.Item → Outcome Row
 grouping_values m by env = each (λ c. m.place c (items_in env) >>= value_at env) by
 
--- the groups by first occurrence; without GROUP BY there is one, also of no rows
+-- the groups by first occurrence; without GROUP BY there is one, even of no rows
 abbrev pub grouped : List (Row × Line) → List (List Line)
 grouped keyed = map (map (λ k. k.1)) (classes (λ a b. same_row a.0 b.0) keyed)
 
@@ -179,7 +179,7 @@ group_scopes m functions by heads lines env = do
   _ ← each (λ group. each (λ f. value m f (within (group_scope heads group) env)) functions) groups
   Ok (map (group_scope heads) groups)
 
--- what the select list is computed for: each line or, in a grouped query specification, each group
+-- the scopes of the select list: each line or, in a grouped query specification, each group
 abbrev pub scopes_of : {N : Naming} → Reading N → SelectList N → List N.Column → Clause N → List N.Item
     → List Line → Env N.Item → Outcome (List (Scope N.Item))
 scopes_of m list by having heads lines env =
@@ -189,7 +189,7 @@ scopes_of m list by having heads lines env =
 
 -- ---- the select list (7.9)
 
--- `*` stands for all columns of all items
+-- `*` means all columns of all items
 abbrev pub listed_values : {N : Naming} → Reading N → SelectList N → Env N.Item → Outcome Row
 listed_values m all_columns env = of_nearest env (λ scope outer. Ok (flat_map (λ row. row) scope.line))
 listed_values m (expressions es) env = each (λ e. value m e env) es
@@ -234,8 +234,9 @@ abbrev mutual
   clause_truth m absent env = Ok True
   clause_truth m (present c) env = truth m c env
 
-  -- the rows of each item of FROM, their product, WHERE over all lines, grouping with all set functions, HAVING over
-  -- all groups, the select list over all that is left, and with DISTINCT each row at its first occurrence
+  -- The rows of each item of FROM, their product, WHERE over all lines, and grouping with all set functions. Then
+  -- HAVING over all groups, the select list over all that is left, and with DISTINCT each row at its first
+  -- occurrence.
   pub rows : {N : Naming} → Reading N → Select N → Env N.Item → Outcome (List Row)
   rows m (select distinct list from filter by having) env = do
     heads ← each m.item from

@@ -15,8 +15,8 @@ use Rattle.sq_meaning.specs.Rows.{firsts, same_row, sorted, SortColumn, by_colum
 use Rattle.sq_meaning.specs.Kind.{Kinds, query_kinds}
 use Rattle.sq_meaning.specs.Query.{rows}
 
--- a value as a column of a UNION has it: a number at the scale, a fixed text padded with blanks to the length, a
--- varying text as it is
+-- a value as a column of a UNION has it: a number at the scale, a fixed text padded with blanks to the length. A
+-- varying text is unchanged
 abbrev pub brought_to : Kind → Value → Outcome Value
 brought_to k Null = Ok Null
 brought_to (kind.Num s) (Num n) = number_outcome (in_range s (at_scale s n))

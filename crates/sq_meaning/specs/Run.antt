@@ -1,4 +1,4 @@
--- A run: the machine over the items of a script (own form: a script stands for the calls of a host program).
+-- A run: the machine over the items of a script (own form: a script represents the calls of a host program).
 use Rattle.std.specs.Prelude.{ℕ, List, fold}
 use Rattle.sq_tree.specs.declared.module.ModuleText.{ModuleText}
 use Rattle.sq_tree.specs.declared.schema.SchemaText.{SchemaText}
@@ -19,7 +19,7 @@ item_of_script (script.Call «module» procedure arguments) =
     RunItem.call (record { in_module = «module»; procedure = procedure; values = argument_values arguments })
 item_of_script (script.Table user table) = RunItem.show (record { user = user; name = table })
 
--- what texts say: all schemas, then all modules
+-- the program of texts: all schemas, then all modules
 abbrev pub program_of : List SchemaText → List ModuleText → ℕ → Program
 program_of schemas modules row_numbers = record {
   elements = elements_of schemas;

@@ -17,13 +17,13 @@ use Rattle.sq_meaning.specs.Environment.{TableName, same_name, same_table}
 use Rattle.sq_meaning.specs.Spelled.{listed, table_of}
 use Rattle.sq_meaning.specs.Words.{has_twice}
 
--- a schema element, with the user in whose schema definition it stands
+-- a schema element, with the user of its schema definition
 pub record Element : Type 0 where
   pub user : Name
   pub element : SchemaElement
 
--- The schema elements before some place of the texts, the last one first. What an element means depends on those before
--- it alone, so definitions go down this list.
+-- The schema elements before some place of the texts, the last one first. The meaning of an element depends only on the
+-- elements before it, so definitions go down this list.
 abbrev pub Elements : Type 0
 Elements = List Element
 

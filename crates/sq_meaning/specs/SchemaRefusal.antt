@@ -1,5 +1,5 @@
--- Which schema texts are refused, and where (ISO/IEC 9075:1992, 10.3, 11.1, 11.3 to 11.9, 11.19 and 11.36). Each rule
--- is asked of an element, of the user in whose schema it stands, and of the elements before it.
+-- The schema texts that are refused, and the places (ISO/IEC 9075:1992, 10.3, 11.1, 11.3 to 11.9, 11.19 and 11.36).
+-- Each rule is asked of an element, of the user of its schema, and of the elements before it.
 use Rattle.std.specs.Bool.{beq}
 use Rattle.std.specs.List.{enumerate_from, list_all, list_any, zip}
 use Rattle.std.specs.Option.{option_or}
@@ -42,7 +42,7 @@ use Rattle.sq_meaning.specs.declared.refusal.SchemaFault.{SchemaFault}
 use Rattle.sq_meaning.specs.declared.refusal.SchemaFault.TheVariants as schema_fault
 use Rattle.sq_meaning.specs.Words.{is_none_or, is_some_and}
 
--- ---- what an element names
+-- ---- the names of an element
 
 abbrev pub same_user : Name → TableName → Bool
 same_user user t = same_name t.user user
@@ -73,7 +73,8 @@ view_judged before user = record { known = known_tables (tables_of before); hold
 abbrev pub view_has_fault : Elements → Name → ViewDefinition → Bool
 view_has_fault before user v = has_syntax_fault (view_judged before user) (view_sites before user v)
 
--- the names of a view's columns: those of its list or, where its query has no fault, of the query
+-- The names of a view's columns are the names of its list. If there is no list and its query has no fault, they are
+-- the names of the query.
 abbrev pub names_repeat : Elements → Name → ViewDefinition → Option (CommaList Name) → Bool
 names_repeat before user v (Some columns) = has_name_twice (listed columns)
 names_repeat before user v None =
@@ -139,7 +140,7 @@ abbrev pub nullable_key : SchemaElement → Bool
 nullable_key (element.Table t) = list_any (has_unknown (not_null_columns t)) (keys t)
 nullable_key _ = false
 
--- what a default clause gives, stored in its column; USER needs 18 characters (own rule)
+-- the value that a default clause gives, stored in its column; USER needs 18 characters (own rule)
 abbrev pub is_bad_default : Domain → DefaultValue → Bool
 is_bad_default d (default.Number n) = is_err (assigned d (value.Num (number_with_sign n)))
 is_bad_default d (default.Text characters) = is_err (assigned d (value.Chars characters))
@@ -200,7 +201,7 @@ pairs_well t names target referenced =
 abbrev pub referenced_table : Elements → Name → References → Option TableDefinition
 referenced_table elements user r = table_named elements (table_of user r.table)
 
--- the target is a base table, and there are columns that are referenced
+-- the target is a base table, and the columns pair well with its referenced columns
 abbrev pub is_good_reference : Elements → Name → TableDefinition → Reference → Bool
 is_good_reference elements user t r =
     is_some_and (λ target. is_some_and (pairs_well t r.columns target)
@@ -267,7 +268,7 @@ may_reference elements user r =
     is_none_or (list_all (may_reference_column elements user r.references))
     (columns_referenced elements user r.references)
 
--- what an action grants: without a column list, on each column
+-- the columns on which an action grants: without a column list, all
 abbrev pub columns_granted : List Name → Option (CommaList Name) → List Name
 columns_granted columns None = columns
 columns_granted columns (Some list) = listed list

@@ -1,5 +1,5 @@
--- The places of a statement at which a syntax or access rule asks something: what each rule is asked of. One walk
--- through a tree finds them all; the rules themselves stand in Binding.
+-- The sites: the places of a statement at which a syntax or access rule asks something. One walk through a tree finds
+-- them all; the rules themselves are in Binding.
 use Rattle.std.specs.List.{sum, zip}
 use Rattle.std.specs.Prelude.{ℕ, Bool, true, false, List, [], ◌∷◌, ◌++◌, map, length, if◌then◌else◌, filter, flat_map, Option, unwrap_or, option_map, Some, None, Ok}
 use Rattle.std.specs.Result.{result_ok}
@@ -22,14 +22,13 @@ use Rattle.sq_meaning.specs.Syntax.{absent}
 use Rattle.sq_meaning.specs.Tables.{Declared, Tables, descriptor_of, kinds_by_name}
 use Rattle.sq_meaning.specs.Privilege.{Privilege}
 
--- a FROM clause around; where a select list or HAVING of a grouped query specification is read, with its grouping
--- columns
+-- a FROM clause around; in a select list or HAVING of a grouped query specification, with its grouping columns
 pub record EnclosingQuery : Type 0 where
   pub from : List TableReference
   pub grouping : Option (List ColumnReference)
 
--- what stands around an expression: the FROM clauses, the nearest first; whether a set function may stand here; and
--- whether this is the operand of one
+-- the surroundings of an expression: the FROM clauses, the nearest first; whether a set function may occur here; whether
+-- this is the operand of one
 pub record Around : Type 0 where
   pub queries : List EnclosingQuery
   pub functions_allowed : Bool
@@ -55,7 +54,7 @@ pub data Site : Type 0 where
   -- the columns of a select list or of an insert column list
   column_count : ℕ → Site
   star_of_groups : Site
-  -- what a CHECK may not have
+  -- a read of USER and a subquery, which a CHECK may not have
   user_read : Site
   subquery_read : Site
   -- the table that a statement changes, and a column of it
@@ -73,13 +72,13 @@ pub data Site : Type 0 where
   orientation_used : (scrolls : Bool) → Option Orientation → Site
   privilege_used : TableName → Privilege → Site
 
--- what is known of a cursor: whether its query has no fault, and the table that its FROM clause names, if it is updatable
+-- a known cursor: whether its query has no fault, and the table that its FROM clause names, if it is updatable
 pub record KnownCursor : Type 0 where
   pub name : Name
   pub sound : Bool
   pub table : Option TableName
 
--- what is looked up: the tables, the parameters and the cursors
+-- the names that are looked up: the tables, the parameters and the cursors
 pub record Known : Type 0 where
   pub tables : Tables
   pub parameters : List Declared

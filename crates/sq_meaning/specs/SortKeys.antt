@@ -14,7 +14,7 @@ use Rattle.sq_meaning.specs.Rows.{SortColumn}
 use Rattle.sq_meaning.specs.Spelled.{Named, spelled_whole}
 use Rattle.sq_meaning.specs.Tables.{Tables, item_of}
 
--- a select item has a name if it is a column reference, and nothing stands around it
+-- a select item has a name if it is a column reference and nothing more
 abbrev pub item_name : Expr Named → Option Name
 item_name (column c) = Some c.column
 item_name _ = None
@@ -25,7 +25,7 @@ select_names tables (select distinct all_columns from filter by having) =
     each (item_of tables) from >>= λ heads. Ok (flat_map (λ head. map Some head.columns) heads)
 select_names tables (select distinct (expressions es) from filter by having) = Ok (map item_name es)
 
--- a column of UNION has a name where both sides have the same
+-- a column of UNION has a name if both sides have the same
 abbrev pub common_name : Option Name → Option Name → Option Name
 common_name None n = None
 common_name (Some m) None = None

@@ -77,7 +77,7 @@ table_of own t = record { user = unwrap_or t.schema own; name = t.table }
 abbrev pub zero_number : Number
 zero_number = record { unscaled = pos 0; scale = 0 }
 
--- the number of a literal (5.3); the lexer reads no other spellings than those of numbers
+-- the number of a literal (5.3); the lexer reads only spellings of numbers
 abbrev pub spelled_number : List ℕ → Number
 spelled_number spelling = result_unwrap_or (read spelling) zero_number
 
@@ -121,7 +121,7 @@ abbrev pub length_of : Option (List ℕ) → Option ℕ
 length_of None = Some 1
 length_of (Some spelling) = spelled_whole spelling
 
--- the domain of a data type (6.1); none where its precision, scale or length is none
+-- the domain of a data type (6.1); none if its precision, scale or length is none
 abbrev pub domain_of : DataType → Option Domain
 domain_of data_type.Smallint = Some domain.Small
 domain_of data_type.Integer = Some domain.Int
@@ -172,8 +172,8 @@ added_level a = (a.sign, a.term)
 abbrev scaled_level : Scaled-F E (Sign × E) E E (TimesSign × E) E → TimesSign × E
 scaled_level s = (s.sign, s.factor)
 
--- what each part of an expression is seen as, and all levels. The fold over them computes; the generated `fold-Expr` is
--- the same function, but shut.
+-- the form in which each part of an expression is seen, and all levels. The fold over them computes; the generated
+-- `fold-Expr` is the same function, but shut.
 abbrev pub ExprSeen : ExprPart → Type 0
 ExprSeen = expr_family E (Sign × E) E E (TimesSign × E) E
 
@@ -220,7 +220,7 @@ C = Cond Named
 abbrev S : Type 0
 S = Select Named
 
--- a table expression waits for what stands before it
+-- a table expression waits for the parts before it
 abbrev T : Type 0
 T = Bool → SelectList Named → S
 

@@ -27,7 +27,7 @@ sqlstate SyntaxErrorOrAccessRuleViolation = codes "42000"
 sqlstate CheckOptionViolation = codes "44000"
 sqlstate NoRowNumberLeft = codes "S1L00"
 
--- zero on success and on a warning, 100 where there is no data (22.2); the numbers below zero are an own rule
+-- zero on success and on a warning, 100 if there is no data (22.2); the numbers below zero are an own rule
 abbrev pub sqlcode : Status → ℤ
 sqlcode SuccessfulCompletion = pos 0
 sqlcode TextTruncated = pos 0
@@ -47,7 +47,7 @@ sqlcode NoRowNumberLeft = neg_ℤ (pos 9001)
 
 -- ---- a value or a status
 
--- what has a value, or ends with a status before it has one
+-- a value, or a status with which something ends before it has one
 abbrev pub Outcome : Type 0 → Type 0
 Outcome A = Result A Status
 
@@ -60,11 +60,11 @@ infixl 10 ◌>>=◌
 abbrev pub ◌>>=◌ : {A B : Type 0} → Outcome A → (A → Outcome B) → Outcome B
 outcome >>= f = and_then outcome f
 
--- where a rule of the language is broken
+-- the outcome if a rule of the language is broken
 abbrev pub not_well_formed : {A : Type 0} → Outcome A
 not_well_formed = Err SyntaxErrorOrAccessRuleViolation
 
--- a value that is there where the rules of the language hold
+-- a value that exists if the rules of the language hold
 abbrev pub well_formed : {A : Type 0} → Option A → Outcome A
 well_formed (Some x) = Ok x
 well_formed None = not_well_formed

@@ -1,6 +1,6 @@
--- Trees that never end with a status where they are well formed: they hold no arithmetic between two operands, no ESCAPE, no
--- scalar subquery, no set function but MIN and MAX, and no table whose rows may be a status (ISO/IEC 9075:1992, 6.5, 6.12,
--- 7.11 and 8.5).
+-- Trees that never end with a status if they are well formed (ISO/IEC 9075:1992, 6.5, 6.12, 7.11 and 8.5). They hold no
+-- arithmetic between two operands, no ESCAPE, no scalar subquery and no set function but MIN and MAX. They name no table
+-- whose rows may be a status.
 use Rattle.std.specs.Prelude.{◌≡◌, ◌⊎◌, Bool, true, false, not, ◌&&◌}
 use Rattle.std.specs.List.{list_all}
 use Rattle.sq_tree.specs.declared.expr.SetFunction.{SetFunction}
@@ -38,7 +38,7 @@ abbrev pub is_sure_list : {N : Naming} → SelectList N → Bool
 is_sure_list all_columns = true
 is_sure_list (expressions es) = list_all is_sure_expr es
 
--- where the rows of these tables may be a status
+-- `may_fail` says whether the rows of a table may be a status
 module _ {N : Naming} (may_fail : N.Table → Bool) where
   abbrev mutual
     pub is_sure : Cond N → Bool

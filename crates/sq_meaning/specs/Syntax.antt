@@ -1,4 +1,4 @@
--- What is evaluated, as trees: value expressions (ISO/IEC 9075:1992, 6.11), search conditions (8.12), query
+-- The trees that are evaluated: value expressions (ISO/IEC 9075:1992, 6.11), search conditions (8.12), query
 -- specifications (7.9) and query expressions (7.10). A tree is the same whether it names columns, parameters and
 -- tables as its text does, or places them.
 use Rattle.std.specs.Prelude.{Bool, List, [], ◌∷◌, Option}
@@ -9,8 +9,8 @@ use Rattle.sq_tree.specs.declared.expr.SetFunction.{SetFunction}
 use Rattle.sq_tree.specs.declared.cond.Comparison.{Comparison}
 use Rattle.sq_tree.specs.declared.cond.Quantifier.{Quantifier}
 
--- how a tree refers to a column, to a parameter with its indicator and to a table, and what is known of an item of
--- FROM while its rows are read
+-- The ways in which a tree refers to a column, to a parameter with its indicator and to a table. And the head of
+-- an item of FROM, known while its rows are read.
 pub record Naming : Type 1 where
   pub Column : Type 0
   pub Parameter : Type 0

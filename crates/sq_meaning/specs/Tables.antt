@@ -1,5 +1,5 @@
--- Tables by their names: base tables and views (ISO/IEC 9075:1992, 4.9 and 11.19), what their columns are, and their
--- rows. A view's rows are those of its query, with the caller's user.
+-- Tables by their names: base tables and views (ISO/IEC 9075:1992, 4.9 and 11.19), their columns, and their rows. A
+-- view has the rows of its query, with the caller's user.
 use Rattle.std.specs.Prelude.{ℕ, Bool, true, false, List, [], ◌∷◌, find, map, slice_get, Ok}
 use Rattle.std.specs.Option.{option_map}
 use Rattle.sq_lex.specs.declared.name.Name.{Name}
@@ -33,7 +33,7 @@ pub record TableDescriptor : Type 0 where
   pub columns : List ColumnDescriptor
   pub body : TableBody
 
--- all tables, the last one created first: the query of a view names only tables behind it
+-- all tables, the last one created first: the query of a view names only tables after it
 abbrev pub Tables : Type 0
 Tables = List TableDescriptor
 
@@ -58,7 +58,7 @@ pub record Declared : Type 0 where
 
 -- ---- trees by name
 
--- the kind of the column at a place, where these tables are in the FROM clauses around
+-- the kind of the column at a place, if these tables are in the FROM clauses around
 abbrev pub kind_at : Tables → List (List TableReference) → Place → Outcome Kind
 kind_at tables scopes p = do
   from ← well_formed (slice_get scopes p.depth)
@@ -75,7 +75,7 @@ kinds_by_name tables parameters = record {
   columns = λ r. descriptor_of tables r.table >>= λ d. Ok (column_kinds d);
 }
 
--- names are looked up at every use, and rows are those of names
+-- names are looked up at every use, and so are the rows of a name
 abbrev pub reading_by_name : Tables → (TableName → Outcome (List Row)) → Reading Named
 reading_by_name tables rows_of = record {
   place = place_of;
@@ -89,7 +89,7 @@ reading_by_name tables rows_of = record {
 abbrev pub rows_in : Table → List Row
 rows_in t = map (λ r. r.row) t.rows
 
--- a base table's by rising numbers, or those of the view's query, outside every scope and without parameters
+-- the rows of a base table by rising numbers, or of the view's query, outside every scope and without parameters
 abbrev pub table_rows : Tables → Content → Name → TableName → Outcome (List Row)
 table_rows [] content caller name = not_well_formed
 table_rows (d ∷ earlier) content caller name =

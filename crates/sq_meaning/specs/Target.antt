@@ -46,7 +46,7 @@ are_distinct (n ∷ ns) = not (list_any (nat_eq n) ns) && are_distinct ns
 abbrev pub places_of : {A : Type 0} → List A → List ℕ
 places_of xs = map (λ p. p.0) (enumerate_from 0 xs)
 
--- a select item that is a column of the item, and nothing stands around it
+-- a select item that is a column of the item and nothing more
 abbrev pub shown_column : Item → Expr Named → Outcome ℕ
 shown_column item (column c) = well_formed (column_in c item)
 shown_column item _ = not_well_formed
@@ -63,7 +63,7 @@ abbrev pub only_table : List TableReference → Outcome TableReference
 only_table (r ∷ []) = Ok r
 only_table _ = not_well_formed
 
--- what an updatable query is made of: its only item of FROM, the columns of it that are shown, and its WHERE clause
+-- the parts of an updatable query: its only item of FROM, the columns of it that are shown, and its WHERE clause
 pub record Source : Type 0 where
   pub item : Item
   pub columns : List ℕ
@@ -86,8 +86,9 @@ pub record Level : Type 0 where
   pub columns : List ℕ
   pub condition : Clause Named
 
--- The base table by its place, the column of it for each column of the target, the conditions of the views from
--- inside out, and how many of them check options demand: those up to the outermost view that has one.
+-- The base table by its place, and the column of it for each column of the target. Then the conditions of the views
+-- from inside out, and the number of them that check options demand. It counts the views up to the outermost one
+-- that has a check option.
 pub record Target : Type 0 where
   pub place : ℕ
   pub columns : List ℕ
@@ -114,13 +115,13 @@ seen_through source under = record {
 abbrev pub with_check_option : Bool → Target → Target
 with_check_option check_option t = if check_option then record t { demanded = length t.levels } else t
 
--- the target of a view, where this is the target that each name means beneath it
+-- the target of a view, if this is the target that each name means beneath it
 abbrev pub view_target : (TableName → Outcome Target) → Bool → Source → Outcome Target
 view_target beneath check_option source = do
   under ← beneath source.item.reference.table
   Ok (with_check_option check_option (seen_through source under))
 
--- the target that a table name means; none where a view is not updatable
+-- the target that a table name means; none if a view is not updatable
 abbrev pub target_of : Tables → TableName → Outcome Target
 target_of [] name = not_well_formed
 target_of (d ∷ earlier) name =

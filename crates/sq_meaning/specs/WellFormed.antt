@@ -1,5 +1,5 @@
--- Which value expressions, search conditions and query expressions are well formed (ISO/IEC 9075:1992, 6.3 to 6.5, 6.11,
--- 7.3 to 7.11 and clause 8), whatever their naming; and what rows and environments have to be for them: of their kinds.
+-- The value expressions, search conditions and query expressions that are well formed (ISO/IEC 9075:1992, 6.3 to 6.5,
+-- 6.11, 7.3 to 7.11 and clause 8), whatever their naming. And the rows and environments that are of their kinds.
 use Rattle.std.specs.Prelude.{◌≡◌, ℕ, zero, suc, ⊤, Bool, true, false, not, ◌||◌, IsTrue, IsFalse, List, [], ◌∷◌, map, slice_get, Option, Some, None, Ok, Err}
 use Rattle.std.specs.List.{AllByRecursion, AllZip}
 use Rattle.sq_value.specs.Domain.{IsOfKind}
@@ -22,12 +22,12 @@ abbrev pub IsNoSyntaxError : Status → Type 0
 IsNoSyntaxError SyntaxErrorOrAccessRuleViolation = ⊥
 IsNoSyntaxError _ = ⊤
 
--- there is a value of which P holds, or a status other than 42000
+-- there is a value for which P holds, or a status other than 42000
 abbrev pub Answers : {A : Type 0} → (A → Type 0) → Outcome A → Type 0
 Answers P (Ok x) = P x
 Answers P (Err status) = IsNoSyntaxError status
 
--- there is a value, and P holds of it
+-- there is a value, and P holds for it
 abbrev pub Has : {A : Type 0} → (A → Type 0) → Outcome A → Type 0
 Has P (Ok x) = P x
 Has P (Err status) = ⊥
@@ -35,7 +35,7 @@ Has P (Err status) = ⊥
 abbrev pub HasValue : {A : Type 0} → Outcome A → Type 0
 HasValue outcome = Has (λ x. ⊤) outcome
 
--- where something is known beforehand, what is answered is of it
+-- if the first outcome is a value, the second is a value with which P holds for it, or a status other than 42000
 abbrev pub Fits : {A B : Type 0} → (A → B → Type 0) → Outcome A → Outcome B → Type 0
 Fits P (Ok known) outcome = Answers (P known) outcome
 Fits P (Err status) outcome = ⊤
@@ -64,7 +64,7 @@ is_text (Num s) = false
 is_text (Chars n) = true
 is_text (Vary n) = true
 
--- the kinds of a subquery's columns are those of one column, which can be compared with this kind (7.11)
+-- a subquery has one column, which can be compared with this kind (7.11)
 abbrev pub IsOnlyKind : Kind → List Kind → Type 0
 IsOnlyKind k [] = ⊥
 IsOnlyKind k (l ∷ []) = IsTrue (is_comparable k l)
@@ -72,8 +72,8 @@ IsOnlyKind k (l ∷ next ∷ others) = ⊥
 
 -- ---- levels
 
--- The tables of a FROM clause around, and whether its columns may be read outside of set functions: not where a query
--- specification is grouped without GROUP BY, for its one group may have no row (7.9).
+-- The tables of a FROM clause around, and whether its columns may be read outside of set functions. They may not if a
+-- query specification is grouped without GROUP BY, since its one group may have no row (7.9).
 pub record Level (N : Naming) : Type 0 where
   pub from : List N.Table
   pub has_line : Bool
@@ -114,8 +114,8 @@ kind_there columns scopes p = do
   kinds ← columns t
   well_formed (slice_get kinds p.column)
 
--- What is known of columns and tables beforehand is what a reading finds. What a column reference means depends on the
--- scopes further out only by what it means there.
+-- The kinds of columns and tables known beforehand are the kinds that a reading finds. The meaning of a column reference
+-- depends on the scopes further out only by its meaning there.
 pub record Agrees {N : Naming} (m : Reading N) (k : Kinds N) : Type 0 where
   pub outer : (c : N.Column) (items : List N.Item) (xs ys : List (List N.Item)) → m.place c xs ≡ m.place c ys
       → m.place c (items ∷ xs) ≡ m.place c (items ∷ ys)
@@ -134,7 +134,7 @@ module _ {N : Naming} (m : Reading N) (k : Kinds N) (IsDeclared : N.Parameter �
   abbrev pub MayRead : List (Level N) → N.Column → Type 0
   MayRead levels c = Has (λ p. HasLine levels p.depth) (each (each m.item) (froms levels) >>= m.place c)
 
-  -- columns may be read, parameters are declared, and set functions stand in a query
+  -- columns may be read, parameters are declared, and set functions are in a query
   abbrev pub MayStand : List (Level N) → Expr N → Type 0
   MayStand levels (literal v) = ⊤
   MayStand levels (parameter p) = IsDeclared p
@@ -147,7 +147,7 @@ module _ {N : Naming} (m : Reading N) (k : Kinds N) (IsDeclared : N.Parameter �
   MayStand levels (scaled sign a b) = MayStand levels a × MayStand levels b
   MayStand levels (bracketed e) = MayStand levels e
 
-  -- an expression that may stand there, and that has a kind (6.11 to 6.13)
+  -- an expression that may occur there, and that has a kind (6.11 to 6.13)
   abbrev pub WellFormedExpr : List (Level N) → Expr N → Type 0
   WellFormedExpr levels e = HasValue (kind k (froms levels) e) × MayStand levels e
 
@@ -172,16 +172,16 @@ module _ {N : Naming} (m : Reading N) (k : Kinds N) (IsDeclared : N.Parameter �
   WellFormedEscape levels None = ⊤
   WellFormedEscape levels (Some e) = WellFormedText levels e
 
-  -- a subquery of one column, whose values can be compared with that of the expression (7.11)
+  -- a subquery of one column, whose values can be compared with the expression's value (7.11)
   abbrev pub IsBeside : List (Level N) → Expr N → Select N → Type 0
   IsBeside levels a q =
       Has (λ x. Has (IsOnlyKind x) (select_kinds k (froms levels) q)) (kind k (froms levels) a)
 
-  -- a table that is there (6.3)
+  -- an existing table (6.3)
   abbrev pub WellFormedTable : N.Table → Type 0
   WellFormedTable t = HasValue (k.columns t) × HasValue (m.item t)
 
-  -- `*` does not stand in a grouped query specification (7.9)
+  -- `*` does not occur in a grouped query specification (7.9)
   abbrev pub WellFormedList : List (Level N) → (grouped : Bool) → SelectList N → Type 0
   WellFormedList levels grouped all_columns = IsFalse grouped
   WellFormedList levels grouped (expressions es) = WellFormedExprs levels es
@@ -239,7 +239,7 @@ module _ {N : Naming} (m : Reading N) (k : Kinds N) (IsDeclared : N.Parameter �
     pub line : OnlyIf level.has_line (IsLineOf level.from scope.line)
     pub group : AllByRecursion (IsLineOf level.from) scope.group
 
-  -- a scope of a level: its items are those of the level's tables, and its rows are of their kinds
+  -- a scope of a level: it has the items of the level's tables, and its rows are of their kinds
   pub record IsScopeOf (level : Level N) (scope : Scope N.Item) : Type 0 where
     pub items : each m.item level.from ≡ Ok scope.items
     pub found : HasRowsOf level scope
@@ -265,7 +265,7 @@ kinds_by_place columns parameters = record {
   columns = columns;
 }
 
--- a parameter is there, and its indicator parameter, too
+-- a parameter exists, and so does its indicator parameter, if it has one
 abbrev pub IsThere : List Kind → Option ℕ → Type 0
 IsThere parameters None = ⊤
 IsThere parameters (Some i) = HasValue (well_formed (slice_get parameters i))

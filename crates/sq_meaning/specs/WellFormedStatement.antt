@@ -43,7 +43,7 @@ use Rattle.sq_meaning.specs.Privileges.{holds, updatable_here}
 use Rattle.sq_meaning.specs.Schema.{Elements}
 use Rattle.sq_meaning.specs.Site.{Around, Known, KnownCursor, Site, cond_sites, expr_sites, kind_here, kinds_here, known_tables, outside, plain_query, query_count, query_kinds_of, query_sites, select_count, select_sites}
 
--- what surrounds a procedure's statement: the schema elements, its module, and its parameters as they are declared
+-- the surroundings of a procedure's statement: the schema elements, its module, and its parameters as they are declared
 pub record Surroundings : Type 0 where
   pub elements : Elements
   pub in_module : ModuleText
@@ -52,7 +52,7 @@ pub record Surroundings : Type 0 where
 abbrev pub own : Surroundings → Name
 own u = u.in_module.authorization
 
--- what a query may refer to: it names no cursor
+-- the names that a query may refer to: it names no cursor
 abbrev pub known_in_query : Surroundings → Known
 known_in_query u = record (known_tables (tables_of u.elements)) { parameters = u.parameters }
 
@@ -93,7 +93,7 @@ cursor_query u c = query_of (own u) c.query
 abbrev pub cursor_names : Surroundings → Cursor → Outcome (List (Option Name))
 cursor_names u c = query_names (tables_of u.elements) (cursor_query u c)
 
--- where the names of the result columns are not known, the query has a fault, and ORDER BY has none beside it
+-- if the names of the result columns are not known, the query has a fault, and ORDER BY has none beside it
 abbrev pub sort_sites : Outcome (List (Option Name)) → List SortSpecification → List Site
 sort_sites (Ok names) order = map (λ s. Site.sort_by names s.key) order
 sort_sites (Err s) order = []
@@ -130,7 +130,7 @@ updatable_table u c =
 abbrev pub known_cursor : Surroundings → Cursor → KnownCursor
 known_cursor u c = record { name = c.name; sound = is_sound u c; table = updatable_table u c }
 
--- what a statement may refer to
+-- the names that a statement may refer to
 abbrev pub known_in : Surroundings → Known
 known_in u = record (known_in_query u) { cursors = map (known_cursor u) (cursors u.in_module) }
 

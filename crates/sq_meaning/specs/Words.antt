@@ -18,7 +18,7 @@ abbrev pub has_twice : {A : Type 0} → (A → A → Bool) → List A → Bool
 has_twice same [] = false
 has_twice same (x ∷ xs) = list_any (same x) xs || has_twice same xs
 
--- the first that is there
+-- the first one that exists
 abbrev pub first_some : {A : Type 0} → List (Option A) → Option A
 first_some [] = None
 first_some (x ∷ xs) = option_or x (first_some xs)

@@ -10,7 +10,7 @@ pub enum BindingFault {
     /// Two items of one FROM clause fit a column reference, have one correlation name, or are one table without
     /// correlation names.
     AmbiguousName,
-    /// A number stands where a text must stand, or the reverse.
+    /// A number in the place of a text, or the reverse.
     KindMismatch,
     /// A scale above 18, more than 64 columns, or more than 16 items in a FROM clause.
     LimitExceeded,
@@ -22,7 +22,7 @@ pub enum BindingFault {
     CountMismatch,
     /// A sort key that is no result column's position, and not the name of exactly one.
     BadSortKey,
-    /// No parameter has this name, or a parameter where none may stand.
+    /// No parameter has this name, or no parameter may occur here.
     UnknownParameter,
     /// An indicator parameter that can't hold every length and -1.
     BadIndicator,

@@ -1,8 +1,10 @@
-//! The definitions (ISO/IEC 9075:1992, clauses 4 to 8, 10 to 14 and 22): what value expressions, search conditions and query
-//! expressions mean; which schemas, modules, scripts and statements are well formed, and who holds which privilege; what calls
-//! and runs mean, with changes, constraints, cursors, the machine, and the report of a run.
+//! The definitions (ISO/IEC 9075:1992, clauses 4 to 8, 10 to 14 and 22).
 //!
-//! They are in `specs/`; here are only the types that both they and the processor speak of: the status, and the names of
+//! They say what value expressions, search conditions and query expressions mean. They say which schemas, modules, scripts and
+//! statements are well formed, and who holds which privilege. And they say what calls and runs mean, with changes,
+//! constraints, cursors, the machine, and the report of a run.
+//!
+//! They are in `specs/`. This crate has only the types that both they and the processor use: the status, and the names of
 //! faults and refusals.
 #![tactic(auto)]
 

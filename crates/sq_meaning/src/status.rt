@@ -3,7 +3,7 @@
 ghost use Rattle.std.specs.Prelude.{◌≡◌};
 ghost use Rattle.sq_meaning.specs.Status as spec;
 
-/// What a call ends with (ISO/IEC 9075:1992, 22.1).
+/// The status that a call ends with (ISO/IEC 9075:1992, 22.1).
 #[derive(Clone, Copy, Debug, PartialEq, Eq)]
 pub enum Status {
     SuccessfulCompletion,
@@ -54,7 +54,7 @@ impl Status {
         }
     }
 
-    /// SQLCODE: 0 on success and on a warning, 100 where there is no data, below 0 otherwise.
+    /// SQLCODE: 0 on success and on a warning, 100 if there is no data, below 0 otherwise.
     pub fn sqlcode(self) -> i32
         ensures { result ≡ spec.sqlcode self }
     {

@@ -1,4 +1,4 @@
--- What a writer has taken, piece by piece.
+-- The bytes that a writer has taken, piece by piece.
 use Rattle.std.proofs.Common.{ℕ, ◌+◌, List, take, drop, subst, sym, Option}
 use Rattle.std.proofs.KnownBytes.{Appends-trans}
 use Rattle.std.specs.Io.KnownBytes.{Appends}

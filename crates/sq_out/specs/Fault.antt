@@ -1,4 +1,4 @@
--- What of an answer to a write is a fault.
+-- The answers to a write that are faults.
 use Rattle.std.specs.Prelude.{ℕ, Bool, true, ◌&&◌, nat_eq, nat_lt, Result, Ok, Err}
 
 -- a fault: an error, or 0 bytes taken of at least one that was offered

@@ -1,5 +1,5 @@
-//! Where a report goes: an output that takes bytes or fails, one over any writer of std, and the loop that writes
-//! a whole text to it.
+//! The output of a report: a trait for an output of bytes, an output over any writer of std, and the loop
+//! that writes a whole text.
 #![tactic(auto)]
 
 mod out;

@@ -1,4 +1,4 @@
-//! What takes the bytes of a report.
+//! The output that takes the bytes of a report.
 
 ghost use Rattle.std.specs.Prelude.{◌≡◌, ◌≤◌, ◌||◌, List, ℕ, Bool, Option, length, IfOk};
 ghost use Rattle.std.specs.Io.KnownBytes.{WriteAppends};
@@ -11,10 +11,10 @@ use thiserror::Error;
 #[error("output fault")]
 pub struct OutFault;
 
-/// Where a report goes.
+/// The output of a report.
 ///
-/// Its meaning is the bytes taken so far, where they are known, and whether it has failed: by an error, of which an
-/// interrupted write is one too, or by taking 0 bytes of at least one.
+/// Its meaning is the bytes taken so far, if they are known, and whether it has failed. It fails by an error, an
+/// interrupted write included, or if it takes 0 bytes of at least one.
 pub trait Out {
     ghost taken: { Self → Option (List ℕ) };
 

@@ -9,8 +9,8 @@ use std::marker::Model;
 
 /// An output over a writer of std.
 ///
-/// It takes the bytes that the writer takes, and has failed exactly where a write of it gave an error or took 0 bytes
-/// of at least one.
+/// It takes the bytes that the writer takes. It has failed exactly if a write of it gave an error or took 0 bytes of
+/// at least one.
 #[derive(Drop)]
 pub struct OutOf<W> {
     writer: W,

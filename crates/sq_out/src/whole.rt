@@ -15,7 +15,7 @@ pub fn write_whole<W: Out>(out: &mut W, bytes: &[u8]) -> Result<(), usize>
     ensures ok { OnOk result (Appends (W.taken out.old) (W.taken out.new) bytes.now) }
     ensures still { OnOk result (W.failed out.new ≡ false) }
 
-    // A fault comes with fewer bytes taken than there are, and the first of them.
+    // On a fault fewer bytes were taken than given, and they are the first ones.
     ensures within { IfErr result (λ count. count < length bytes.now) }
     ensures fault { IfErr result
         (λ count. Appends (W.taken out.old) (W.taken out.new) (take count bytes.now)) }

@@ -1,4 +1,4 @@
-//! Grants, behind GRANT: privileges, a table and to whom they are given.
+//! Grants, after GRANT: the privileges, the table, and the users who get them.
 
 ghost use Rattle.std.specs.Prelude.{◌<◌, ◌≤◌, length, OnOk};
 ghost use Rattle.sq_grammar.specs.Reading.{comma_separated};
@@ -91,7 +91,7 @@ fn grant_option(tokens: &mut Reader<'_>) -> Result<bool, Stop>
     Ok(true)
 }
 
-/// A grant, behind GRANT.
+/// A grant, after GRANT.
 #[tactic(auto, unfolding(sq_grammar::specs::Schema::grant))]
 pub fn grant(alloc: Global, tokens: &mut Reader<'_>) -> Result<GrantStatement, Stop>
     ensures value { Reads (spec.grant tokens.old) result tokens.new }

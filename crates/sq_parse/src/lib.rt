@@ -1,4 +1,4 @@
-//! The parser: from the tokens of a text to its tree. Trees are dropped as in `sq_phrase`, by a call where reading
+//! The parser: from the tokens of a text to its tree. Trees are dropped as in `sq_phrase`, by a call if reading
 //! stops.
 #![tactic(auto)]
 

@@ -83,7 +83,7 @@ fn elements(
     items(alloc, tokens, |tokens| element(alloc, tokens, left))
 }
 
-/// A schema definition, behind CREATE.
+/// A schema definition, after CREATE.
 #[tactic(auto, unfolding(sq_grammar::specs::Schema::schema_definition))]
 fn schema_definition(
     alloc: Global,
@@ -126,7 +126,7 @@ fn next_definition(
     Ok(Some(definition))
 }
 
-/// The schema definitions behind the first one.
+/// The schema definitions after the first one.
 fn more_definitions(
     alloc: Global,
     tokens: &mut Reader<'_>,

@@ -1,5 +1,5 @@
-//! Table definitions: columns, defaults and constraints. In each rule the words up to where the rules differ are read
-//! already.
+//! Table definitions: columns, defaults and constraints. Each rule begins after the words that it has in common with
+//! others; they are read already.
 
 ghost use Rattle.std.specs.Prelude.{◌<◌, ◌≤◌, length, IfOk, OnOk, OnSome};
 ghost use Rattle.sq_grammar.specs.Reading.{all, comma_separated};
@@ -18,7 +18,7 @@ use sq_tree::{
 };
 use std::alloc::Global;
 
-/// `table [ "(" columns ")" ]`, behind REFERENCES.
+/// `table [ "(" columns ")" ]`, after REFERENCES.
 #[tactic(auto, unfolding(sq_grammar::specs::Schema::references_from))]
 fn references_from(alloc: Global, tokens: &mut Reader<'_>) -> Result<References, Stop>
     ensures value { Reads (spec.references_from tokens.old) result tokens.new }
@@ -29,7 +29,7 @@ fn references_from(alloc: Global, tokens: &mut Reader<'_>) -> Result<References,
     Ok(References { table, columns })
 }
 
-/// The value behind DEFAULT.
+/// The value after DEFAULT.
 #[tactic(auto, unfolding(sq_grammar::specs::Schema::default_value))]
 fn default_value(alloc: Global, tokens: &mut Reader<'_>) -> Result<DefaultValue, Stop>
     ensures value { Reads (spec.default_value tokens.old) result tokens.new }
@@ -61,7 +61,7 @@ fn default_clause(alloc: Global, tokens: &mut Reader<'_>) -> Result<Option<Defau
     Ok(Some(value))
 }
 
-/// `"(" condition ")"` behind CHECK; its bracket is one of the `left` that may be opened.
+/// `"(" condition ")"` after CHECK; its bracket is one of the `left` that may be opened.
 #[tactic(auto, unfolding(sq_grammar::specs::Schema::check))]
 fn check(alloc: Global, tokens: &mut Reader<'_>, left: usize) -> Result<Cond, Stop>
     requires { 0 < left }
@@ -158,7 +158,7 @@ fn column_definition(
     }
 }
 
-/// A foreign key, behind FOREIGN.
+/// A foreign key, after FOREIGN.
 #[tactic(auto, unfolding(sq_grammar::specs::Schema::foreign_key, sq_grammar::specs::Schema::references))]
 fn foreign_key(alloc: Global, tokens: &mut Reader<'_>) -> Result<ForeignKey, Stop>
     ensures value { Reads (spec.foreign_key tokens.old) result tokens.new }
@@ -240,7 +240,7 @@ fn table_elements(
     comma_list(alloc, tokens, |tokens| table_element(alloc, tokens, left))
 }
 
-/// A table definition, behind CREATE TABLE; `left` brackets may be opened inside its own.
+/// A table definition, after CREATE TABLE; `left` brackets may be opened inside its own.
 #[tactic(auto, unfolding(sq_grammar::specs::Schema::table_definition))]
 pub fn table_definition(
     alloc: Global,

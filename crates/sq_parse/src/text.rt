@@ -20,7 +20,7 @@ use sq_lex::Token;
 use sq_tree::{ModuleText, SchemaText, ScriptText};
 use std::alloc::Global;
 
-/// The tree of a script text: items, each with a semicolon behind it (own rule).
+/// The tree of a script text: items, each with a semicolon after it (own rule).
 pub fn parse_script(alloc: Global, tokens: &[Token]) -> Result<ScriptText, ParseError>
     ensures parsed { Answers (parsed script_text (lexemes tokens.now)) result }
     ensures spelled { IfOk result (λ tree. lexemes tokens.now ≡ script_tokens tree) }

@@ -1,4 +1,4 @@
-//! View definitions, behind CREATE VIEW.
+//! View definitions, after CREATE VIEW.
 
 ghost use Rattle.std.specs.Prelude.{◌<◌, ◌≤◌, length, OnOk};
 ghost use Rattle.sq_grammar.specs.declared.brackets.TheConstants.{MAX_DEPTH};
@@ -25,7 +25,7 @@ fn check_option(tokens: &mut Reader<'_>) -> Result<bool, Stop>
     Ok(true)
 }
 
-/// A view definition, behind CREATE VIEW.
+/// A view definition, after CREATE VIEW.
 #[tactic(auto, unfolding(sq_grammar::specs::Schema::view_definition))]
 pub fn view_definition(
     alloc: Global,

@@ -1,4 +1,4 @@
--- A function value that reads what stands behind a bracket.
+-- A function value that reads the tokens after a bracket.
 use Rattle.std.specs.Prelude.{ℕ, Result, ◌<◌, length, OnOk}
 use Rattle.std.specs.declared.alloc.Global.{Global}
 use denote.Ref.{MutBor}

@@ -1,4 +1,4 @@
-//! Search conditions, over a parser of what stands behind a bracket, so that each rule is proved by itself.
+//! Search conditions, over a parser of the text after a bracket, so that each rule is proved by itself.
 
 ghost use Rattle.std.specs.Prelude.{◌≡◌, ◌<◌, ◌≤◌, length, IfOk, OnOk, OnSome};
 ghost use Rattle.sq_lex.specs.declared.lexeme.Lexeme.TheVariants as lexeme;
@@ -21,12 +21,12 @@ pub struct Grammar<F> {
     pub alloc: Global,
     /// How many brackets may still be opened.
     pub left: usize,
-    /// Reads a condition or an expression behind a bracket, which is one of these.
+    /// Reads a condition or an expression after a bracket, which is one of these.
     pub inner: F,
 }
 
 impl<F: Fn(Global, &mut Reader<'_>, usize) -> Result<CondOrExpr<Cond>, Stop>> Grammar<F> {
-    /// A condition behind a bracket.
+    /// A condition after a bracket.
     pub fn inner_cond(&self, tokens: &mut Reader<'_>) -> Result<Cond, Stop>
         requires nests { Nests spec.inside self.now.left (F.pre self.now.inner) (F.post self.now.inner) }
         requires some { 0 < self.now.left }
@@ -142,7 +142,7 @@ impl<F: Fn(Global, &mut Reader<'_>, usize) -> Result<CondOrExpr<Cond>, Stop>> Gr
         }
     }
 
-    /// The tests behind the first, each behind an AND.
+    /// The tests after the first, each after an AND.
     #[tactic(auto, using(sq_grammar::proofs::Reading::Many::loops))]
     fn more_tests(&self, tokens: &mut Reader<'_>) -> Result<Items<Test>, Stop>
         requires { Nests spec.inside self.now.left (F.pre self.now.inner) (F.post self.now.inner) }
@@ -196,7 +196,7 @@ impl<F: Fn(Global, &mut Reader<'_>, usize) -> Result<CondOrExpr<Cond>, Stop>> Gr
         }
     }
 
-    /// The AND lists behind the first, each behind an OR.
+    /// The AND lists after the first, each after an OR.
     #[tactic(auto, using(sq_grammar::proofs::Reading::Many::loops))]
     fn more_conjs(&self, tokens: &mut Reader<'_>) -> Result<Items<Conj>, Stop>
         requires { Nests spec.inside self.now.left (F.pre self.now.inner) (F.post self.now.inner) }
@@ -236,7 +236,7 @@ impl<F: Fn(Global, &mut Reader<'_>, usize) -> Result<CondOrExpr<Cond>, Stop>> Gr
     }
 }
 
-/// A condition or an expression behind a bracket, which is one of the `left` that could be opened before it.
+/// A condition or an expression after a bracket, which is one of the `left` that could be opened before it.
 pub fn inner(alloc: Global, tokens: &mut Reader<'_>, left: usize) -> Result<CondOrExpr<Cond>, Stop>
     requires { 0 < left }
     ensures value { Reads (spec.inside left tokens.old) result tokens.new }
@@ -265,7 +265,7 @@ pub fn cond(alloc: Global, tokens: &mut Reader<'_>, left: usize) -> Result<Cond,
     }
 }
 
-/// A condition behind a bracket, which is one of the `left` that could be opened before it.
+/// A condition after a bracket, which is one of the `left` that could be opened before it.
 pub fn inner_cond(alloc: Global, tokens: &mut Reader<'_>, left: usize) -> Result<Cond, Stop>
     requires { 0 < left }
     ensures value { Reads (spec.must_be_cond (spec.inside left) tokens.old) result tokens.new }

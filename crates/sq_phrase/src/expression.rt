@@ -1,4 +1,4 @@
-//! Value expressions, over a parser of what stands behind a bracket, so that each rule is proved by itself.
+//! Value expressions, over a parser of the text after a bracket, so that each rule is proved by itself.
 
 ghost use Rattle.std.specs.Prelude.{◌≡◌, ◌<◌, ◌≤◌, length, IfOk, OnOk, OnSome};
 ghost use Rattle.sq_grammar.specs.Expr as spec;
@@ -88,7 +88,7 @@ pub struct Grammar<F> {
     pub alloc: Global,
     /// How many brackets may still be opened.
     pub left: usize,
-    /// Reads an expression behind a bracket, which is one of these.
+    /// Reads an expression after a bracket, which is one of these.
     pub inner: F,
 }
 
@@ -323,7 +323,7 @@ impl<F: Fn(Global, &mut Reader<'_>, usize) -> Result<Expr, Stop>> Grammar<F> {
     }
 }
 
-/// An expression behind a bracket, which is one of the `left` that could be opened before it.
+/// An expression after a bracket, which is one of the `left` that could be opened before it.
 pub fn inner_expr(alloc: Global, tokens: &mut Reader<'_>, left: usize) -> Result<Expr, Stop>
     requires { 0 < left }
     ensures value { Reads (spec.inside left tokens.old) result tokens.new }

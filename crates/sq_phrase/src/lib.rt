@@ -1,7 +1,7 @@
 //! The phrases of statements and definitions: value expressions, search conditions and query expressions.
 //!
-//! Where reading stops, what was read before is dropped by a call of `drop`. At a `?` the same drop is proved in line, variant
-//! by variant, at each such exit, and takes most of a proof's time.
+//! If reading stops, a call of `drop` drops the parts read before. At a `?` the same drop is proved in line, variant by
+//! variant, at each such exit, and takes most of a proof's time.
 #![tactic(auto)]
 
 mod condition;

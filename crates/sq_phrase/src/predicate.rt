@@ -1,4 +1,4 @@
-//! What follows the first expression of a predicate.
+//! The part of a predicate after its first expression.
 
 ghost use Rattle.std.specs.Prelude.{◌≡◌, ◌<◌, ◌≤◌, length, IfOk, OnOk, OnSome};
 ghost use Rattle.sq_lex.specs.declared.lexeme.Lexeme.TheVariants as lexeme;
@@ -99,7 +99,7 @@ fn escape(alloc: Global, tokens: &mut Reader<'_>, left: usize) -> Result<Option<
 }
 
 impl<F: Fn(Global, &mut Reader<'_>, usize) -> Result<CondOrExpr<Cond>, Stop>> Grammar<F> {
-    /// What follows a comparison operator.
+    /// The part after a comparison operator.
     #[tactic(auto, unfolding(sq_grammar::specs::Cond::comparison_tail))]
     fn comparison_tail(&self, tokens: &mut Reader<'_>, comparison: Comparison) -> Result<Tail, Stop>
         requires { Nests spec.inside self.now.left (F.pre self.now.inner) (F.post self.now.inner) }
@@ -140,7 +140,7 @@ impl<F: Fn(Global, &mut Reader<'_>, usize) -> Result<CondOrExpr<Cond>, Stop>> Gr
         }
     }
 
-    /// What follows IN.
+    /// The part after IN.
     #[tactic(auto, unfolding(sq_grammar::specs::Cond::in_tail))]
     fn in_tail(&self, tokens: &mut Reader<'_>, negated: bool) -> Result<Tail, Stop>
         requires { Nests spec.inside self.now.left (F.pre self.now.inner) (F.post self.now.inner) }
@@ -185,7 +185,8 @@ impl<F: Fn(Global, &mut Reader<'_>, usize) -> Result<CondOrExpr<Cond>, Stop>> Gr
         }
     }
 
-    /// What may stand behind NOT.
+    /// The part with BETWEEN, IN or LIKE, if it comes, and NOT before it if it
+    /// is written.
     #[tactic(auto, unfolding(sq_grammar::specs::Cond::negatable_tail))]
     fn negatable_tail(&self, tokens: &mut Reader<'_>) -> Result<Option<Tail>, Stop>
         requires { Nests spec.inside self.now.left (F.pre self.now.inner) (F.post self.now.inner) }
@@ -212,7 +213,7 @@ impl<F: Fn(Global, &mut Reader<'_>, usize) -> Result<CondOrExpr<Cond>, Stop>> Gr
         Ok(None)
     }
 
-    /// What follows the first expression of a predicate, if it comes.
+    /// The part of a predicate after its first expression, if it comes.
     #[tactic(auto, unfolding(sq_grammar::specs::Cond::tail))]
     pub fn tail(&self, tokens: &mut Reader<'_>) -> Result<Option<Tail>, Stop>
         requires { Nests spec.inside self.now.left (F.pre self.now.inner) (F.post self.now.inner) }

@@ -1,4 +1,4 @@
-//! Query expressions, over a parser of what stands behind a bracket.
+//! Query expressions, over a parser of the text after a bracket.
 
 ghost use Rattle.std.specs.Prelude.{◌≡◌, ◌<◌, ◌≤◌, length, OnOk};
 ghost use Rattle.sq_lex.specs.declared.lexeme.Lexeme.TheVariants as lexeme;
@@ -22,12 +22,12 @@ struct Grammar<F> {
     alloc: Global,
     /// How many brackets may still be opened.
     left: usize,
-    /// Reads a query expression behind a bracket, which is one of these.
+    /// Reads a query expression after a bracket, which is one of these.
     inner: F,
 }
 
 impl<F: Fn(Global, &mut Reader<'_>, usize) -> Result<Query, Stop>> Grammar<F> {
-    /// A query expression behind a bracket.
+    /// A query expression after a bracket.
     fn inner_query(&self, tokens: &mut Reader<'_>) -> Result<Query, Stop>
         requires nests { Nests spec.inside self.now.left (F.pre self.now.inner) (F.post self.now.inner) }
         requires some { 0 < self.now.left }
@@ -95,7 +95,7 @@ impl<F: Fn(Global, &mut Reader<'_>, usize) -> Result<Query, Stop>> Grammar<F> {
         Ok(UnionTerm { all, term })
     }
 
-    /// The query terms behind the first, each behind a UNION.
+    /// The query terms after the first, each after a UNION.
     #[tactic(auto, using(sq_grammar::proofs::Reading::Many::loops))]
     fn more_terms(&self, tokens: &mut Reader<'_>) -> Result<Items<UnionTerm>, Stop>
         requires nests { Nests spec.inside self.now.left (F.pre self.now.inner) (F.post self.now.inner) }
@@ -132,7 +132,7 @@ impl<F: Fn(Global, &mut Reader<'_>, usize) -> Result<Query, Stop>> Grammar<F> {
     }
 }
 
-/// A query expression behind a bracket, which is one of the `left` that could be opened before it.
+/// A query expression after a bracket, which is one of the `left` that could be opened before it.
 fn inner(alloc: Global, tokens: &mut Reader<'_>, left: usize) -> Result<Query, Stop>
     requires some { 0 < left }
     requires small { left ≤ MAX_DEPTH }

@@ -95,7 +95,7 @@ fn group_by(
 }
 
 impl<F: Fn(Global, &mut Reader<'_>, usize) -> Result<CondOrExpr<Cond>, Stop>> Grammar<F> {
-    /// A list of expressions behind a bracket.
+    /// A list of expressions after a bracket.
     pub fn inner_exprs(&self, tokens: &mut Reader<'_>) -> Result<CommaList<Expr>, Stop>
         requires { 0 < self.now.left }
         ensures value { Reads (comma_separated (expressions.inside self.now.left) tokens.old) result tokens.new }
@@ -193,7 +193,7 @@ impl<F: Fn(Global, &mut Reader<'_>, usize) -> Result<CondOrExpr<Cond>, Stop>> Gr
         }
     }
 
-    /// A query specification behind a bracket.
+    /// A query specification after a bracket.
     #[tactic(auto, unfolding(sq_grammar::specs::Select::specification))]
     pub fn inner_query(&self, tokens: &mut Reader<'_>) -> Result<QuerySpecification, Stop>
         requires nests { Nests conditions.inside self.now.left (F.pre self.now.inner)
@@ -243,7 +243,7 @@ impl<F: Fn(Global, &mut Reader<'_>, usize) -> Result<CondOrExpr<Cond>, Stop>> Gr
 
 /// A select list in which `left` brackets may be open at once (ISO/IEC 9075:1992, 7.9).
 ///
-/// It is read as behind a bracket that is one of `left + 1`, so the rules stand once.
+/// It is read as after a bracket that is one of `left + 1`, so each rule is written once.
 pub fn select_list(alloc: Global, tokens: &mut Reader<'_>, left: usize) -> Result<SelectList, Stop>
     requires { left ≤ MAX_DEPTH }
     ensures value { Reads (spec.select_list (expressions.expr left) tokens.old) result tokens.new }

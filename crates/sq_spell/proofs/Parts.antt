@@ -1,4 +1,4 @@
--- The first parts of a text, and the schema behind them.
+-- The first parts of a text, and the schema after them.
 use Rattle.std.proofs.Common.{◌≡◌, ℕ, zero, suc, ◌+◌, ◌-◌, ◌<◌, ◌≤◌, length, List, [], ◌∷◌, drop, get_or, refl, sym, ◌∙◌, ap, arith, length-append, drop-cons}
 use Rattle.sq_tree.specs.Tree.{Tokens}
 use Rattle.sq_tree.specs.Starts.{tokens_of_first, before_element, before_element_of_first}

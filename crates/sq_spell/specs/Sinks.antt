@@ -1,4 +1,4 @@
--- What each sink is after one more token.
+-- Each sink after one more token.
 use Rattle.std.specs.Prelude.{◌+◌, ◌-◌, ◌^◌, ◌++◌, ◌∷◌, [], min, max}
 use Rattle.sq_lex.specs.declared.lexeme.Lexeme.{Lexeme}
 use Rattle.sq_tree.specs.Brackets.{open_after}
@@ -6,7 +6,7 @@ use Rattle.sq_spell.specs.declared.sinks.Writer.{Writer}
 use Rattle.sq_spell.specs.declared.sinks.Counter.{Counter}
 use Rattle.sq_spell.specs.declared.sinks.Depth.{Depth}
 
--- A writer after one more token: the token stands at the end.
+-- A writer after one more token: the token is at the end.
 abbrev pub written : Writer → Lexeme → Writer
 written writer token = record writer { lexemes = writer.lexemes ++ token ∷ [] }
 

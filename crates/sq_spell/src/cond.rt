@@ -221,7 +221,7 @@ fn walk_subquery<S: Sink>(query: &QuerySpecification, sink: &mut S) -> Result<()
     Symbol::Close.walk(sink)
 }
 
-/// Writes a word and the condition behind it, where there is one.
+/// Writes a word and the condition after it, if there is one.
 #[cycle(walk_cond)]
 #[tactic(auto, using(sq_tree::proofs::CondLaws::cond_tokens_levels, std::proofs::lemmas::Grind::common_steps))]
 fn walk_clause<S: Sink>(word: Word, cond: &Option<Cond>, sink: &mut S) -> Result<(), S::Stop>

@@ -160,7 +160,7 @@ impl Tree for Primary {
     }
 }
 
-/// Writes an expression and the bracket that closes behind it.
+/// Writes an expression and the closing bracket after it.
 #[cycle(walk_expr)]
 #[tactic(auto, using(sq_tree::proofs::ExprLaws::expr_tokens_levels, std::proofs::lemmas::Grind::common_steps))]
 fn walk_closed<S: Sink>(expr: &Expr, sink: &mut S) -> Result<(), S::Stop>

@@ -1,5 +1,5 @@
-//! How trees are spelled: the list of a tree's tokens, how many they are, how deep round brackets nest, and where the
-//! parts of a text begin.
+//! The spelling of trees: a tree's tokens, their number, the depth of round brackets, and the first tokens of
+//! the parts of a text.
 #![tactic(auto)]
 
 mod cond;

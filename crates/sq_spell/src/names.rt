@@ -57,7 +57,7 @@ impl Tree for Parameter {
     }
 }
 
-/// A list of columns in brackets, where there is one.
+/// A list of columns in brackets, if there is one.
 #[derive(Clone, Copy)]
 pub struct Columns<'a>(pub &'a Option<CommaList<Name>>);
 

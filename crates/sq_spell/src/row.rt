@@ -1,4 +1,4 @@
-//! The spelling of tokens, and of parts that stand in a row: a tuple is spelled as its parts are, one behind the other.
+//! The spelling of tokens, and of parts in a row: a tuple is spelled as its parts are, one after the other.
 
 ghost use Rattle.std.specs.Prelude.{◌∷◌, [], ◌++◌};
 ghost use Rattle.sq_lex.specs.declared.lexeme.Lexeme.TheVariants as lexeme;
@@ -73,7 +73,7 @@ impl<A: Tree, B: Tree, C: Tree, D: Tree> Tree for (A, B, C, D) {
     }
 }
 
-/// A part that stands there if it is written.
+/// A part that occurs if it is written.
 #[derive(Clone, Copy)]
 pub struct IfWritten<T>(pub bool, pub T);
 
@@ -85,7 +85,7 @@ impl<T: Tree> Tree for IfWritten<T> {
     }
 }
 
-/// A part that may not be there; where it is, the first one stands before it.
+/// An optional part; if it exists, the first one comes before it.
 #[derive(Clone, Copy)]
 pub struct Behind<A, B>(pub A, pub B);
 

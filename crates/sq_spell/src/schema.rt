@@ -98,7 +98,7 @@ impl Tree for ColumnDefinition {
     }
 }
 
-/// The word DEFAULT and the value behind it.
+/// The word DEFAULT and the value after it.
 impl Tree for DefaultValue {
     ghost tokens = { spec.default_clause_tokens };
 

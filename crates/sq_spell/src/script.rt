@@ -16,7 +16,7 @@ impl Tree for ScriptText {
     }
 }
 
-/// An item and the semicolon behind it.
+/// An item and the semicolon after it.
 impl Tree for ScriptItem {
     ghost tokens = { spec.ended_item_tokens };
 

@@ -1,11 +1,11 @@
-//! What takes the tokens of a tree, one by one.
+//! The sink, which takes the tokens of a tree one by one.
 
 ghost use Rattle.std.specs.Prelude.{◌≡◌, OnOk};
 ghost use Rattle.sq_lex.specs.declared.lexeme.Lexeme.TheVariants as lexeme;
 
 use sq_lex::{Characters, Lexeme};
 
-/// Takes tokens, one behind the other.
+/// Takes tokens, one after the other.
 pub trait Sink {
     ghost use Rattle.sq_lex.specs.declared.lexeme.Lexeme.{Lexeme};
 

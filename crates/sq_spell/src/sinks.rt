@@ -6,7 +6,7 @@ use sq_lex::{Characters, Lexeme, Symbol};
 use std::alloc::{AllocError, Global};
 use std::convert::Infallible;
 
-/// The tokens so far, and where memory for the next ones comes from.
+/// The tokens so far, and the allocator of memory for the next ones.
 #[derive(Drop)]
 pub struct Writer {
     pub alloc: Global,
@@ -31,7 +31,7 @@ impl Sink for Writer {
     }
 }
 
-/// How many tokens there are, up to `usize::MAX`.
+/// The number of tokens, up to `usize::MAX`.
 #[derive(Clone, Copy)]
 pub struct Counter {
     pub tokens: usize,

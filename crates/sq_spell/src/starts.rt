@@ -1,6 +1,7 @@
-//! Where the parts of a text begin: the number of the first token of each, from 0, up to `usize::MAX`.
+//! The beginnings of the parts of a text: the number of the first token of each, from 0, up to `usize::MAX`.
 //!
-//! Schemas, elements and items count from 0, too. Past the last one, the answer is where the next one would begin.
+//! Schemas, elements and items count from 0, too. Past the last one, the answer is the beginning that the next one
+//! would have.
 
 ghost use Rattle.std.specs.Prelude.{◌≡◌, min, length};
 ghost use Rattle.sq_tree.specs.Starts as spec;
@@ -23,7 +24,7 @@ fn tokens_of_first<T: Tree>(count: usize, parts: &[T]) -> usize
     token_count(&first)
 }
 
-/// How many tokens of a schema stand before one of its elements.
+/// The number of tokens of a schema before one of its elements.
 fn before_element(schema: &SchemaDefinition, element: usize) -> usize
     ensures { result ≡ min (spec.before_element schema.now element) usize.MAX }
 {
@@ -41,7 +42,7 @@ pub fn schema_start(text: &SchemaText, schema: usize) -> usize
     token_count(&text.first).saturating_add(tokens_of_first(schema - 1, text.rest.as_slice()))
 }
 
-/// The first token of an element of a schema. Where there is no such schema, it is the number of the text's tokens.
+/// The first token of an element of a schema. If there is no such schema, it is the number of the text's tokens.
 #[tactic(auto, using(crate::proofs::Parts::none_of_first, crate::proofs::Parts::before_later, crate::proofs::Parts::before_past))]
 pub fn schema_element_start(text: &SchemaText, schema: usize, element: usize) -> usize
     ensures { result ≡ min (spec.schema_element_start text.now schema element) usize.MAX }

@@ -1,4 +1,4 @@
--- Search conditions and query specifications: the depth of each tree, by that of its parts.
+-- Search conditions and query specifications: the depth of each tree, from the depth of its parts.
 use Rattle.std.specs.Prelude.{ℕ, ◌+◌, max}
 use Rattle.sq_tree.proofs.TreeDepth.{optional_depth, greatest}
 use Rattle.sq_tree.proofs.ListDepth.{comma_depth}

@@ -1,4 +1,4 @@
--- Data types: the depth of each tree, by that of its parts.
+-- Data types: the depth of each tree, from the depth of its parts.
 use Rattle.std.specs.Prelude.{ℕ, Option, Some, None}
 use Rattle.sq_tree.specs.declared.data_type.DataType.{DataType}
 use Rattle.sq_tree.specs.declared.data_type.DataType.TheVariants.{Exact, Character, Varying}

@@ -1,4 +1,4 @@
--- Value expressions, signed numbers and set functions: the depth of each tree, by that of its parts.
+-- Value expressions, signed numbers and set functions: the depth of each tree, from the depth of its parts.
 use Rattle.std.specs.Prelude.{ℕ, ◌+◌, max}
 use Rattle.sq_tree.proofs.TreeDepth.{greatest}
 use Rattle.sq_tree.specs.declared.expr.Primary.{Primary, fold-Primary, Primary-F}

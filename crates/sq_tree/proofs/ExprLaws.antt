@@ -1,4 +1,4 @@
--- The tokens and the depth of one level of a value expression, by those of its parts.
+-- The tokens and the depth of one level of a value expression, from its parts.
 use Rattle.std.proofs.Common.{◌≡◌, ℕ, ◌+◌, max, List, [], ◌∷◌, ◌++◌, Option, refl, sym, ◌∙◌, ap, map, subst}
 use Rattle.std.specs.List.{flat_map}
 use Rattle.std.proofs.lemmas.List.Folds.{flat_map-map}

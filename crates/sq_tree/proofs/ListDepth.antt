@@ -1,4 +1,4 @@
--- The depth of a list, by that of its items.
+-- The depth of a list, from the depth of its items.
 use Rattle.std.specs.Prelude.{ℕ, max, List, map}
 use Rattle.sq_tree.proofs.TreeDepth.{greatest}
 use Rattle.sq_tree.specs.declared.list.CommaList.{CommaList}

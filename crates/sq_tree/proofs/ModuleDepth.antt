@@ -1,4 +1,4 @@
--- Module texts: the depth of each tree, by that of its parts.
+-- Module texts: the depth of each tree, from the depth of its parts.
 use Rattle.std.specs.Prelude.{ℕ, ◌+◌, max}
 use Rattle.sq_tree.proofs.ListDepth.{comma_depth, row_depth}
 use Rattle.sq_tree.proofs.DataTypeDepth.{data_type_depth}

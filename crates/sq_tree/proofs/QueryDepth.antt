@@ -1,4 +1,4 @@
--- Query expressions: the depth of each tree, by that of its parts.
+-- Query expressions: the depth of each tree, from the depth of its parts.
 use Rattle.std.specs.Prelude.{ℕ, ◌+◌, max}
 use Rattle.sq_tree.proofs.TreeDepth.{greatest}
 use Rattle.sq_tree.proofs.CondDepth.{query_specification_depth}

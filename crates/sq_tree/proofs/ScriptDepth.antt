@@ -1,4 +1,4 @@
--- Script texts: the depth of each tree, by that of its parts.
+-- Script texts: the depth of each tree, from the depth of its parts.
 use Rattle.std.specs.Prelude.{ℕ}
 use Rattle.sq_tree.proofs.ListDepth.{row_depth}
 use Rattle.sq_tree.specs.declared.script.ScriptText.{ScriptText}

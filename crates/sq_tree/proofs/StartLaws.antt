@@ -1,4 +1,4 @@
--- The tokens before a part are those of its text up to it: behind them stand the part's own tokens.
+-- The tokens before a part are the text's tokens up to it; the part's own tokens come after them.
 use Rattle.std.proofs.Common.{◌≡◌, ℕ, List, [], ◌∷◌, ◌++◌, take, drop, sym, ◌∙◌, ap, append_assoc}
 use Rattle.std.specs.List.{flat_map}
 use Rattle.std.proofs.lemmas.List.{take-append-drop}

@@ -11,11 +11,11 @@ open_after n (lexeme.Symbol symbol.Open) = n + 1
 open_after n (lexeme.Symbol symbol.Close) = n - 1
 open_after n _ = n
 
--- the greatest number of brackets open at once, where n are open before the tokens
+-- the greatest number of brackets open at once, if n are open before the tokens
 abbrev pub deepest_from : ℕ → Tokens → ℕ
 deepest_from n [] = n
 deepest_from n (t ∷ ts) = max n (deepest_from (open_after n t) ts)
 
--- the greatest number of brackets open at once, where none is open before the tokens
+-- the greatest number of brackets open at once, if none is open before the tokens
 abbrev pub deepest : Tokens → ℕ
 deepest = deepest_from 0

@@ -1,4 +1,5 @@
--- Where the parts of a text begin: how many tokens of the text stand before them. Schemas, elements and items count from 0.
+-- The beginnings of the parts of a text: the number of tokens of the text before each. Schemas, elements and items count
+-- from 0.
 use Rattle.std.specs.Prelude.{ℕ, ◌+◌, List, [], ◌∷◌, ◌++◌, length, take, drop}
 use Rattle.std.specs.List.{flat_map}
 use Rattle.sq_lex.specs.declared.lexeme.Lexeme.TheVariants as lexeme
@@ -33,11 +34,11 @@ module_head m = lexeme.Word word.Module ∷ lexeme.Name m.name ∷ lexeme.Word w
 abbrev pub schema_start : SchemaText → ℕ → ℕ
 schema_start s n = length (tokens_of_first schema_definition_tokens n (schemas s))
 
--- how many tokens of a schema stand before one of its elements
+-- the number of a schema's tokens before one of its elements
 abbrev pub before_element : SchemaDefinition → ℕ → ℕ
 before_element s n = length (schema_head s ++ tokens_of_first schema_element_tokens n s.elements)
 
--- how many tokens of the first of these schemas stand before one of its elements
+-- the number of tokens of the first of these schemas before one of its elements
 abbrev pub before_element_of_first : List SchemaDefinition → ℕ → ℕ
 before_element_of_first [] n = 0
 before_element_of_first (s ∷ ss) n = before_element s n

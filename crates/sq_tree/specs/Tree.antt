@@ -7,12 +7,12 @@ use Rattle.sq_lex.specs.declared.symbol.Symbol.TheVariants as symbol
 abbrev pub Tokens : Type 0
 Tokens = List Lexeme
 
--- [ x ], where a Bool says whether x is written
+-- [ x ]: a Bool says whether x is written
 abbrev pub if_written : Bool → Tokens → Tokens
 if_written true ts = ts
 if_written false ts = []
 
--- [ x ], where an Option holds the x that is written
+-- [ x ]: an Option holds the x that is written
 abbrev pub optional : {A : Type 0} → (A → Tokens) → Option A → Tokens
 optional tokens None = []
 optional tokens (Some x) = tokens x

@@ -85,7 +85,7 @@ pub enum Body {
     Bracketed(Boxed<Cond>),
 }
 
-/// What follows the left expression of a predicate. A `bool` says whether NOT is written.
+/// The part of a predicate after its left expression. A `bool` says whether NOT is written.
 #[cycle(cond)]
 #[derive(Drop)]
 pub enum Tail {

@@ -39,7 +39,7 @@ pub enum VaryingWord {
     Varchar,
 }
 
-/// A precision, and a scale where one is written.
+/// A precision, and a scale if one is written.
 #[derive(Clone, Copy)]
 pub struct Precision {
     pub precision: Number,

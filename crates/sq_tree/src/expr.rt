@@ -50,7 +50,7 @@ pub struct Expr {
     pub rest: Items<Added>,
 }
 
-/// A sign and the term behind it.
+/// A sign and the term after it.
 #[cycle(expr)]
 #[derive(Drop)]
 pub struct Added {
@@ -66,7 +66,7 @@ pub struct Term {
     pub rest: Items<Scaled>,
 }
 
-/// `*` or `/`, and the factor behind it.
+/// `*` or `/`, and the factor after it.
 #[cycle(expr)]
 #[derive(Drop)]
 pub struct Scaled {

@@ -31,7 +31,7 @@ pub struct Cursor {
     pub scroll: bool,
     pub query: Query,
     pub order_by: Option<CommaList<SortSpecification>>,
-    /// Whether a semicolon is written behind the cursor.
+    /// Whether a semicolon is written after the cursor.
     pub semicolon: bool,
 }
 

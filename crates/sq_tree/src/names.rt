@@ -16,7 +16,7 @@ pub struct ColumnReference {
     pub column: Name,
 }
 
-/// A parameter, with its indicator parameter where it has one: `":" name [ [ INDICATOR ] ":" name ]`.
+/// A parameter, with its indicator parameter if it has one: `":" name [ [ INDICATOR ] ":" name ]`.
 #[derive(Clone, Copy)]
 pub struct Parameter {
     pub name: Name,

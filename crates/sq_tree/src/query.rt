@@ -11,7 +11,7 @@ pub struct Query {
     pub rest: Items<UnionTerm>,
 }
 
-/// `UNION [ ALL ]` and the query term behind it.
+/// `UNION [ ALL ]` and the query term after it.
 #[cycle(query)]
 #[derive(Drop)]
 pub struct UnionTerm {

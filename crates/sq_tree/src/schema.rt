@@ -20,7 +20,7 @@ pub struct SchemaText {
 pub struct SchemaDefinition {
     pub authorization: Name,
     pub elements: Items<SchemaElement>,
-    /// Whether a semicolon is written behind the definition.
+    /// Whether a semicolon is written after the definition.
     pub semicolon: bool,
 }
 
@@ -75,7 +75,7 @@ pub struct ColumnDefinition {
     pub constraints: Items<ColumnConstraint>,
 }
 
-/// What a default clause gives.
+/// The value that a default clause gives.
 #[derive(Drop)]
 pub enum DefaultValue {
     Number(SignedNumber),
@@ -118,7 +118,7 @@ pub struct GrantStatement {
     pub grant_option: bool,
 }
 
-/// What a grant statement grants.
+/// The privileges that a grant statement grants.
 #[derive(Drop)]
 pub enum Privileges {
     /// `ALL PRIVILEGES`.

@@ -5,7 +5,7 @@ use crate::list::CommaList;
 use sq_items::Items;
 use sq_lex::{Characters, Name};
 
-/// A script text: items, each with a semicolon behind it.
+/// A script text: items, each with a semicolon after it.
 #[derive(Drop)]
 pub struct ScriptText {
     pub items: Items<ScriptItem>,

@@ -74,7 +74,7 @@ pub struct Insert {
     pub source: InsertSource,
 }
 
-/// What an insert statement inserts.
+/// The source of the rows that an insert statement inserts.
 #[derive(Drop)]
 pub enum InsertSource {
     /// `VALUES "(" value { "," value } ")"`.

@@ -1,5 +1,5 @@
--- Arithmetic on exact numbers (ISO/IEC 9075:1992, 6.12). The number of digits of a result, and the scale and the
--- truncation of a quotient, are own rules where the standard leaves them to the implementation.
+-- Arithmetic on exact numbers (ISO/IEC 9075:1992, 6.12). The standard leaves to the implementation the number of
+-- digits of a result, and the scale and truncation of a quotient. They are own rules.
 use Rattle.std.specs.Prelude.{ℕ, ℤ, pos, ◌+◌, ◌-◌, ◌^◌, ◌*ℤ◌, ◌+ℤ◌, ◌-ℤ◌, neg_ℤ, max, nat_lt, unsigned_abs, int_div, Result, Ok, Err, if◌then◌else◌}
 use Rattle.std.specs.declared.cmp.Ordering.{Ordering}
 use Rattle.std.specs.Ordering.{int_cmp, int_eq}
@@ -7,7 +7,7 @@ use Rattle.sq_value.specs.Number.{Number}
 use Rattle.sq_value.specs.declared.fault.ArithmeticFault.{ArithmeticFault}
 use Rattle.sq_value.specs.declared.fault.ArithmeticFault.TheVariants.{Range, ZeroDivisor}
 
--- the number of a scale, or a fault where it has more than 18 digits
+-- the number of a scale, or a fault if it has more than 18 digits
 abbrev pub in_range : ℕ → ℤ → Result Number ArithmeticFault
 in_range s m = if nat_lt (unsigned_abs m) (10 ^ 18) then Ok (record { unscaled = m; scale = s })
     else Err Range

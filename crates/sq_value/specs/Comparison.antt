@@ -17,7 +17,7 @@ padded n t = t ++ replicate (n - length t) blank
 abbrev pub texts_compared : List ℕ → List ℕ → Ordering
 texts_compared s t = let n = max (length s) (length t) in slice_cmp nat_cmp (padded n s) (padded n t)
 
--- none where one is null: the comparison is unknown. A number is never compared with a text
+-- none if one is null: the comparison is unknown. A number is never compared with a text
 abbrev pub values_compared : Value → Value → Option Ordering
 values_compared Null w = None
 values_compared (Num a) (Num b) = Some (numbers_compared a b)

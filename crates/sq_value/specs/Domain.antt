@@ -61,7 +61,7 @@ domain_length (Numeric _ _) = 0
 domain_length (Char n) = n
 domain_length (VarChar n) = n
 
--- what is known of an expression's values before it is evaluated: a scale, a length, or a greatest length
+-- the kind of an expression's values, known before it is evaluated: a scale, a length, or a greatest length
 abbrev pub kind_of : Domain → Kind
 kind_of Small = NumKind 0
 kind_of Int = NumKind 0
@@ -78,7 +78,7 @@ IsOfKind (CharsKind n) (Chars t) = length t ≡ n
 IsOfKind (Vary n) (Num _) = ⊥
 IsOfKind (Vary n) (Chars t) = length t ≤ n
 
--- what a parameter starts at that is handed null: zero, blanks, or the empty text (own rule)
+-- the value that a parameter gets if it is handed null: zero, blanks, or the empty text (own rule)
 abbrev pub start_value : Domain → Value
 start_value Small = Num (record { unscaled = pos 0; scale = 0 })
 start_value Int = Num (record { unscaled = pos 0; scale = 0 })

@@ -1,4 +1,4 @@
--- Keys: values by which rows are found. Two keys are equal where they have one length and are the same in each place.
+-- Keys: values by which rows are found. Two keys are equal if they have one length and are the same in each place.
 use Rattle.std.specs.Prelude.{ℕ, List, ◌++◌, ◌<◌, map, slice_index_or, All, length}
 use Rattle.std.specs.Hash as fed
 use Rattle.std.specs.Hash.{HashWrites}
@@ -14,7 +14,7 @@ in_columns row columns = map (λ c. slice_index_or row c Null) columns
 abbrev pub HasColumns : List Value → List ℕ → Type 0
 HasColumns row columns = All (λ c. c < length row) columns
 
--- what a hasher is fed of a value: a number by its value at scale 18, a text without the blanks at its end
+-- the writes of a value to a hasher: a number by its value at scale 18, a text without the blanks at its end
 abbrev pub value_writes : Value → HashWrites
 value_writes Null = fed.u8 0
 value_writes (Num n) = fed.u8 1 ++ fed.i128 ((truncated 18 n).unscaled)

@@ -1,4 +1,4 @@
--- What takes memory.
+-- The values that take memory.
 use Rattle.std.specs.Prelude.{Bool, true, false}
 use Rattle.sq_value.specs.declared.value.Value.{Value}
 use Rattle.sq_value.specs.declared.value.Value.TheVariants.{Null, Num, Chars}

@@ -56,14 +56,14 @@ abbrev pub splits : List ℕ → List (List ℕ × List ℕ)
 splits [] = ([], []) ∷ []
 splits (c ∷ cs) = ([], c ∷ cs) ∷ map (λ cut. (c ∷ cut.0, cut.1)) (splits cs)
 
--- the text can be cut into as many pieces as there are items, each fitting its item: some first piece fits the first
--- item, and the rest can be cut for the other items
+-- the text can be cut into as many pieces as there are items, each fitting its item. Some first piece fits the first item, and
+-- the rest can be cut for the other items
 abbrev pub can_be_cut : List Item → List ℕ → Bool
 can_be_cut [] [] = true
 can_be_cut [] (c ∷ cs) = false
 can_be_cut (i ∷ items) text = list_any (λ cut. piece_fits i (cut.0) && can_be_cut items (cut.1)) (splits text)
 
--- pieces put together, and pieces that fit their items: a text can be cut exactly where there are such pieces whose joining it is
+-- pieces put together, and pieces that fit their items: a text can be cut exactly if it is the joining of such pieces
 abbrev pub joined : List (List ℕ) → List ℕ
 joined [] = []
 joined (piece ∷ pieces) = piece ++ joined pieces
@@ -92,7 +92,7 @@ abbrev pub cut_by : List ℕ → List ℕ → Result (Option ℕ) LikeFault → 
 cut_by text pattern (Ok e) = cut_as_read text (pattern_items e pattern)
 cut_by text pattern (Err fault) = Err fault
 
--- the escape character, if there is one, is a text of one code. Unknown where an operand is null, before any fault of
+-- the escape character, if there is one, is a text of one code. The answer is unknown if an operand is null, before any fault of
 -- the escape character; LIKE is never asked of numbers
 abbrev pub texts_liked : List ℕ → List ℕ → Option Value → Result Truth LikeFault
 texts_liked text pattern None = cut_by text pattern (Ok None)

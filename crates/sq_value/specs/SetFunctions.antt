@@ -1,4 +1,4 @@
--- Set functions over the values of one expression (ISO/IEC 9075:1992, 6.5), which are of one kind: nulls are left out,
+-- Set functions over the values of one expression (ISO/IEC 9075:1992, 6.5), which are of one kind. Nulls are left out,
 -- and only the final result is tested for its range.
 use Rattle.std.specs.Prelude.{All, ℤ, pos, ◌+ℤ◌, int_div, Option, Some, None, Bool, Result, Ok, Err, List, [], ◌∷◌, length, fold, true, false, filter, not, find, unwrap_or}
 use Rattle.std.specs.List.{filter_map, list_all}

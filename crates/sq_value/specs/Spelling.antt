@@ -40,7 +40,7 @@ abbrev pub fraction_written : ℕ → ℕ → List ℕ
 fraction_written zero n = []
 fraction_written (suc k) n = point ∷ last_digits (suc k) n
 
--- a sign where the number is below zero, the whole part, and as many digits after the point as the scale says
+-- a sign if the number is below zero, the whole part, and as many digits after the point as the scale says
 abbrev pub written : Number → List ℕ
 written n =
     sign_text (int_lt n.unscaled (pos 0)) ++ decimal (unsigned_abs n.unscaled / 10 ^ n.scale)

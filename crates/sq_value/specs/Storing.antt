@@ -17,7 +17,7 @@ if_between low high n = if int_le low n.unscaled && int_le n.unscaled high then 
 abbrev pub if_of_digits : ℕ → Number → Option Number
 if_of_digits p n = if nat_lt (unsigned_abs n.unscaled) (10 ^ p) then Some n else None
 
--- the number as a domain of numbers holds it, or none where leading digits would be lost: truncated first, then tested
+-- the number as a domain of numbers holds it, or none if leading digits would be lost: truncated first, then tested
 abbrev pub fitted : Domain → Number → Option Number
 fitted Small n = if_between (negsuc 32767) (pos 32767) (truncated 0 n)
 fitted Int n = if_between (negsuc 2147483647) (pos 2147483647) (truncated 0 n)
@@ -25,7 +25,7 @@ fitted (Numeric p s) n = if_of_digits p (truncated s n)
 fitted (Char _) n = None
 fitted (VarChar _) n = None
 
--- the text as a domain of texts holds it, or none where codes other than blanks would be lost
+-- the text as a domain of texts holds it, or none if codes other than blanks would be lost
 abbrev pub kept_text : Domain → List ℕ → Option (List ℕ)
 kept_text Small t = None
 kept_text Int t = None
@@ -47,7 +47,7 @@ stored d Null = Ok Null
 stored d (Num n) = number_or_range (fitted d n)
 stored d (Chars t) = text_or_too_long (kept_text d t)
 
--- what `store` answers: this, unless memory was refused
+-- the answer of `store`: this, unless memory was refused
 abbrev pub IsStored : Result Value StoreFault → Result Value StoreFault → Type 0
 IsStored (Ok v) answer = answer ≡ Ok v
 IsStored (Err Range) answer = answer ≡ Err Range

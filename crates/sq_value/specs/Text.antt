@@ -14,7 +14,7 @@ IsText codes = (length codes ≤ 240) × All IsCode codes
 abbrev pub of_length : ℕ → List ℕ → List ℕ
 of_length n t = take n t ++ replicate (n - length t) blank
 
--- no other code than blanks stands past the first n
+-- only blanks follow the first n codes
 abbrev pub only_blanks_past : ℕ → List ℕ → Bool
 only_blanks_past n t = list_all (λ c. c == blank) (drop n t)
 

@@ -3,7 +3,7 @@ use Rattle.std.specs.Prelude.{Bool, true, false}
 use Rattle.sq_value.specs.declared.truth.Truth.{Truth}
 use Rattle.sq_value.specs.declared.truth.Truth.TheVariants.{False, Unknown, True}
 
--- false where one is false, else unknown where one is unknown
+-- false if one is false, else unknown if one is unknown
 abbrev pub both : Truth → Truth → Truth
 both False q = False
 both Unknown False = False
@@ -11,7 +11,7 @@ both Unknown Unknown = Unknown
 both Unknown True = Unknown
 both True q = q
 
--- true where one is true, else unknown where one is unknown
+-- true if one is true, else unknown if one is unknown
 abbrev pub either : Truth → Truth → Truth
 either True q = True
 either Unknown True = True

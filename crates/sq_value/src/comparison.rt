@@ -8,11 +8,11 @@ use crate::value::Value;
 use std::cmp::Ordering;
 
 impl Value {
-    /// The order of two numbers or of two texts (ISO/IEC 9075:1992, 8.2), and none where one is null: the comparison is
+    /// The order of two numbers or of two texts (ISO/IEC 9075:1992, 8.2), or none if one is null: the comparison is
     /// then unknown.
     ///
-    /// Numbers compare by value, texts by code, the shorter one as if padded with blanks. The standard
-    /// doesn't compare a number with a text, so the answer there is `None`.
+    /// Numbers compare by value. Texts compare by code, the shorter one as if padded with blanks. The standard doesn't
+    /// compare a number with a text, so the answer is then `None`.
     pub fn cmp3(&self, other: &Value) -> Option<Ordering>
         ensures { result ≡ values_compared self.now other.now }
     {

@@ -50,7 +50,7 @@ impl Decimal {
         unscaled
     }
 
-    /// How many digits stand after the point.
+    /// The number of digits after the point.
     pub fn scale(self) -> u8
         ensures value { result ≡ self.scale }
         ensures places { result ≤ 18 }
@@ -59,7 +59,7 @@ impl Decimal {
         scale
     }
 
-    /// The sum (ISO/IEC 9075:1992, 6.12), whose scale is the greater one; `Range` where it has more than 18 digits.
+    /// The sum (ISO/IEC 9075:1992, 6.12), whose scale is the greater one; `Range` if it has more than 18 digits.
     pub fn add(self, other: Decimal) -> Result<Decimal, ArithmeticFault>
         ensures { result ≡ added self other }
     {
@@ -67,7 +67,7 @@ impl Decimal {
         in_digits(self.at_scale(scale) + other.at_scale(scale), scale)
     }
 
-    /// The difference (6.12), whose scale is the greater one; `Range` where it has more than 18 digits.
+    /// The difference (6.12), whose scale is the greater one; `Range` if it has more than 18 digits.
     pub fn sub(self, other: Decimal) -> Result<Decimal, ArithmeticFault>
         ensures { result ≡ subtracted self other }
     {
@@ -75,7 +75,7 @@ impl Decimal {
         in_digits(self.at_scale(scale) - other.at_scale(scale), scale)
     }
 
-    /// The product (6.12), whose scale is the sum of both; `Range` where it has more than 18 digits.
+    /// The product (6.12), whose scale is the sum of both; `Range` if it has more than 18 digits.
     pub fn mul(self, other: Decimal) -> Result<Decimal, ArithmeticFault>
         requires { self.scale + other.scale ≤ 18 }
         ensures { result ≡ multiplied self other }
@@ -86,8 +86,8 @@ impl Decimal {
         )
     }
 
-    /// The quotient (6.12), truncated toward zero, whose scale is the greater one: `ZeroDivisor` where the divisor is zero,
-    /// and else `Range` where the quotient has more than 18 digits.
+    /// The quotient (6.12), truncated toward zero, whose scale is the greater one. It is `ZeroDivisor` if the divisor is
+    /// zero, and else `Range` if the quotient has more than 18 digits.
     pub fn div(self, other: Decimal) -> Result<Decimal, ArithmeticFault>
         requires { max self.scale other.scale + other.scale - self.scale ≤ 18 }
         ensures { result ≡ divided self other }
@@ -110,7 +110,7 @@ impl Decimal {
         }
     }
 
-    /// The order by value, whatever the scales. At the same scale it is that of the unscaled values.
+    /// The order by value, whatever the scales. At the same scale it is the order of the unscaled values.
     #[tactic(auto, using(crate::specs::laws::NumberOrder::compared_alike))]
     pub fn cmp(self, other: Decimal) -> Ordering
         ensures { result ≡ numbers_compared self other }

@@ -3,7 +3,7 @@
 ghost use Rattle.std.specs.Prelude.{◌≡◌};
 ghost use Rattle.sq_value.specs.Domain.{domain_length, kind_of};
 
-/// What a column or a parameter may hold besides null.
+/// The values that a column or a parameter may hold besides null.
 #[derive(Clone, Copy, Debug, PartialEq, Eq)]
 pub enum Domain {
     /// SMALLINT.
@@ -18,7 +18,7 @@ pub enum Domain {
     VarChar(u16),
 }
 
-/// What is known of the values of an expression before it is evaluated.
+/// The kind of an expression's values, known before it is evaluated.
 #[derive(Clone, Copy, Debug, PartialEq, Eq)]
 pub enum Kind {
     /// Numbers of a scale.

@@ -74,7 +74,8 @@ pub enum LikeFault {
     /// The escape character is no text of one code: SQLSTATE 22019.
     #[error("the escape character is not of length one")]
     EscapeLength,
-    /// It stands before what needs no escape, or at the pattern's end: SQLSTATE 22025.
+    /// The escape character comes before a character that needs no escape, or at the
+    /// pattern's end: SQLSTATE 22025.
     #[error("the escape character escapes nothing")]
     EscapeSequence,
 }

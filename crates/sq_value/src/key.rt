@@ -17,8 +17,8 @@ use std::marker::Model;
 
 /// The values of a key, two of them in place. Contracts see it as the list of its values.
 ///
-/// Two keys are equal where they have one length and are the same in each place: null is the same as null, numbers of
-/// one value are, whatever their scales, and texts that differ only in the blanks at their ends.
+/// Two keys are equal if they have one length and are the same in each place. Null is the same as null. Numbers of
+/// one value are the same, whatever their scales, and so are texts that differ only in the blanks at their ends.
 #[derive(Drop)]
 pub struct Key {
     parts: SmallVec<Part, 2>,
@@ -143,7 +143,7 @@ impl Part {
     }
 }
 
-/// What fills the places that hold no value yet.
+/// The filler of places that hold no value yet.
 impl Default for Part {
     fn default() -> Part {
         Part { value: Value::Null }

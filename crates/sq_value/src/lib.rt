@@ -1,5 +1,5 @@
-//! Values of SQL and their operations: exact numbers, texts, truths, domains, storing and retrieving, LIKE, set
-//! functions and keys (ISO/IEC 9075:1992, clauses 4, 6, 8 and 9).
+//! Values of SQL and their operations (ISO/IEC 9075:1992, clauses 4, 6, 8 and 9): exact numbers, texts, truths,
+//! domains, storing and retrieving, LIKE, set functions and keys.
 #![tactic(auto)]
 
 mod comparison;

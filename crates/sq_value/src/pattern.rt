@@ -10,7 +10,7 @@ use crate::text::Text;
 use crate::truth::Truth;
 use crate::value::Value;
 
-/// What a place of a pattern stands for.
+/// An item of a pattern.
 #[derive(Clone, Copy)]
 pub enum Item {
     /// Any run of codes, also none.
@@ -21,11 +21,11 @@ pub enum Item {
     This(u8),
 }
 
-/// LIKE (ISO/IEC 9075:1992, 8.5): whether the text is as the pattern says, without padding.
+/// LIKE (ISO/IEC 9075:1992, 8.5): whether the text fits the pattern, without padding.
 ///
-/// It is unknown where an operand is null, before any fault. `EscapeLength` comes next, where the escape character is no
-/// text of one code, and then `EscapeSequence`, where it stands before a code other than `%`, `_` and itself, or at the
-/// pattern's end.
+/// It is unknown if an operand is null, before any fault. `EscapeLength` comes next, if the escape character is no text
+/// of one code. Then comes `EscapeSequence`, if the escape character is before a code other than `%`, `_` and itself, or
+/// at the pattern's end.
 ///
 /// It takes time bounded by the product of the two lengths, and no memory.
 pub fn like(text: &Value, pattern: &Value, escape: Option<&Value>) -> Result<Truth, LikeFault>
@@ -74,7 +74,7 @@ fn matched(text: &Text, pattern: &Text, escape: Option<u8>) -> Result<Truth, Lik
     Ok(Truth::from(cuts[0]))
 }
 
-/// Sets, for each place of the text, whether what stands from there on can be cut by the pattern's items.
+/// Sets, for each place of the text, whether the rest of the text from there on can be cut by the pattern's items.
 fn cut_by_items(
     pattern: &[u8],
     escape: Option<u8>,
@@ -168,7 +168,7 @@ fn put_any_run(cuts: &mut [bool])
     }
 }
 
-/// One code is taken here, where there is one that fits.
+/// Takes one code here, if one fits.
 fn put_one_code(item: Item, text: &[u8], cuts: &mut [bool])
     requires { length cuts.old ≡ length text.now + 1 }
     ensures no_end { slice_index_or cuts.new (length text.now) false ≡ false }

@@ -62,7 +62,7 @@ fn as_retrieved(alloc: Global, text: &Text, domain: Domain) -> Result<Text, Allo
     }
 }
 
-/// The text's length, where it is longer than the parameter.
+/// The text's length, if it is longer than the parameter.
 fn uncut_length(text: &Text, domain: Domain) -> Option<u16>
     ensures { result ≡ uncut_length domain text.now }
 {

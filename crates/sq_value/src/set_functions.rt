@@ -15,8 +15,8 @@ use std::cmp::Ordering;
 /// SUM of the values that are not null, or null if all are (ISO/IEC 9075:1992, 6.5).
 ///
 /// The values are of one kind: numbers of one scale, for texts have no sum and give null. Only the sum itself is tested,
-/// and `Range` comes where it has more than 18 digits. It is kept in 128 bits: the sum of 2 to the 64 numbers of at most
-/// 18 digits is below 2 to the 124.
+/// and `Range` comes if it has more than 18 digits. It is kept in 128 bits: the sum of 2 to the 64 numbers of at most 18
+/// digits is below 2 to the 124.
 #[tactic(auto, using(crate::proofs::Totals::numbers_steps))]
 pub fn sum(values: &[Value]) -> Result<Value, ArithmeticFault>
     requires { AreOfOneKind values.now }

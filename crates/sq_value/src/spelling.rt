@@ -83,7 +83,7 @@ fn all_digits(bytes: &[u8]) -> bool
     bytes.iter().all(|byte| byte.is_ascii_digit())
 }
 
-/// The number that the digits write when they follow those of `start`.
+/// The number that the digits write after the digits of `start`.
 #[tactic(auto, using(crate::proofs::Digits::digit_steps))]
 fn append_digits(start: u64, digits: &[u8]) -> u64
     requires digits { IsTrue (list_all is_ascii_digit digits.now) }

@@ -16,8 +16,8 @@ use std::alloc::{AllocError, Global};
 
 /// The value as the domain holds it (ISO/IEC 9075:1992, 9.2, store assignment).
 ///
-/// A number loses the digits past the domain's scale, and is out of range where it then has too many before its point.
-/// A text that is too short for CHARACTER is padded with blanks; one that is too long is cut where only blanks go.
+/// A number loses the digits past the domain's scale, and is out of range if it then has too many before its point. A
+/// text that is too short for CHARACTER is padded with blanks; one that is too long is cut if only blanks go.
 pub fn store(alloc: Global, value: &Value, domain: Domain) -> Result<Value, StoreFault>
     requires domain { IsDomain domain }
     requires kind { FitsKind domain value.now }
@@ -38,7 +38,7 @@ pub fn store(alloc: Global, value: &Value, domain: Domain) -> Result<Value, Stor
     }
 }
 
-/// What a parameter of the domain starts at when it is handed null: zero, blanks, or the empty text.
+/// The value that a parameter of the domain gets if it is handed null: zero, blanks, or the empty text.
 #[tactic(auto, using(crate::proofs::Powers::power_of_ten_ge))]
 pub fn start_value(alloc: Global, domain: Domain) -> Result<Value, AllocError>
     requires { IsDomain domain }

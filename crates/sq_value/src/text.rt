@@ -59,7 +59,7 @@ impl Text {
         Text::new(alloc, self.codes())
     }
 
-    /// Whether no other code than blanks stands past the first `length`.
+    /// Whether only blanks follow the first `length` codes.
     pub(crate) fn has_only_blanks_past(&self, length: u16) -> bool
         ensures { result ≡ only_blanks_past length self.now }
     {
@@ -106,7 +106,7 @@ impl Text {
         &codes[..codes.len().min(length)]
     }
 
-    /// The first `length` codes, or all where there are fewer.
+    /// The first `length` codes, or all if there are fewer.
     pub(crate) fn cut(&self, alloc: Global, length: u16) -> Result<Text, AllocError>
         ensures { IfOk result (λ text. text ≡ take length self.now) }
     {
@@ -114,7 +114,7 @@ impl Text {
     }
 }
 
-/// Whether no other code than blanks stands past the first `length`.
+/// Whether only blanks follow the first `length` codes.
 fn only_blanks_past(codes: &[u8], length: usize) -> bool
     ensures { result ≡ only_blanks_past length codes.now }
 {

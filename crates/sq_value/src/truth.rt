@@ -12,7 +12,7 @@ pub enum Truth {
 }
 
 impl Truth {
-    /// AND: false where one is false, else unknown where one is unknown.
+    /// AND: false if one is false, else unknown if one is unknown.
     pub fn and(self, other: Truth) -> Truth
         ensures { result ≡ both self other }
     {
@@ -23,7 +23,7 @@ impl Truth {
         }
     }
 
-    /// OR: true where one is true, else unknown where one is unknown.
+    /// OR: true if one is true, else unknown if one is unknown.
     pub fn or(self, other: Truth) -> Truth
         ensures { result ≡ either self other }
     {

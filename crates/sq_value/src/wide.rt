@@ -1,6 +1,6 @@
 //! Numbers of 128 bits between the operands of an operation and its result.
 //!
-//! An unscaled value is below ten to the 18, and it is multiplied by at most that, so every product is below ten to the
+//! An unscaled value is below ten to the 18, and it is multiplied by at most that. So every product is below ten to the
 //! 36, which is below two to the 120.
 
 ghost use Rattle.std.specs.Prelude.{◌≡◌, ◌≤◌, ◌<◌, ◌^◌, ◌*ℤ◌, pos, int_div, unsigned_abs};
@@ -40,7 +40,7 @@ pub fn quotient(dividend: i128, divisor: i128) -> i128
     dividend / divisor
 }
 
-/// The number of this unscaled value and scale, where it has at most 18 digits.
+/// The number of this unscaled value and scale, if it has at most 18 digits.
 pub fn in_digits(unscaled: i128, scale: u8) -> Result<Decimal, ArithmeticFault>
     requires { scale ≤ 18 }
     ensures { result ≡ in_range scale unscaled }

@@ -1,4 +1,4 @@
--- The base table under a table that may be changed is there, where each of them is.
+-- The base table under a table that may be changed exists, if each of them does.
 use Rattle.std.proofs.Common.{◌≡◌, List, Option, Some, None, subst}
 use Rattle.std.specs.Option.{option_map}
 use Rattle.std.specs.Prelude.{IfSome}

@@ -1,4 +1,4 @@
--- DELETE and UPDATE: what is found in them, and the privileges that are needed.
+-- DELETE and UPDATE: the findings in them, and the privileges that are needed.
 use Rattle.std.proofs.Common.{◌≡◌, Bool, List, [], map, Ok, Err, refl, sym, subst, ◌∙◌}
 use Rattle.std.specs.Prelude.{Result}
 use Rattle.sq_meaning.specs.Spelled.{listed}

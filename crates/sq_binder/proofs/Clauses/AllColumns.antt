@@ -1,4 +1,4 @@
--- All columns of all items, one behind the other.
+-- All columns of all items, one after the other.
 use Rattle.std.proofs.Common.{◌≡◌, ℕ, ◌+◌, ◌<◌, List, [], ◌∷◌, ◌++◌, length, length-take-le, take, map, get_or, sym, ap, ◌∙◌, append_assoc, arith, zero-add}
 use Rattle.std.proofs.lemmas.List.{flat_map_more, length-map, map-append, take_more}
 use Rattle.std.specs.List.{enumerate_from, flat_map}

@@ -1,4 +1,4 @@
--- Search conditions: what is made of their terms and tests.
+-- Search conditions, made of their terms and tests.
 use Rattle.std.proofs.Common.{◌≡◌, Bool, true, false, List, ◌∷◌, map, Option, Some, None, Ok, Err, refl, sym, ap, subst, ◌∙◌}
 use Rattle.std.specs.Prelude.{Result}
 use Rattle.std.specs.Option.{option_map}

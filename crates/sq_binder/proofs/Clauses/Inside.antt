@@ -1,4 +1,4 @@
--- In the scope of a query: what surrounds its clauses.
+-- The scope of a query: the surroundings of its clauses.
 use Rattle.std.proofs.Common.{◌≡◌, Bool, true, false, List, ◌∷◌, map, None, Some, subst, Bor}
 use Rattle.sq_lex.specs.declared.name.Name.{Name}
 use Rattle.sq_bound.specs.Expression.{place_meant}

@@ -1,4 +1,4 @@
--- Predicates: what is made of their parts.
+-- Predicates, made of their parts.
 use Rattle.std.proofs.Common.{◌≡◌, Bool, true, false, List, Option, refl}
 use Rattle.sq_tree.specs.declared.cond.Comparison.{Comparison}
 use Rattle.sq_meaning.specs.Spelled.{Named}

@@ -1,4 +1,4 @@
--- Query specifications: what is made of their parts, one behind the other.
+-- Query specifications, made of their parts, one after the other.
 use Rattle.std.proofs.Common.{◌≡◌, Bool, true, false, List, Ok, Err, refl, sym, ap, ◌∙◌}
 use Rattle.sq_tree.specs.declared.names.ColumnReference.{ColumnReference}
 use Rattle.sq_meaning.specs.Environment.{Place, TableReference}

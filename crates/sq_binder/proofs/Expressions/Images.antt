@@ -1,4 +1,4 @@
--- What the definitions see of a bound expression, level by level.
+-- The part of a bound expression that the definitions see, level by level.
 use Rattle.std.proofs.Common.{◌≡◌, ℕ, List, sym, ◌∙◌, ap}
 use Rattle.std.specs.Prelude.{fold}
 use Rattle.sq_value.specs.declared.value.Value.{Value}

@@ -1,4 +1,4 @@
--- Bound expressions with a further operation behind them.
+-- Bound expressions with a further operation after them.
 use Rattle.std.proofs.Common.{◌≡◌, List, [], ◌∷◌, ◌++◌, refl, ap, sym, ◌∙◌}
 use Rattle.std.specs.Prelude.{fold}
 use Rattle.sq_bound.specs.declared.expression.BoundExpr.{BoundExpr}

@@ -1,4 +1,4 @@
--- What the definitions see of a bound expression means what it means.
+-- A bound expression means the same as the part of it that the definitions see.
 use Rattle.std.proofs.Common.{◌≡◌, List, [], ◌∷◌, map, refl, sym, ap, subst, ◌∙◌}
 use Rattle.std.specs.Prelude.{fold}
 use Rattle.sq_meaning.specs.Syntax.{set_function, signed}

@@ -1,4 +1,4 @@
--- Parts of a query one behind another: what is made of several parts, and lists of parts.
+-- Parts of a query one after another: the part made of several ones, and lists of parts.
 use Rattle.std.proofs.Common.{◌≡◌, ℕ, Bool, true, false, List, [], ◌∷◌, max, Ok, Err, refl, sym, ap, ◌∙◌, arith}
 use Rattle.std.proofs.lemmas.List.{append-nil}
 use Rattle.sq_value.proofs.Truths.{or_true, or_false}

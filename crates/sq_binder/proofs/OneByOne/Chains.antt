@@ -1,4 +1,4 @@
--- Parts one behind another: whichever two of three are taken together, and where one of them brings nothing along.
+-- Parts one after another: whichever two of three are taken together, and if one of them brings nothing along.
 use Rattle.std.proofs.Common.{◌≡◌, ◌+◌, add-zero, true, ◌++◌, length, Ok, Err, refl, ap, append_assoc, length-append, arith, ◌∙◌}
 use Rattle.sq_value.proofs.Truths.{or_assoc}
 use Rattle.sq_meaning.specs.declared.fault.BindingFault.{BindingFault}

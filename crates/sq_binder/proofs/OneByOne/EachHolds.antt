@@ -1,4 +1,4 @@
--- What holds of each part of a list that is bound in turn.
+-- A property of each part of a list that is bound in turn.
 use Rattle.std.proofs.Common.{List, [], ◌∷◌, Ok, Err, sym, subst}
 use Rattle.std.specs.List.{AllByRecursion}
 use Rattle.std.specs.Prelude.{Result, IfOk}

@@ -1,4 +1,4 @@
--- What a function finds that binds a part, and then the one behind it.
+-- The findings of a function that binds a part, and then the one after it.
 use Rattle.std.proofs.Common.{◌≡◌, ◌+◌, ◌++◌, length, Ok, Err, sym, ap, subst, ◌∙◌, arith}
 use Rattle.std.proofs.lemmas.List.{length-append}
 use Rattle.std.specs.Prelude.{Result}

@@ -1,4 +1,4 @@
--- What holds of each of two parts holds of them together.
+-- A property of each of two parts holds for them together.
 use Rattle.std.proofs.Common.{Ok, Err, sym, subst}
 use Rattle.std.specs.Prelude.{Result, IfOk}
 use Rattle.sq_binder.specs.Found.{Pairs}

@@ -1,4 +1,4 @@
--- Parts one behind another: what follows a part, and a loop that goes on from each part to the next.
+-- Parts one after another: the next part, and a loop that goes on from each part to the next.
 use Rattle.std.proofs.Common.{◌≡◌, ℕ, ◌+◌, ◌<◌, ◌≤◌, List, [], ◌∷◌, length, drop, map, get_or, Ok, Err, refl, sym, subst, ap, ◌∙◌}
 use Rattle.std.proofs.lemmas.List.{drop_all, drop_more}
 use Rattle.std.specs.Prelude.{Result}

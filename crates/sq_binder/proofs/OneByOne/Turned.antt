@@ -1,4 +1,4 @@
--- A part with something made of all that was found of it: a further finding, or an outcome behind it.
+-- A part with an addition made from all its findings: a further finding, or an outcome after it.
 use Rattle.std.proofs.Common.{◌≡◌, add-zero, Ok, Err, refl, sym, ap, ◌∙◌}
 use Rattle.std.specs.Prelude.{Result}
 use Rattle.sq_binding.specs.Found.{Binding, ◌>>=◌, ◌>>◌, after, has_found, joined, outcome, pure, then_joined}

@@ -1,4 +1,5 @@
--- What the program relies on of a condition of CHECK, a view and a cursor that are bound: all that is promised of what the definitions compute.
+-- The facts about a bound condition of CHECK, view and cursor that the program relies on. They are all that is promised of the results that
+-- the definitions compute.
 use Rattle.std.proofs.Common.{◌≡◌, ℕ, Bool, List, [], map, Option, Some, None, Ok, Err, refl, subst}
 use Rattle.std.specs.Prelude.{Result, IfOk, IfSome}
 use Rattle.sq_lex.specs.declared.name.Name.{Name}

@@ -1,4 +1,4 @@
--- SELECT INTO: a query, and the targets behind it.
+-- SELECT INTO: a query, and the targets after it.
 use Rattle.std.proofs.Common.{◌≡◌, List, map, Ok, Err, ap, ◌∙◌}
 use Rattle.std.specs.Prelude.{Result}
 use Rattle.sq_lex.specs.declared.name.Name.{Name}

@@ -1,4 +1,4 @@
--- Cursors and views: what stands in no query, and what is made of the parts.
+-- Cursors and views: the parts in no query, and the results made of the parts.
 use Rattle.std.proofs.Common.{◌≡◌, Bool, true, false, List, [], Option, None, Some, Ok, Err, refl, sym, ap, subst, ◌∙◌}
 use Rattle.std.specs.Prelude.{Result, IfSome, if◌then◌else◌}
 use Rattle.sq_lex.specs.declared.name.Name.{Name}

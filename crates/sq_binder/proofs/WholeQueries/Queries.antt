@@ -1,4 +1,4 @@
--- Query expressions: those of one term and those of a further one, and the terms that are joined one after the other.
+-- Query expressions of one term, or with a further one, and the terms that are joined one after the other.
 use Rattle.std.proofs.Common.{◌≡◌, ℕ, ◌+◌, ◌<◌, ◌≤◌, Bool, List, [], ◌∷◌, ◌++◌, length, drop, map, get_or, take, take_all, None, refl, sym, ap, subst, ◌∙◌}
 use Rattle.std.proofs.lemmas.List.{map-append, take-append-drop, take_more}
 use Rattle.std.proofs.lemmas.List.Sums.{fold-append}

@@ -1,4 +1,4 @@
--- What is found in what is made of columns is found in what is made of one of them (ISO/IEC 9075:1992, 13.8 to 13.10).
+-- A finding in the parts made of columns is one in the part made of one of them (ISO/IEC 9075:1992, 13.8 to 13.10).
 use Rattle.std.proofs.Common.{Bool, not, List, [], ◌∷◌, ◌++◌, sym}
 use Rattle.std.specs.List.{flat_map}
 use Rattle.std.specs.Prelude.{⊤}

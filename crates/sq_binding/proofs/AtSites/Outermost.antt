@@ -1,4 +1,4 @@
--- A column of the outermost query is found in a query exactly where the rules find that one of its sites means one (ISO/IEC 9075:1992, 6.4
+-- A column of the outermost query is found in a query exactly if the rules find that one of its sites means one (ISO/IEC 9075:1992, 6.4
 -- and 13.6 to 13.10; own rule).
 use Rattle.std.proofs.Common.{◌≡◌, ℕ, suc, ◌+◌, ◌≤◌, ◌<◌, Bool, true, false, ◌||◌, List, [], ◌∷◌, length, max, Option, Some, None, Ok, Err, arith, refl, sym, ap, subst, ◌∙◌}
 use Rattle.std.proofs.lemmas.Bool.Decides.{nat_tests}

@@ -1,4 +1,4 @@
--- A missing privilege is found in a query exactly where the rules find one missing at its sites (ISO/IEC 9075:1992, 4.26).
+-- A missing privilege is found in a query exactly if the rules find one missing at its sites (ISO/IEC 9075:1992, 4.26).
 use Rattle.std.proofs.Common.{◌≡◌, Bool, false, not, ◌||◌, List, [], ◌∷◌, ◌++◌, length, map, Option, Some, Ok, Err, refl, sym, ap, ◌∙◌}
 use Rattle.std.specs.List.{list_any, zip}
 use Rattle.std.specs.Result.{result_ok}

@@ -1,5 +1,5 @@
--- What is found in the rows that UPDATE and DELETE change exactly where it is asked of one of their sites: missing privileges, and columns of
--- the table that is changed (ISO/IEC 9075:1992, 4.26, 13.6, 13.7, 13.9 and 13.10).
+-- Findings in the rows that UPDATE and DELETE change: they are made exactly if they are asked of one of their sites. They are missing
+-- privileges, and columns of the table that is changed (ISO/IEC 9075:1992, 4.26, 13.6, 13.7, 13.9 and 13.10).
 use Rattle.std.proofs.Common.{◌≡◌, Bool, true, false, not, ◌||◌, List, [], ◌∷◌, length, Option, Some, None, Ok, Err, arith, refl, sym, ap, subst, ◌∙◌}
 use Rattle.std.specs.List.{list_any}
 use Rattle.std.specs.Prelude.{⊤, if◌then◌else◌}

@@ -1,5 +1,5 @@
--- What is found in a query and asked of its sites alike: it is found exactly where it is asked of one of them. So it is of missing
--- privileges, and of columns of the outermost query (ISO/IEC 9075:1992, 4.26, 6.4, 7.3 to 7.9 and 7.11).
+-- Findings in a query that are asked of its sites alike: they are made exactly if they are asked of one of them. So are missing
+-- privileges, and columns of the outermost query (ISO/IEC 9075:1992, 4.26, 6.4, 7.3 to 7.9 and 7.11).
 use Rattle.std.proofs.Common.{◌≡◌, ℕ, ◌+◌, Bool, true, false, not, ◌||◌, List, [], ◌∷◌, ◌++◌, length, Option, Some, None, Ok, Err, refl, sym, ap, ◌∙◌}
 use Rattle.std.specs.List.{AllZip, flat_map, list_any}
 use Rattle.std.specs.Prelude.{⊤, if◌then◌else◌, nat_eq, nat_lt}

@@ -1,5 +1,5 @@
--- What is found in search conditions and query specifications exactly where it is asked of one of their sites (ISO/IEC 9075:1992, 7.3 to
--- 7.9, 7.11 and clause 8).
+-- Findings in search conditions and query specifications: they are made exactly if they are asked of one of their sites (ISO/IEC
+-- 9075:1992, 7.3 to 7.9, 7.11 and clause 8).
 use Rattle.std.proofs.Common.{◌≡◌, Bool, true, false, ◌||◌, List, [], ◌∷◌, ◌++◌, length, map, Option, Some, None, Ok, Err, refl, sym, ap, ◌∙◌}
 use Rattle.std.specs.List.{AllZip, flat_map, list_any}
 use Rattle.std.specs.Prelude.{⊤, if◌then◌else◌, nat_lt}

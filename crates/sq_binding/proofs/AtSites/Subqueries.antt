@@ -1,4 +1,4 @@
--- A subquery is found in a search condition exactly where one is written (ISO/IEC 9075:1992, 7.11).
+-- A subquery is found in a search condition exactly if one is written (ISO/IEC 9075:1992, 7.11).
 use Rattle.std.proofs.Common.{◌≡◌, Bool, true, false, ◌||◌, List, [], ◌∷◌, Option, Some, None, Ok, Err, refl, sym, ap, ◌∙◌}
 use Rattle.std.specs.Prelude.{◌+◌, if◌then◌else◌, nat_eq}
 use Rattle.sq_value.proofs.Truths.{or_false}

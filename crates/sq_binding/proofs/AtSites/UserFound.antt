@@ -1,4 +1,4 @@
--- USER is found in a search condition without subqueries and set functions exactly where it is written (ISO/IEC 9075:1992, 6.2 and 11.9).
+-- USER is found in a search condition without subqueries and set functions exactly if it is written (ISO/IEC 9075:1992, 6.2 and 11.9).
 use Rattle.std.proofs.Common.{◌≡◌, Bool, true, false, ◌||◌, List, [], ◌∷◌, ◌++◌, Option, Some, None, Ok, Err, refl, sym, ap, ◌∙◌}
 use Rattle.std.specs.List.{flat_map, list_any}
 use Rattle.std.proofs.lemmas.Bool.{or_parts, or_right}

@@ -1,4 +1,4 @@
--- A query specification is bound exactly where the rules find no syntax fault at its sites; one that is refused has the fault that is
+-- A query specification is bound exactly if the rules find no syntax fault at its sites. A refused one has the fault that is
 -- answered (ISO/IEC 9075:1992, 7.9).
 use Rattle.std.proofs.Common.{◌≡◌, ℕ, zero, suc, Bool, true, false, ◌||◌, List, [], ◌∷◌, Some, Ok, Err, refl, sym, ap, subst, ◌∙◌}
 use Rattle.std.specs.List.{list_any}

@@ -1,5 +1,5 @@
--- Outcomes that are answered exactly as the rules say: what is well formed is bound, and what is refused has the fault that is answered; a
--- missing privilege is answered where no rule of syntax is broken (ISO/IEC 9075:1992, 4.26).
+-- Outcomes that are answered exactly as the rules say. A well-formed text is bound, and a refused one has the fault that is answered. A
+-- missing privilege is answered if no rule of syntax is broken (ISO/IEC 9075:1992, 4.26).
 use Rattle.std.proofs.Common.{◌≡◌, Bool, true, false, not, ◌||◌, List, Ok, Err, refl, sym, subst, ◌∙◌}
 use Rattle.std.specs.Prelude.{is_ok, if◌then◌else◌}
 use Rattle.std.proofs.lemmas.Bool.{false≢true}

@@ -1,4 +1,4 @@
--- Names of which none is twice, each among others, are no more than those (ISO/IEC 9075:1992, 13.8).
+-- Distinct names, each among others, are no more than the others (ISO/IEC 9075:1992, 13.8).
 use Rattle.std.proofs.Common.{◌≡◌, ℕ, ◌+◌, ◌≤◌, Bool, true, false, ◌||◌, List, [], ◌∷◌, ◌++◌, length, arith, refl, sym, ap, subst, ◌∙◌}
 use Rattle.std.proofs.lemmas.Bool.Decides.{nat_tests}
 use Rattle.std.proofs.lemmas.List.{length-append}

@@ -1,4 +1,4 @@
--- The table that a statement changes, and the columns of it that get values, are refused exactly where the rules refuse them (ISO/IEC
+-- The table that a statement changes, and the columns of it that get values, are refused exactly if the rules refuse them (ISO/IEC
 -- 9075:1992, 13.6 to 13.10).
 use Rattle.std.proofs.Common.{◌≡◌, ℕ, Bool, true, false, not, ◌&&◌, ◌||◌, List, [], ◌∷◌, length, map, Option, Some, None, Ok, Err, refl, sym, ap, subst, arith, ◌∙◌}
 use Rattle.std.proofs.lemmas.Cmp.{nat_list_eq_equiv}

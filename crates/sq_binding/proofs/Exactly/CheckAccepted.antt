@@ -1,4 +1,4 @@
--- A condition of CHECK is bound exactly where the rules find neither a syntax fault nor a subquery or USER in it (ISO/IEC 9075:1992, 11.9).
+-- A condition of CHECK is bound exactly if the rules find neither a syntax fault nor a subquery or USER in it (ISO/IEC 9075:1992, 11.9).
 use Rattle.std.proofs.Common.{◌≡◌, Bool, true, false, not, ◌||◌, List, [], ◌∷◌, Some, None, Ok, Err, refl, sym, ap, subst, ◌∙◌}
 use Rattle.std.specs.List.{list_any}
 use Rattle.std.specs.Option.{option_map}

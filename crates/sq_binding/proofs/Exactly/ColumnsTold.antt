@@ -1,5 +1,5 @@
--- Columns that get values, one after the other, are refused exactly where the rules refuse them: each is there, none is there twice, and
--- what is made of each has no fault (ISO/IEC 9075:1992, 13.8 to 13.10).
+-- Columns that get values, one after the other, are refused exactly if the rules refuse them. Each exists, none occurs twice, and the
+-- part made of each has no fault (ISO/IEC 9075:1992, 13.8 to 13.10).
 use Rattle.std.proofs.Common.{◌≡◌, Bool, true, false, not, ◌||◌, List, [], ◌∷◌, ◌++◌, map, Ok, Err, refl, sym, ap, subst, append_assoc, ◌∙◌}
 use Rattle.std.proofs.lemmas.List.{append-nil}
 use Rattle.std.specs.List.{AllByRecursion, AllZip, flat_map}

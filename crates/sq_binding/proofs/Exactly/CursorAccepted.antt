@@ -1,4 +1,4 @@
--- A cursor is bound exactly where the rules find no fault in its query and its ORDER BY; one that is refused has the fault that is answered
+-- A cursor is bound exactly if the rules find no fault in its query and its ORDER BY. A refused one has the fault that is answered
 -- (ISO/IEC 9075:1992, 13.1).
 use Rattle.std.proofs.Common.{◌≡◌, Bool, true, false, not, ◌&&◌, ◌||◌, List, [], ◌∷◌, ◌++◌, length, Option, Some, None, Ok, Err, refl, sym, ap, subst, ◌∙◌}
 use Rattle.std.proofs.lemmas.List.{append-nil}

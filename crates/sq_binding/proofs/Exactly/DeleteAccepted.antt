@@ -1,4 +1,4 @@
--- DELETE is bound exactly where the rules find no fault in it (ISO/IEC 9075:1992, 13.6 and 13.7).
+-- DELETE is bound exactly if the rules find no fault in it (ISO/IEC 9075:1992, 13.6 and 13.7).
 use Rattle.std.proofs.Common.{false, not, List, [], ◌∷◌, Option, Some, None, refl, sym, ap, ◌∙◌}
 use Rattle.std.specs.List.{list_any}
 use Rattle.std.specs.Prelude.{⊤}

@@ -1,4 +1,4 @@
--- OPEN, CLOSE and FETCH are bound exactly where the rules find no fault in them (ISO/IEC 9075:1992, 13.2 to 13.4).
+-- OPEN, CLOSE and FETCH are bound exactly if the rules find no fault in them (ISO/IEC 9075:1992, 13.2 to 13.4).
 use Rattle.std.proofs.Common.{◌≡◌, ℕ, true, false, List, [], ◌∷◌, length, map, Option, Some, None, Ok, refl, sym, subst, ◌∙◌}
 use Rattle.std.proofs.lemmas.List.{length-map}
 use Rattle.sq_lex.specs.declared.name.Name.{Name}

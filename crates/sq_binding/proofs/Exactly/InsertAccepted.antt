@@ -1,4 +1,4 @@
--- INSERT is bound exactly where the rules find no fault in it (ISO/IEC 9075:1992, 13.8).
+-- INSERT is bound exactly if the rules find no fault in it (ISO/IEC 9075:1992, 13.8).
 use Rattle.std.proofs.Common.{◌≡◌, Bool, true, false, not, ◌||◌, List, [], ◌∷◌, ◌++◌, length, map, Option, Some, None, refl, sym, ap, subst, ◌∙◌}
 use Rattle.std.specs.List.{flat_map, list_any, zip}
 use Rattle.std.specs.Prelude.{⊤, ◌==◌}

@@ -1,4 +1,4 @@
--- ORDER BY is refused exactly where the rules refuse it (ISO/IEC 9075:1992, 13.1).
+-- ORDER BY is refused exactly if the rules refuse it (ISO/IEC 9075:1992, 13.1).
 use Rattle.std.proofs.Common.{◌≡◌, ℕ, false, List, [], ◌∷◌, map, Option, Ok, Err, refl, ap}
 use Rattle.std.specs.Prelude.{is_err}
 use Rattle.std.specs.Result.{result_ok}

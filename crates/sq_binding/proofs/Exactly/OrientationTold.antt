@@ -1,4 +1,4 @@
--- A fetch orientation is refused exactly where the rules refuse it (ISO/IEC 9075:1992, 13.3).
+-- A fetch orientation is refused exactly if the rules refuse it (ISO/IEC 9075:1992, 13.3).
 use Rattle.std.proofs.Common.{◌≡◌, ℕ, Bool, true, false, not, ◌||◌, [], ◌∷◌, Option, Some, None, Ok, Err, refl, sym, ap, subst, ◌∙◌}
 use Rattle.std.specs.List.{list_any}
 use Rattle.std.specs.Prelude.{is_none, if◌then◌else◌}

@@ -1,4 +1,4 @@
--- A procedure of a module is bound exactly where the rules find it well formed (ISO/IEC 9075:1992, 12.1, 12.3 and clause 13).
+-- A procedure of a module is bound exactly if the rules find it well formed (ISO/IEC 9075:1992, 12.1, 12.3 and clause 13).
 use Rattle.std.proofs.Common.{◌≡◌, ℕ, Bool, true, false, not, List, [], ◌∷◌, map, Option, Some, None, Ok, Err, refl, sym, ap, subst, ◌∙◌}
 use Rattle.std.specs.Option.{option_and_then, option_map}
 use Rattle.std.specs.Prelude.{find, if◌then◌else◌, is_ok}

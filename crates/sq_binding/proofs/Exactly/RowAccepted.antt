@@ -1,4 +1,4 @@
--- SELECT INTO is bound exactly where the rules find no fault in it (ISO/IEC 9075:1992, 13.5).
+-- SELECT INTO is bound exactly if the rules find no fault in it (ISO/IEC 9075:1992, 13.5).
 use Rattle.std.proofs.Common.{◌≡◌, ℕ, true, false, ◌||◌, List, [], ◌∷◌, ◌++◌, length, map, Ok, refl, sym, ap, subst, ◌∙◌}
 use Rattle.std.proofs.lemmas.List.{length-map}
 use Rattle.std.specs.List.{list_any, zip}

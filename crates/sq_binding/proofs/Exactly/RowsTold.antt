@@ -1,4 +1,4 @@
--- The rows that UPDATE and DELETE change are refused exactly where the rules refuse them (ISO/IEC 9075:1992, 13.6, 13.7, 13.9 and 13.10).
+-- The rows that UPDATE and DELETE change are refused exactly if the rules refuse them (ISO/IEC 9075:1992, 13.6, 13.7, 13.9 and 13.10).
 use Rattle.std.proofs.Common.{◌≡◌, Bool, true, false, not, ◌&&◌, List, [], ◌∷◌, length, Option, Some, None, Ok, refl, sym, ap, subst, ◌∙◌}
 use Rattle.std.specs.List.{list_any}
 use Rattle.std.specs.Prelude.{⊤, if◌then◌else◌, is_ok}

@@ -1,4 +1,4 @@
--- The rows of INSERT are refused exactly where the rules refuse them: values, and the columns of a query (ISO/IEC 9075:1992, 13.8).
+-- The rows of INSERT are refused exactly if the rules refuse them: values, and the columns of a query (ISO/IEC 9075:1992, 13.8).
 use Rattle.std.proofs.Common.{◌≡◌, ℕ, false, not, List, [], ◌∷◌, ◌++◌, length, map, Ok, refl, sym, ap, subst, ◌∙◌}
 use Rattle.std.proofs.lemmas.List.{length-map}
 use Rattle.std.specs.List.{AllByRecursion, flat_map, zip}

@@ -1,5 +1,5 @@
--- A statement of a procedure is bound exactly where the rules find no fault in it; one that is refused has the fault that is answered, and
--- a missing privilege is answered where there is no other (ISO/IEC 9075:1992, 13.2 to 13.10, 14.3 and 14.4).
+-- A statement of a procedure is bound exactly if the rules find no fault in it. A refused one has the fault that is answered, and a
+-- missing privilege is answered if there is no other (ISO/IEC 9075:1992, 13.2 to 13.10, 14.3 and 14.4).
 use Rattle.std.proofs.Common.{◌≡◌, Bool, false, ◌||◌, List, [], ◌∷◌, ◌++◌, length, map, Option, Some, None, Ok, refl, sym, ap, subst, ◌∙◌}
 use Rattle.std.proofs.lemmas.List.{append-nil}
 use Rattle.std.specs.List.{AllByRecursion, flat_map, list_any}

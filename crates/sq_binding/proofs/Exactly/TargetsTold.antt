@@ -1,4 +1,4 @@
--- The targets of INTO are refused exactly where the rules refuse them (ISO/IEC 9075:1992, 6.2, 13.3 and 13.5).
+-- The targets of INTO are refused exactly if the rules refuse them (ISO/IEC 9075:1992, 6.2, 13.3 and 13.5).
 use Rattle.std.proofs.Common.{◌≡◌, ℕ, Bool, true, false, not, ◌||◌, List, [], ◌∷◌, ◌++◌, length, map, Option, Some, None, Ok, Err, refl, sym, ap, subst, append_assoc, arith, ◌∙◌}
 use Rattle.std.proofs.lemmas.Bool.Decides.{nat_tests}
 use Rattle.std.proofs.lemmas.List.{append-nil}

@@ -1,4 +1,4 @@
--- Outcomes that are as the rules say: what is answered is a fault at these sites, or no rule is broken there.
+-- Outcomes that are as the rules say: the answer is a fault at these sites, or no rule is broken there.
 use Rattle.std.proofs.Common.{◌≡◌, Bool, true, false, List, ◌++◌, Ok, Err, refl}
 use Rattle.sq_meaning.specs.Binding.{Judged, has_fault}
 use Rattle.sq_meaning.specs.Site.{Site}

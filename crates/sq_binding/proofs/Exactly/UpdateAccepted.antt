@@ -1,4 +1,4 @@
--- UPDATE is bound exactly where the rules find no fault in it (ISO/IEC 9075:1992, 13.9 and 13.10).
+-- UPDATE is bound exactly if the rules find no fault in it (ISO/IEC 9075:1992, 13.9 and 13.10).
 use Rattle.std.proofs.Common.{◌≡◌, Bool, true, false, not, ◌||◌, List, [], ◌∷◌, ◌++◌, length, map, Option, Some, None, Ok, Err, refl, sym, ap, subst, ◌∙◌}
 use Rattle.std.specs.List.{AllByRecursion, flat_map, list_any}
 use Rattle.std.specs.Prelude.{⊤, if◌then◌else◌}

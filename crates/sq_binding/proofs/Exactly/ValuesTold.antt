@@ -1,4 +1,4 @@
--- Values that are stored are refused exactly where the rules refuse them (ISO/IEC 9075:1992, 9.2 and 13.8 to 13.10).
+-- Values that are stored are refused exactly if the rules refuse them (ISO/IEC 9075:1992, 9.2 and 13.8 to 13.10).
 use Rattle.std.proofs.Common.{◌≡◌, ℕ, true, false, ◌||◌, List, [], ◌∷◌, ◌++◌, length, Some, Ok, refl, sym, ap, ◌∙◌}
 use Rattle.std.specs.List.{AllZip}
 use Rattle.std.specs.Prelude.{⊤, nat_lt}

@@ -1,4 +1,4 @@
--- The query of a view is bound exactly where the rules find no syntax fault in it, and the fault that is answered is there; whether a
+-- The query of a view is bound exactly if the rules find no syntax fault in it, and it has the fault that is answered. Whether a
 -- privilege is missing is told beside it (ISO/IEC 9075:1992, 11.19).
 use Rattle.std.proofs.Common.{◌≡◌, true, false, not, [], Option, Ok, Err, refl, sym, ap, subst}
 use Rattle.std.specs.Prelude.{is_ok}

@@ -1,4 +1,4 @@
--- Sites at which no rule is broken, where all privileges are held.
+-- Sites at which no rule is broken, if all privileges are held.
 use Rattle.std.proofs.Common.{◌≡◌, ℕ, true, false, not, ◌||◌, List, [], ◌∷◌, ◌++◌, length, Option, Ok, Err, refl, ap}
 use Rattle.std.specs.List.{AllByRecursion, flat_map}
 use Rattle.std.specs.Prelude.{◌==◌, nat_lt}

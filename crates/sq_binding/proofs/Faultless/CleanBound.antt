@@ -1,4 +1,4 @@
--- What is bound breaks no rule of syntax: a search condition and a query specification, each by the other (ISO/IEC 9075:1992, 7.3 to 7.9,
+-- A bound text breaks no rule of syntax: a search condition and a query specification, each by the other (ISO/IEC 9075:1992, 7.3 to 7.9,
 -- 7.11 and clause 8).
 use Rattle.std.proofs.Common.{◌≡◌, ℕ, Bool, true, false, List, [], ◌∷◌, ◌++◌, Option, Ok, refl, sym, ap, ◌∙◌}
 use Rattle.std.specs.List.{AllZip, flat_map}

@@ -1,5 +1,5 @@
--- What small queries are bound to, computed, and the faults that the rules find in them, over T (A INTEGER, B INTEGER, C CHAR(3))
--- and S (A INTEGER, D INTEGER) of the user U, who holds SELECT on T alone.
+-- The bound forms of small queries, computed, and the faults that the rules find in them. They are over T (A INTEGER, B INTEGER,
+-- C CHAR(3)) and S (A INTEGER, D INTEGER) of the user U, who holds SELECT on T alone.
 use Rattle.std.specs.Prelude.{◌≡◌, ℕ, Bool, true, false, List, [], ◌∷◌, find, pos, codes, filter, refl, Option, Some, None, Ok, Err}
 use Rattle.std.specs.Option.{option_map}
 use Rattle.sq_value.specs.declared.domain.Kind.TheVariants as kinds

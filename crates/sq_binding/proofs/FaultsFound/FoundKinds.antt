@@ -1,5 +1,5 @@
--- The kind of what a value expression is bound to is the one that the rules look at, and a column of a query further out is an outer
--- reference for them (ISO/IEC 9075:1992, 6.4 and 6.5).
+-- The kind of a bound value expression is the one that the rules look at. A column of a query further out is an outer reference for
+-- them (ISO/IEC 9075:1992, 6.4 and 6.5).
 use Rattle.std.proofs.Common.{◌≡◌, ℕ, zero, suc, Bool, true, false, ◌||◌, List, [], ◌∷◌, ◌++◌, map, max, Option, Some, None, Ok, Err, arith, refl, ap, subst, ◌∙◌}
 use Rattle.std.proofs.lemmas.Bool.Decides.{nat_tests}
 use Rattle.std.specs.List.{AllByRecursion, AllZip, cons_option, list_any}

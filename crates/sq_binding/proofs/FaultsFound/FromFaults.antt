@@ -1,4 +1,4 @@
--- The fault that is answered of a FROM clause or of `*` is one that the rules find there, and its items and columns are those that the
+-- The fault that is answered of a FROM clause or of `*` is one that the rules find there. Its items and columns are the ones that the
 -- rules know (ISO/IEC 9075:1992, 5.4, 6.3, 7.4 and 7.9).
 use Rattle.std.proofs.Common.{◌≡◌, ℕ, ◌+◌, true, false, not, List, [], ◌∷◌, ◌++◌, length, map, Option, Some, None, Ok, Err, refl, sym, ap, subst, ◌∙◌}
 use Rattle.std.proofs.lemmas.List.{length-append, length-map}

@@ -1,5 +1,5 @@
--- Parts of a query that are bound one after the other, and the sites of their text: a fault that is answered is at these sites, and
--- a column that is found to stand outside set functions and to be no grouping column is a fault there if the query is grouped.
+-- Parts of a query that are bound one after the other, and the sites of their text. A fault that is answered is at these sites. If
+-- the query is grouped, a column that is found outside set functions and is no grouping column is a fault there.
 use Rattle.std.proofs.Common.{◌≡◌, ℕ, Bool, true, false, List, [], ◌∷◌, ◌++◌, Ok, Err, refl, sym, ◌∙◌}
 use Rattle.std.specs.Prelude.{⊤, nat_lt, if◌then◌else◌}
 use Rattle.std.specs.List.{AllByRecursion, AllZip, flat_map}

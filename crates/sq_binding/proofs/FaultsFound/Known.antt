@@ -1,5 +1,5 @@
--- What a column reference and a parameter mean in binding is what the rules find, where the FROM items of the queries around are
--- those of the tables that are known (ISO/IEC 9075:1992, 6.2 to 6.4).
+-- A column reference and a parameter mean in binding what the rules find, if the queries around have the FROM items of the
+-- known tables (ISO/IEC 9075:1992, 6.2 to 6.4).
 use Rattle.std.proofs.Common.{◌≡◌, ℕ, zero, suc, ◌+◌, ◌<◌, Bool, true, false, cond, List, [], ◌∷◌, length, map, Option, Some, None, Ok, Err, arith, refl, sym, ap, subst, ◌∙◌}
 use Rattle.std.proofs.lemmas.Bool.{ltb-false}
 use Rattle.std.proofs.lemmas.Bool.Decides.{nat_tests}

@@ -1,4 +1,4 @@
--- The fault that is answered of a query specification is one that the rules find there, where that is so of its WHERE and HAVING clauses
+-- The fault that is answered of a query specification is one that the rules find there, if that is so of its WHERE and HAVING clauses
 -- (ISO/IEC 9075:1992, 7.3 to 7.9).
 use Rattle.std.proofs.Common.{◌≡◌, ℕ, zero, suc, Bool, true, false, ◌||◌, List, [], ◌∷◌, ◌++◌, map, Ok, Err, refl, sym, subst, ◌∙◌, append_assoc}
 use Rattle.std.proofs.lemmas.List.{length-map}

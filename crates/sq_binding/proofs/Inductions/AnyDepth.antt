@@ -1,5 +1,5 @@
--- What holds of each test, with its notes, and of each query specification in one that is bound, at any depth; and the numbers that those
--- have (ISO/IEC 9075:1992, 7.9, 7.11 and 8.12).
+-- A property of each test, with its notes, and of each query specification in a bound one, at any depth. And the numbers of these query
+-- specifications (ISO/IEC 9075:1992, 7.9, 7.11 and 8.12).
 use Rattle.std.proofs.Common.{◌≡◌, ℕ, suc, Bool, List, [], ◌∷◌, ◌++◌, Option, option_to_list, subst}
 use Rattle.std.specs.Prelude.{⊤}
 use Rattle.sq_binding.specs.NumberedCondition.{NumberedClause, NumberedCond, NumberedConds, NumberedGroups, NumberedSelect, absent, present, between, compare, compare_query, conjunction, disjunction, exists, grouped, in_list, in_query, is_null, like, negated, no_cond, a_cond, not_grouped, noted, select}

@@ -1,4 +1,4 @@
--- What holds of each bound search condition and query specification, case by case (ISO/IEC 9075:1992, 7.9 and 8.12).
+-- A property of each bound search condition and query specification, case by case (ISO/IEC 9075:1992, 7.9 and 8.12).
 use Rattle.std.proofs.Common.{Bool, List, [], ◌∷◌, map, Option, Some, None, sym, subst}
 use Rattle.std.specs.Prelude.{IfSome}
 use Rattle.std.specs.List.{AllByRecursion}

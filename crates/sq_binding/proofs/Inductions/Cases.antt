@@ -1,4 +1,4 @@
--- What holds of each expression that is bound, case by case: one induction for all laws.
+-- A property of each bound expression, case by case: one induction for all laws.
 use Rattle.std.proofs.Common.{◌≡◌, ℕ, ◌+◌, Bool, true, false, not, ◌&&◌, ◌||◌, List, length, Option, Ok, Err, refl, ap, subst}
 use Rattle.std.specs.Prelude.{⊤, nat_lt, if◌then◌else◌}
 use Rattle.std.specs.Result.{result_ok}

@@ -1,5 +1,5 @@
--- What holds of each test and each query specification that is bound holds of all that stand in one that is bound, at any depth (ISO/IEC
--- 9075:1992, 7.9, 7.11 and 8.12).
+-- A property of each bound test and query specification holds for all of them in a bound one, at any depth (ISO/IEC 9075:1992, 7.9, 7.11
+-- and 8.12).
 use Rattle.std.proofs.Common.{◌≡◌, ℕ, ◌+◌, Bool, true, false, List, [], ◌∷◌, ◌++◌, Option, Some, Ok}
 use Rattle.std.specs.Prelude.{nat_eq, if◌then◌else◌}
 use Rattle.sq_meaning.specs.Environment.{Place, TableReference}

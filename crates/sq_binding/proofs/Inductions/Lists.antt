@@ -1,5 +1,5 @@
--- Parts of a list that are bound in turn: what is bound so far stands before what is bound of the rest. So a loop goes along a list
--- as the definition does, also along the tests of a term and the terms of a condition.
+-- Parts of a list that are bound in turn: the parts bound so far come before the rest. So a loop goes along a list as the
+-- definition does, also along the tests of a term and the terms of a condition.
 use Rattle.std.proofs.Common.{◌≡◌, ℕ, ◌+◌, false, ◌||◌, List, [], ◌∷◌, ◌++◌, length, max, Ok, Err, refl, sym, ap, ◌∙◌, append_assoc, arith}
 use Rattle.std.proofs.lemmas.List.{append-nil, length-append}
 use Rattle.sq_value.proofs.Truths.{or_false, or_assoc}

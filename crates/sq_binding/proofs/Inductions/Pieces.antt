@@ -1,5 +1,5 @@
--- What holds of the values, subqueries, FROM items, grouping columns and select lists that are bound, by what they are made of (ISO/IEC
--- 9075:1992, 7.4, 7.7, 7.9, 7.11 and clause 8).
+-- A property of the bound values, subqueries, FROM items, grouping columns and select lists, from their parts (ISO/IEC 9075:1992, 7.4,
+-- 7.7, 7.9, 7.11 and clause 8).
 use Rattle.std.proofs.Common.{◌≡◌, ℕ, ◌+◌, Bool, true, false, List, [], ◌∷◌, length, map, Option, Some, None, Ok, Err, refl, sym, ap, subst}
 use Rattle.std.specs.Prelude.{nat_eq, nat_lt, not, IsTrue, if◌then◌else◌}
 use Rattle.sq_value.specs.declared.domain.Kind.{Kind}

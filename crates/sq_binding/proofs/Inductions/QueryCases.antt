@@ -1,4 +1,4 @@
--- What holds of each search condition and query specification that is bound, case by case: one induction for all laws (ISO/IEC
+-- A property of each bound search condition and query specification, case by case: one induction for all laws (ISO/IEC
 -- 9075:1992, 7.3 to 7.9, 7.11 and clause 8).
 use Rattle.std.proofs.Common.{◌≡◌, ℕ, ◌+◌, Bool, true, false, ◌||◌, List, [], ◌++◌, length, Option, Ok, Err, refl, sym, subst, ◌∙◌, zero-add}
 use Rattle.std.specs.Prelude.{⊤, if◌then◌else◌}

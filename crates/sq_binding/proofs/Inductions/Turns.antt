@@ -1,4 +1,5 @@
--- What holds of parts that are bound in turn, where it holds of what each of them gives.
+-- A property of parts that are bound in turn, if it holds for the result of each of
+-- them.
 use Rattle.std.proofs.Common.{◌≡◌, ℕ, Bool, true, false, List, [], ◌∷◌, max, Ok, Err, arith, refl, sym, subst, ◌∙◌, suc, length, ap}
 use Rattle.std.proofs.lemmas.List.{append-nil}
 use Rattle.std.specs.Prelude.{⊤, nat_lt, if◌then◌else◌}

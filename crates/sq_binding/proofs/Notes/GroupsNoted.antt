@@ -1,4 +1,4 @@
--- What groups a query specification is noted of it: its set functions in the order of the text, where it is grouped by GROUP BY, by
+-- The grouping of a query specification is noted: its set functions in the order of the text, if it is grouped by GROUP BY, by
 -- HAVING or by a set function (ISO/IEC 9075:1992, 6.5, 7.7 to 7.9).
 use Rattle.std.proofs.Common.{◌≡◌, true, List, [], ◌∷◌, ◌++◌, refl, sym, ap, ◌∙◌}
 use Rattle.std.proofs.lemmas.List.{append-nil}

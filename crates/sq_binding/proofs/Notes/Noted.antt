@@ -1,4 +1,4 @@
--- What is found in a value expression is so: it never ends with a status unless that is found, and it reads no columns further to
+-- The findings in a value expression are true. It never ends with a status unless that is found. It reads no columns further to
 -- the right, and further out, than is found (ISO/IEC 9075:1992, 6.4, 6.5 and 6.11).
 use Rattle.std.proofs.Common.{◌≡◌, ℕ, zero, suc, ◌+◌, ◌<◌, ◌≤◌, Bool, true, false, not, ◌&&◌, List, [], ◌∷◌, max, Ok, arith, refl, sym, ap, subst}
 use Rattle.std.proofs.Math.Nat.{le-max_left, le-max_right}

@@ -1,5 +1,5 @@
--- What is found in parts of a query is so: a part never ends with a status unless that is found, it reads no items of FROM further to the
--- right, and no columns further out, than is found (ISO/IEC 9075:1992, 6.4, 6.5, 7.11 and clause 8).
+-- The findings in parts of a query are true. A part never ends with a status unless that is found. It reads no items of FROM further to
+-- the right, and no columns further out, than is found (ISO/IEC 9075:1992, 6.4, 6.5, 7.11 and clause 8).
 use Rattle.std.proofs.Common.{◌≡◌, ℕ, suc, ◌+◌, ◌≤◌, Bool, true, false, ◌&&◌, ◌||◌, List, [], ◌∷◌, max, Option, Some, None, Ok, arith, refl, sym, ap, subst, ◌∙◌}
 use Rattle.std.proofs.Math.Nat.{le-max_left, le-max_right}
 use Rattle.std.specs.List.{AllByRecursion, list_all}

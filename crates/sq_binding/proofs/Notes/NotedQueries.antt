@@ -1,4 +1,4 @@
--- What is found in search conditions and query specifications is so: they never end with a status unless that is found, and they read no
+-- The findings in search conditions and query specifications are true. They never end with a status unless that is found. They read no
 -- items of FROM further to the right, and no columns further out, than is found (ISO/IEC 9075:1992, 6.4, 7.3 to 7.9, 7.11 and clause 8).
 use Rattle.std.proofs.Common.{◌≡◌, ℕ, Bool, true, false, not, ◌&&◌, ◌||◌, List, [], ◌∷◌, ◌++◌, map, Option, Ok, arith, refl, sym, ap, subst, ◌∙◌}
 use Rattle.std.specs.List.{AllByRecursion, enumerate_from, list_all}

@@ -1,5 +1,5 @@
--- How many queries further out the columns are that a search condition or query specification reads, and which items of the query around
--- hold them: no more than is found (ISO/IEC 9075:1992, 6.4, 6.5, 7.9, 7.11 and 8.12).
+-- The columns that a search condition or query specification reads are no more queries further out than is found. The items of the query
+-- around that hold them are no more than is found (ISO/IEC 9075:1992, 6.4, 6.5, 7.9, 7.11 and 8.12).
 use Rattle.std.proofs.Common.{◌≡◌, ℕ, suc, ◌+◌, ◌-◌, ◌<◌, ◌≤◌, Bool, true, false, List, length, Option, Some, None, Ok, arith, refl, sym, ap, subst, ◌∙◌}
 use Rattle.std.proofs.Math.Nat.{le-max_left, le-max_right}
 use Rattle.std.proofs.lemmas.Bool.{ltb-false}

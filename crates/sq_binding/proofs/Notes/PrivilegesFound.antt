@@ -1,4 +1,4 @@
--- That a privilege is missing on a table that is read is found exactly where the rules find it at a site: SELECT, and SELECT with the
+-- A missing privilege on a table that is read is found exactly if the rules find it at a site. It is SELECT, or SELECT with the
 -- grant option (ISO/IEC 9075:1992, 4.26, 7.4 and 11.19).
 use Rattle.std.proofs.Common.{◌≡◌, Bool, true, false, not, ◌||◌, List, [], ◌∷◌, ◌++◌, map, Option, Some, None, Ok, refl, sym, ap, subst, ◌∙◌}
 use Rattle.std.specs.List.{flat_map, list_any}

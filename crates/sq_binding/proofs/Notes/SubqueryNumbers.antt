@@ -1,5 +1,5 @@
--- The subqueries of a search condition or query specification that is bound have the numbers from that of the next subquery before it
--- up to that behind it, each once, in order (ISO/IEC 9075:1992, 7.9, 7.11 and 8.12).
+-- The subqueries of a bound search condition or query specification have numbers, each once, in order. They go from the number of the
+-- next subquery before it up to the number after it (ISO/IEC 9075:1992, 7.9, 7.11 and 8.12).
 use Rattle.std.proofs.Common.{◌≡◌, ℕ, suc, ◌+◌, Bool, true, false, List, [], ◌∷◌, ◌++◌, Option, Some, None, Ok, arith, option_to_list, refl, sym, ap, subst, ◌∙◌, append_assoc}
 use Rattle.std.proofs.lemmas.List.{append-nil}
 use Rattle.std.specs.Prelude.{nat_eq, if◌then◌else◌}

@@ -1,6 +1,6 @@
--- What is noted of the tests and query specifications in one that is bound is so, at any depth: no test and no query specification ends
--- with a status unless that is noted, a test reads no more items of FROM than are noted, what groups a query specification is noted, and
--- what has a number reads no column of a query around it (ISO/IEC 9075:1992, 6.5, 7.3 to 7.9, 7.11 and 8.12).
+-- The notes on the tests and query specifications in a bound one are true, at any depth (ISO/IEC 9075:1992, 6.5, 7.3 to 7.9, 7.11 and
+-- 8.12). No test and no query specification ends with a status unless that is noted. A test reads no more items of FROM than are noted,
+-- and the grouping of a query specification is noted. A query specification with a number reads no column of a query around it.
 use Rattle.std.proofs.Common.{◌≡◌, ℕ, ◌+◌, Bool, true, false, List, [], Option, Some, Ok, refl, sym, ap, subst, ◌∙◌}
 use Rattle.std.proofs.lemmas.Bool.{eqb-true}
 use Rattle.std.specs.Prelude.{IfSome, nat_eq, if◌then◌else◌}

@@ -1,5 +1,5 @@
--- Value expressions are bound alike over scopes that differ in the positions of columns alone: one has a fault where the other has it,
--- and the same is found in both (ISO/IEC 9075:1992, 6.2 to 6.5 and 6.11 to 6.13).
+-- Value expressions are bound alike over scopes that differ only in the positions of columns. One has a fault if the other has it, and
+-- the findings are the same in both (ISO/IEC 9075:1992, 6.2 to 6.5 and 6.11 to 6.13).
 use Rattle.std.proofs.Common.{◌≡◌, ℕ, suc, ◌+◌, Bool, true, false, ◌||◌, not, List, [], ◌∷◌, length, map, Option, Some, None, Ok, Err, refl, sym, ap, subst, ◌∙◌}
 use Rattle.std.proofs.lemmas.List.{length-append}
 use Rattle.std.specs.List.{AllZip}

@@ -1,5 +1,5 @@
--- Search conditions and query specifications are bound alike over scopes that differ in the positions of columns alone; where there is no
--- subquery, also over other tables (ISO/IEC 9075:1992, 7.3 to 7.9, 7.11 and clause 8).
+-- Search conditions and query specifications are bound alike over scopes that differ only in the positions of columns. If there is no
+-- subquery, so they are over other tables (ISO/IEC 9075:1992, 7.3 to 7.9, 7.11 and clause 8).
 use Rattle.std.proofs.Common.{◌≡◌, ℕ, ◌+◌, Bool, true, false, ◌||◌, List, [], ◌∷◌, length, Option, Some, None, Ok, Err, refl, sym, ap, subst, ◌∙◌}
 use Rattle.std.specs.List.{AllZip}
 use Rattle.std.specs.Prelude.{⊤, if◌then◌else◌, nat_eq}

@@ -1,4 +1,4 @@
--- A table that may be changed, as an item with its columns at their positions in the base table: conditions are bound over it as over the
+-- A table that may be changed, as an item with its columns at their positions in the base table. Conditions are bound over it as over the
 -- table itself (ISO/IEC 9075:1992, 7.9 and 13.6 to 13.10).
 use Rattle.std.proofs.Common.{◌≡◌, ℕ, zero, suc, ◌+◌, true, false, List, [], ◌∷◌, length, map, Some, None, Ok, Err, arith, refl, sym, ap, subst, ◌∙◌}
 use Rattle.std.specs.List.{AllZip, enumerate_from, zip}

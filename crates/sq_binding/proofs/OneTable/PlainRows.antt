@@ -1,5 +1,5 @@
--- A query specification that is bound has a row for each row of its table exactly where the rules say so: without DISTINCT, groups and set
--- functions (ISO/IEC 9075:1992, 7.9; own rule).
+-- A bound query specification has a row for each row of its table exactly if the rules say so. They ask for no DISTINCT, no
+-- groups and no set functions (ISO/IEC 9075:1992, 7.9; own rule).
 use Rattle.std.proofs.Common.{◌≡◌, Bool, true, false, not, ◌&&◌, ◌||◌, List, [], ◌∷◌, ◌++◌, map, Ok, Err, refl, sym, ap, subst, ◌∙◌}
 use Rattle.std.specs.List.{AllZip}
 use Rattle.std.specs.Prelude.{⊤}

@@ -1,4 +1,4 @@
--- A query specification that is bound is updatable, over the very table, exactly where the rules say so (ISO/IEC 9075:1992, 7.9; own rule).
+-- A query specification that is bound is updatable, over the very table, exactly if the rules say so (ISO/IEC 9075:1992, 7.9; own rule).
 use Rattle.std.proofs.Common.{◌≡◌, ℕ, ◌<◌, Bool, true, false, not, ◌&&◌, List, [], ◌∷◌, ◌++◌, length, map, Option, Some, None, Ok, Err, refl, sym, ap, subst, ◌∙◌}
 use Rattle.std.proofs.lemmas.List.{append-nil, length-map}
 use Rattle.std.proofs.lemmas.List.Quantifiers.{position-Some}

@@ -1,5 +1,5 @@
--- What is bound of a query specification is updatable exactly where the rules say that it is, and over the same table (ISO/IEC 9075:1992,
--- 7.9; own rule).
+-- A query specification is bound to an updatable one exactly if the rules say that it is updatable, and over the same table (ISO/IEC
+-- 9075:1992, 7.9; own rule).
 use Rattle.std.proofs.Common.{◌≡◌, ℕ, Bool, true, false, not, ◌&&◌, List, [], ◌∷◌, Option, Some, None, Ok, Err, refl, sym, ap, subst, ◌∙◌}
 use Rattle.std.specs.Option.{option_and_then, option_map}
 use Rattle.std.specs.Prelude.{if◌then◌else◌, is_ok, is_some, unwrap_or}

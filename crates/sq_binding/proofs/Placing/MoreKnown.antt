@@ -1,4 +1,4 @@
--- What a text becomes stays the same where more tables are known.
+-- A text with its names placed stays the same if more tables are known.
 use Rattle.std.proofs.Common.{◌≡◌, false, List, [], ◌∷◌, map, Option, Some, None, Ok, ap, refl, ◌∙◌}
 use Rattle.std.specs.Option.{option_map}
 use Rattle.sq_lex.specs.declared.name.Name.{Name}

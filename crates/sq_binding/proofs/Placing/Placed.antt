@@ -1,5 +1,5 @@
--- A value expression is bound to what it becomes where its columns and parameters are placed, of the kind that the definitions
--- give it, with its set functions in the order of the text (ISO/IEC 9075:1992, 6.2 to 6.5 and 6.11 to 6.13).
+-- A value expression is bound to the same expression with its columns and parameters placed, of the kind that the definitions
+-- give it. Its set functions are in the order of the text (ISO/IEC 9075:1992, 6.2 to 6.5 and 6.11 to 6.13).
 use Rattle.std.proofs.Common.{◌≡◌, ℕ, ◌+◌, Bool, true, false, List, [], ◌∷◌, ◌++◌, length, Option, Some, None, Ok, Err, refl, sym, ap, subst, ◌∙◌, append_assoc}
 use Rattle.std.proofs.lemmas.List.{length-append}
 use Rattle.std.specs.Prelude.{slice_get, slice_index_or, if◌then◌else◌}

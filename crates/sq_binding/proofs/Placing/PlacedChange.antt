@@ -1,5 +1,5 @@
--- INSERT, UPDATE and DELETE are bound to what their values, conditions and queries become where their names are placed, for the table and
--- the columns that are named (ISO/IEC 9075:1992, 13.6 to 13.10).
+-- INSERT, UPDATE and DELETE are bound to their values, conditions and queries with names placed, for the table and the columns that are
+-- named (ISO/IEC 9075:1992, 13.6 to 13.10).
 use Rattle.std.proofs.Common.{◌≡◌, ℕ, Bool, false, not, List, [], ◌∷◌, ◌++◌, Option, Some, None, Ok, Err, refl, subst}
 use Rattle.std.specs.Prelude.{⊤}
 use Rattle.sq_lex.specs.declared.name.Name.{Name}

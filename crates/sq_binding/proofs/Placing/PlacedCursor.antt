@@ -1,5 +1,5 @@
--- A cursor is bound to what its query becomes where its columns, parameters and tables are placed, in the order of its ORDER BY; one that is
--- updatable has the rows of a base table that meet its condition (ISO/IEC 9075:1992, 7.9 and 13.1).
+-- A cursor is bound to its query with columns, parameters and tables placed, in the order of its ORDER BY. An updatable one has the rows of
+-- a base table that meet its condition (ISO/IEC 9075:1992, 7.9 and 13.1).
 use Rattle.std.proofs.Common.{◌≡◌, ℕ, Bool, true, false, not, List, [], ◌∷◌, Option, Some, None, Ok, refl, ap, subst, ◌∙◌}
 use Rattle.std.specs.Option.{option_and_then}
 use Rattle.std.specs.Prelude.{⊤, ◌&&◌, is_none, if◌then◌else◌}

@@ -1,4 +1,4 @@
--- INSERT is bound to what its values or its query become where their names are placed, for the columns that are named (ISO/IEC 9075:1992, 13.8).
+-- INSERT is bound to its values or its query with names placed, for the columns that are named (ISO/IEC 9075:1992, 13.8).
 use Rattle.std.proofs.Common.{◌≡◌, Bool, true, false, List, [], ◌∷◌, length, map, Option, Some, None, Ok, refl, sym, ap, arith, ◌∙◌}
 use Rattle.std.specs.List.{zip}
 use Rattle.std.specs.Prelude.{◌==◌}

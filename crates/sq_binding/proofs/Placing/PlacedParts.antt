@@ -1,5 +1,5 @@
--- The parts of a query specification, and the values and subqueries of predicates, are bound to what they become where their columns,
--- parameters and tables are placed (ISO/IEC 9075:1992, 6.3, 6.4, 7.7 to 7.9 and 7.11).
+-- The parts of a query specification, and the values and subqueries of predicates, are bound to the same with columns, parameters and
+-- tables placed (ISO/IEC 9075:1992, 6.3, 6.4, 7.7 to 7.9 and 7.11).
 use Rattle.std.proofs.Common.{◌≡◌, ℕ, zero, suc, ◌+◌, Bool, true, false, List, [], ◌∷◌, ◌++◌, length, map, Option, Some, None, Ok, Err, refl, sym, ap, ◌∙◌}
 use Rattle.std.proofs.lemmas.List.{map-append, map-id}
 use Rattle.std.proofs.lemmas.Simd.{map-map}

@@ -1,5 +1,5 @@
--- Search conditions and query specifications are bound to what they become where their columns, parameters and tables are placed
--- (ISO/IEC 9075:1992, 6.3, 6.4, 7.3 to 7.9, 7.11 and clause 8).
+-- Search conditions and query specifications are bound to the same with their columns, parameters and tables placed (ISO/IEC
+-- 9075:1992, 6.3, 6.4, 7.3 to 7.9, 7.11 and clause 8).
 use Rattle.std.proofs.Common.{◌≡◌, Bool, true, false, List, [], Ok, Err, refl}
 use Rattle.std.specs.Option.{option_map}
 use Rattle.sq_tree.specs.declared.names.ColumnReference.{ColumnReference}

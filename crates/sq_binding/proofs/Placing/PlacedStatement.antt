@@ -1,5 +1,5 @@
--- A statement is bound to what is written: its cursors have the numbers that their names have, its targets are the parameters of the
--- written names, and its queries, conditions and values are the written ones, placed (ISO/IEC 9075:1992, 13.2 to 13.10, 14.3 and 14.4).
+-- A statement is bound to the written one (ISO/IEC 9075:1992, 13.2 to 13.10, 14.3 and 14.4). Its cursors have the numbers of their
+-- names, and its targets are the parameters of the written names. Its queries, conditions and values are the written ones, placed.
 use Rattle.std.proofs.Common.{◌≡◌, ℕ, List, [], Ok, refl, subst}
 use Rattle.std.specs.Prelude.{⊤}
 use Rattle.sq_lex.specs.declared.name.Name.{Name}

@@ -1,5 +1,5 @@
--- The targets of FETCH and of SELECT INTO are the parameters of the names that are written, with their indicators; a row that is selected is
--- that of the query, placed (ISO/IEC 9075:1992, 6.2, 13.3 and 13.5).
+-- The targets of FETCH and of SELECT INTO are the parameters of the written names, with their indicators. A row that is selected is the row
+-- of the query, placed (ISO/IEC 9075:1992, 6.2, 13.3 and 13.5).
 use Rattle.std.proofs.Common.{◌≡◌, ℕ, Bool, true, false, not, List, [], ◌∷◌, ◌++◌, length, map, Ok, refl, sym, ap, subst, arith, ◌∙◌}
 use Rattle.std.specs.List.{zip}
 use Rattle.std.specs.Prelude.{◌==◌, nat_eq}

@@ -1,5 +1,5 @@
--- Query expressions are bound to what they become where their columns, parameters and tables are placed (ISO/IEC 9075:1992, 7.10), in the
--- order that the sort specifications name (13.1); and so are the conditions on the rows of a table that is changed.
+-- Query expressions are bound to the same with their columns, parameters and tables placed (ISO/IEC 9075:1992, 7.10), in the order that
+-- the sort specifications name (13.1). So are the conditions on the rows of a table that is changed.
 use Rattle.std.proofs.Common.{◌≡◌, ℕ, Bool, List, [], ◌∷◌, length, Option, Ok, Err, ap, ◌∙◌}
 use Rattle.std.specs.List.{zip}
 use Rattle.std.specs.Prelude.{◌==◌}

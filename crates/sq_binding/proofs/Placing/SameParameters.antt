@@ -1,4 +1,4 @@
--- Names of parameters are the same where their positions are, and lists of names have one twice where those of their positions have
+-- Names of parameters are the same if their positions are. A list of names has one twice if the list of their positions has
 -- (ISO/IEC 9075:1992, 6.2 and 13.3).
 use Rattle.std.proofs.Common.{◌≡◌, ℕ, Bool, true, false, ◌&&◌, ◌||◌, List, [], ◌∷◌, ◌++◌, Option, Some, None, Ok, Err, get_or, refl, sym, ap, ◌∙◌}
 use Rattle.std.proofs.lemmas.Bool.{eq-eqb, eqb-true, or_right}

@@ -1,5 +1,5 @@
--- What is known of a view's query where it is bound: its columns, whether it is updatable, and what its owner may grant (ISO/IEC 9075:1992,
--- 7.9 and 11.19).
+-- The facts known of a view's query if it is bound: its columns, whether it is updatable, and the privileges that its owner may grant
+-- (ISO/IEC 9075:1992, 7.9 and 11.19).
 use Rattle.std.proofs.Common.{◌≡◌, ℕ, suc, Bool, true, false, not, ◌&&◌, ◌||◌, List, [], ◌∷◌, ◌++◌, length, map, Option, Some, None, Ok, refl, sym, ap, subst, ◌∙◌}
 use Rattle.std.proofs.lemmas.List.{length-map}
 use Rattle.std.specs.List.{cons_option, filter_map, list_all, list_any}

@@ -1,4 +1,4 @@
--- CREATE VIEW is accepted exactly where the rules refuse nothing of it, and else refused for the first fault in their order (ISO/IEC 9075:1992,
+-- CREATE VIEW is accepted exactly if the rules refuse nothing of it, and else refused for the first fault in their order (ISO/IEC 9075:1992,
 -- 11.19).
 use Rattle.std.proofs.Common.{◌≡◌, suc, ◌<◌, Bool, true, false, not, ◌&&◌, ◌||◌, List, [], ◌∷◌, arith, length, map, Option, Some, None, Ok, Err, refl, sym, ap, subst, ◌∙◌}
 use Rattle.std.proofs.lemmas.Bool.{eq-eqb, eqb-true}

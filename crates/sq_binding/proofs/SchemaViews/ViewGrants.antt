@@ -1,5 +1,5 @@
--- What a view's owner is granted, as the rules say that the view gives it (ISO/IEC 9075:1992, 11.19): laws of the grants, and of the columns
--- that an updatable query shows.
+-- The privileges that a view's owner is granted, as the rules say that the view gives them (ISO/IEC 9075:1992, 11.19). Laws of the grants,
+-- and of the columns that an updatable query shows.
 use Rattle.std.proofs.Common.{◌≡◌, ℕ, zero, suc, ◌+◌, Bool, true, false, ◌&&◌, ◌||◌, List, [], ◌∷◌, arith, length, map, Option, Some, None, Ok, Err, refl, sym, ap, ◌∙◌}
 use Rattle.std.proofs.lemmas.List.Folds.{list_any-append}
 use Rattle.std.specs.List.{AllZip, enumerate_from, flat_map, list_any, zip}

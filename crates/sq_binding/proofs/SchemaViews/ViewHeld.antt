@@ -1,5 +1,5 @@
--- A catalog with one more view is that of the elements with its CREATE VIEW: its owner holds on it what the rules say (ISO/IEC 9075:1992,
--- 11.19).
+-- A catalog with one more view is the catalog of the elements with its CREATE VIEW: its owner holds on it what the rules say (ISO/IEC
+-- 9075:1992, 11.19).
 use Rattle.std.proofs.Common.{◌≡◌, ℕ, Bool, true, false, ◌&&◌, ◌||◌, List, [], ◌∷◌, length, map, Option, Some, None, Ok, Err, refl, sym, ap, subst, ◌∙◌}
 use Rattle.std.proofs.lemmas.List.{append-nil}
 use Rattle.std.proofs.lemmas.List.Folds.{list_any-append}

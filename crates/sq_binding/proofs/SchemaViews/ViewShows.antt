@@ -1,4 +1,4 @@
--- What an updatable query shows, as the rules know it: the table underneath, its columns, and its condition (ISO/IEC 9075:1992, 7.9).
+-- An updatable query, as the rules know it: the table underneath, its columns, and its condition (ISO/IEC 9075:1992, 7.9).
 use Rattle.std.proofs.Common.{◌≡◌, ℕ, Bool, false, not, ◌&&◌, List, [], ◌∷◌, map, Some, Ok, Err, refl, sym, ap, subst, ◌∙◌}
 use Rattle.std.proofs.lemmas.List.{append-nil}
 use Rattle.std.specs.List.{AllZip}

@@ -1,5 +1,5 @@
--- Parts of a schema element, each refused for one fault exactly where a rule is broken: what they make one after the other is refused for the
--- first of these faults whose rule is broken.
+-- Parts of a schema element, each refused for one fault exactly if a rule is broken. One after the other, they are refused for the first
+-- of these faults whose rule is broken.
 use Rattle.std.proofs.Common.{◌≡◌, Bool, true, false, ◌||◌, List, [], ◌∷◌, ◌++◌, Option, Some, None, Ok, Err, refl, sym, ap, subst, ◌∙◌}
 use Rattle.std.specs.List.{AllByRecursion, AllZip, list_any}
 use Rattle.std.specs.Prelude.{if◌then◌else◌, is_none}

@@ -1,5 +1,5 @@
--- A reference is made exactly where the rules find that it is good, and is permitted where they say that its user may make it (ISO/IEC
--- 9075:1992, 11.8).
+-- A reference is made exactly if the rules find that it is good. It is permitted if they say that its user may make it
+-- (ISO/IEC 9075:1992, 11.8).
 use Rattle.std.proofs.Common.{◌≡◌, ℕ, Bool, true, false, not, ◌&&◌, ◌||◌, List, [], ◌∷◌, length, map, Option, Some, None, Ok, Err, refl, sym, ap, subst, ◌∙◌}
 use Rattle.std.proofs.lemmas.Simd.{map-map}
 use Rattle.std.specs.List.{AllZip, cons_option, filter_map, list_all, list_any, zip}

@@ -1,5 +1,5 @@
--- What the catalog of schema texts says: who holds what, and what names mean to the statements of a user (ISO/IEC 9075:1992, 4.26, 5.4, 11.1
--- and 11.36).
+-- The catalog of schema texts: who holds which privilege, and the meanings of names in the statements of a user (ISO/IEC 9075:1992, 4.26,
+-- 5.4, 11.1 and 11.36).
 use Rattle.std.proofs.Common.{◌≡◌, true, false, List, [], None, Ok, subst}
 use Rattle.std.specs.List.{AllByRecursion}
 use Rattle.sq_lex.specs.declared.name.Name.{Name}

@@ -1,4 +1,4 @@
--- GRANT is accepted exactly where the rules refuse nothing of it, and what it grants is what the rules say that it gives (ISO/IEC 9075:1992,
+-- GRANT is accepted exactly if the rules refuse nothing of it. Its grants are the ones that the rules say it gives (ISO/IEC 9075:1992,
 -- 11.36).
 use Rattle.std.proofs.Common.{◌≡◌, Bool, true, false, not, ◌&&◌, ◌||◌, List, [], ◌∷◌, Option, Some, None, refl, sym, ap, subst, ◌∙◌}
 use Rattle.std.specs.List.{flat_map, list_any}

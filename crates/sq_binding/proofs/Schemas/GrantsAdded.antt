@@ -1,5 +1,5 @@
--- Grants that are added once give what those before and the new ones give, and a grant gives a privilege to a user where it is one to the
--- user or to PUBLIC (ISO/IEC 9075:1992, 10.3 and 11.36).
+-- Grants that are added once give the same as the earlier and the new ones together. A grant gives a privilege to a user if it is one to
+-- the user or to PUBLIC (ISO/IEC 9075:1992, 10.3 and 11.36).
 use Rattle.std.proofs.Common.{◌≡◌, Bool, true, false, ◌&&◌, ◌||◌, List, [], ◌∷◌, ◌++◌, Option, Some, None, refl, subst, sym, ap, ◌∙◌}
 use Rattle.std.proofs.lemmas.List.Folds.{list_any-append}
 use Rattle.std.specs.List.{list_any}

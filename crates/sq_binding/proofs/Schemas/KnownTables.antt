@@ -1,4 +1,4 @@
--- What a name of a table means in a catalog is what it means after the elements that the catalog is of (ISO/IEC 9075:1992, 5.4 and 11.1).
+-- The meaning of a table's name in a catalog is its meaning after the elements that the catalog is of (ISO/IEC 9075:1992, 5.4 and 11.1).
 use Rattle.std.proofs.Common.{◌≡◌, ◌≤◌, take, ℕ, Bool, true, false, cond, ◌||◌, List, [], ◌∷◌, length, map, Option, Some, None, Ok, Err, refl, sym, ap, subst, ◌∙◌}
 use Rattle.std.proofs.lemmas.List.{append-nil}
 use Rattle.std.specs.List.{AllZip, filter_map, flat_map, list_any}

@@ -1,5 +1,5 @@
--- Base tables and views of a catalog, in the order of the texts: what an element adds stands behind the others, and the others stay what they
--- are (ISO/IEC 9075:1992, 11.1, 11.3 and 11.19).
+-- Base tables and views of a catalog, in the order of the texts. The table that an element adds comes after the others, and the others stay
+-- unchanged (ISO/IEC 9075:1992, 11.1, 11.3 and 11.19).
 use Rattle.std.proofs.Common.{◌≡◌, ℕ, suc, ◌+◌, Bool, true, false, ◌&&◌, List, [], ◌∷◌, ◌++◌, arith, length, map, Some, Ok, Err, refl, sym, ap, subst, ◌∙◌}
 use Rattle.std.proofs.lemmas.Grind.{reverse_onto}
 use Rattle.std.proofs.lemmas.List.{map-append}

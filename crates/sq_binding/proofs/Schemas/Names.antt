@@ -1,4 +1,4 @@
--- Positions of names among the names of columns: a name has one exactly where it is among them, and names are the same exactly where their
+-- Positions of names among the names of columns. A name has one exactly if it is among them, and names are the same exactly if their
 -- positions are (ISO/IEC 9075:1992, 5.4, 11.7 and 11.8).
 use Rattle.std.proofs.Common.{◌≡◌, arith, ℕ, zero, suc, ◌+◌, Bool, true, false, cond, not, ◌&&◌, ◌||◌, List, [], ◌∷◌, length, map, Option, Some, None, refl, sym, ap, subst, ◌∙◌}
 use Rattle.std.proofs.lemmas.Bool.{eq-eqb, eqb-true, and_parts, or_parts}

@@ -1,4 +1,4 @@
--- The key that a reference is to, and how its columns pair, are found exactly where the rules find that the reference is good (ISO/IEC
+-- The key that a reference is to, and how its columns pair, are found exactly if the rules find that the reference is good (ISO/IEC
 -- 9075:1992, 11.8).
 use Rattle.std.proofs.Common.{◌≡◌, ℕ, zero, suc, ◌+◌, Bool, true, false, cond, not, ◌&&◌, ◌||◌, List, [], ◌∷◌, length, map, Option, Some, None, refl, sym, ap, subst, ◌∙◌}
 use Rattle.std.proofs.lemmas.Bool.{eq-eqb, and_parts, or_parts, or_right}

@@ -1,4 +1,4 @@
--- The names of a reference are found where the rules know them (ISO/IEC 9075:1992, 11.8).
+-- The names of a reference are found if the rules know them (ISO/IEC 9075:1992, 11.8).
 use Rattle.std.proofs.Common.{◌≡◌, ℕ, Bool, true, false, cond, not, ◌||◌, List, [], ◌∷◌, map, Option, Some, None, Ok, Err, refl, sym, ap, subst, ◌∙◌}
 use Rattle.std.proofs.lemmas.List.{append-nil}
 use Rattle.std.specs.List.{AllZip, flat_map, list_any}

@@ -1,5 +1,5 @@
--- Schema texts are refused exactly where the rules refuse them, with the same first refusal; and a catalog that is answered is that of their
--- elements (ISO/IEC 9075:1992, 11.1).
+-- Schema texts are refused exactly if the rules refuse them, with the same first refusal. A catalog that is answered is the catalog of
+-- their elements (ISO/IEC 9075:1992, 11.1).
 use Rattle.std.proofs.Common.{◌≡◌, Bool, true, false, ◌||◌, List, [], ◌∷◌, ◌++◌, Option, Some, None, Ok, Err, refl, sym, ap, ◌∙◌}
 use Rattle.std.proofs.lemmas.List.Folds.{list_any-append}
 use Rattle.std.specs.List.{AllByRecursion, fold}

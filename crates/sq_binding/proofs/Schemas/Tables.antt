@@ -1,4 +1,4 @@
--- CREATE TABLE is accepted exactly where the rules refuse nothing of it, and else refused for the first fault in their order (ISO/IEC
+-- CREATE TABLE is accepted exactly if the rules refuse nothing of it, and else refused for the first fault in their order (ISO/IEC
 -- 9075:1992, 11.3 to 11.9).
 use Rattle.std.proofs.Common.{◌≡◌, ℕ, suc, Bool, true, false, cond, not, ◌&&◌, ◌||◌, List, [], ◌∷◌, ◌++◌, arith, length, map, Option, Some, None, Ok, Err, refl, sym, ap, subst, ◌∙◌}
 use Rattle.std.proofs.lemmas.Grind.{common_steps}

@@ -1,6 +1,6 @@
--- What a value expression, a search condition and a query specification are bound to is well formed, where the bound tree is seen as what
--- the definitions compute: with all that is noted of it, and the numbers of its subqueries (ISO/IEC 9075:1992, 6.2 to 6.5, 6.11, 7.3 to
--- 7.9, 7.11 and clause 8).
+-- A bound value expression, search condition and query specification is well formed, with all notes on it and the numbers of its
+-- subqueries. The bound tree is seen as the one that the definitions compute (ISO/IEC 9075:1992, 6.2 to 6.5, 6.11, 7.3 to 7.9, 7.11 and
+-- clause 8).
 use Rattle.std.proofs.Common.{◌≡◌, ℕ, Bool, false, List, [], ◌++◌, length, map, Ok, sym, ap, subst, ◌∙◌, append_assoc}
 use Rattle.std.proofs.lemmas.List.{length-map, map-append}
 use Rattle.std.proofs.lemmas.Simd.{map-map}

@@ -1,5 +1,5 @@
--- The values and subqueries of search conditions are bound to trees by place that are well formed at the levels of their scopes, with
--- their set functions in the order of the text (ISO/IEC 9075:1992, 6.5, 7.11 and clause 8).
+-- The values and subqueries of search conditions are bound to trees by place that are well formed at the levels of their scopes. Their
+-- set functions are in the order of the text (ISO/IEC 9075:1992, 6.5, 7.11 and clause 8).
 use Rattle.std.proofs.Common.{◌≡◌, ℕ, zero, suc, ◌+◌, Bool, true, false, ◌||◌, List, [], ◌∷◌, ◌++◌, length, Option, Some, None, Ok, refl, sym, ap, subst, ◌∙◌, append_assoc}
 use Rattle.std.proofs.lemmas.List.{append-nil}
 use Rattle.std.specs.Prelude.{⊤, IsTrue, nat_eq, if◌then◌else◌}

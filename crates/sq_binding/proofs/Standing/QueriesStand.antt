@@ -1,4 +1,4 @@
--- Search conditions and query specifications are bound to trees by place that are well formed at the levels of their scopes, and the
+-- Search conditions and query specifications are bound to trees by place that are well formed at the levels of their scopes. The
 -- columns of a query specification are of the kinds that are known beforehand (ISO/IEC 9075:1992, 7.3 to 7.9, 7.11 and clause 8).
 use Rattle.std.proofs.Common.{◌≡◌, ◌⊎◌, inl, inr, Bool, true, false, not, ◌||◌, List, [], ◌∷◌, ◌++◌, length, map, Ok, refl, sym, ap, subst, ◌∙◌}
 use Rattle.std.proofs.lemmas.List.{append-nil}

@@ -1,4 +1,5 @@
--- What the definitions see of bound conditions and query specifications, level by level.
+-- The parts of bound conditions and query specifications that the definitions see, level
+-- by level.
 use Rattle.std.proofs.Common.{◌≡◌, ℕ, Bool, List, Option, Some, None, sym, ◌∙◌, ap, map}
 use Rattle.std.specs.Option.{option_map}
 use Rattle.sq_tree.specs.declared.cond.Comparison.{Comparison}

@@ -1,5 +1,5 @@
--- What is noted of bound trees is so, where it is so of what the definitions see of them: of each test of a condition, and of each query
--- specification in one, at any depth (ISO/IEC 9075:1992, 6.5, 7.3 to 7.9, 7.11 and 8.12).
+-- The notes on bound trees are true if they are true of the parts that the definitions see. They are on each test of a condition, and on
+-- each query specification in one, at any depth (ISO/IEC 9075:1992, 6.5, 7.3 to 7.9, 7.11 and 8.12).
 use Rattle.std.proofs.Common.{◌≡◌, ℕ, Bool, true, false, List, [], ◌∷◌, ◌++◌, map, Option, Some, None, sym, ap, subst, ◌∙◌}
 use Rattle.std.specs.Option.{option_map}
 use Rattle.std.specs.Prelude.{IfSome}

@@ -1,4 +1,4 @@
--- The subqueries of a bound tree have numbers, each at most once, where those of what the definitions see of it are counted, and what has
+-- The subqueries of a bound tree have numbers, each at most once, if the subqueries that the definitions see are counted. A subquery with
 -- a number is closed (ISO/IEC 9075:1992, 7.9, 7.11 and 8.12).
 use Rattle.std.proofs.Common.{◌≡◌, ℕ, suc, ◌+◌, Bool, true, false, List, [], ◌∷◌, ◌++◌, map, Option, Some, None, arith, option_to_list, refl, sym, ap, subst, ◌∙◌}
 use Rattle.std.specs.Option.{option_map}

@@ -1,5 +1,5 @@
--- What the definitions see of bound query expressions, level by level (ISO/IEC 9075:1992, 7.10), and that the columns that are noted with
--- them are theirs.
+-- The parts of bound query expressions that the definitions see, level by level (ISO/IEC 9075:1992, 7.10). The columns noted with them
+-- are theirs.
 use Rattle.std.proofs.Common.{◌≡◌, List, [], ◌∷◌, map, refl, sym, ap, subst, ◌∙◌}
 use Rattle.std.specs.List.{AllByRecursion}
 use Rattle.std.specs.Prelude.{⊤, fold}

@@ -1,5 +1,5 @@
--- The tree by place of a bound search condition or query specification is that of what the definitions see of it (ISO/IEC 9075:1992, 7.9
--- and 8.12).
+-- The tree by place of a bound search condition or query specification is the tree of the part that the definitions see (ISO/IEC
+-- 9075:1992, 7.9 and 8.12).
 use Rattle.std.proofs.Common.{◌≡◌, ℕ, Bool, true, false, List, [], ◌∷◌, map, Option, Some, None, refl, sym, ap, ◌∙◌}
 use Rattle.std.specs.Option.{option_map}
 use Rattle.std.specs.Prelude.{IfSome}

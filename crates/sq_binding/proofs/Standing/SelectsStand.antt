@@ -1,5 +1,5 @@
--- The select lists, FROM items and grouping columns of query specifications are bound to trees by place that are well formed at the levels
--- of their scopes (ISO/IEC 9075:1992, 7.4, 7.7 and 7.9).
+-- The select lists, FROM items and grouping columns of query specifications are bound to trees by place. These are well formed at the
+-- levels of their scopes (ISO/IEC 9075:1992, 7.4, 7.7 and 7.9).
 use Rattle.std.proofs.Common.{◌≡◌, ◌⊎◌, inl, inr, ℕ, zero, suc, ◌+◌, Bool, true, false, not, ◌&&◌, ◌||◌, List, [], ◌∷◌, ◌++◌, map, Some, Ok, Err, arith, refl, sym, ap, subst, ◌∙◌, add-zero, append_assoc, zero-add}
 use Rattle.std.specs.Prelude.{IsTrue, nat_eq, nat_lt, slice_get}
 use Rattle.std.specs.List.{AllByRecursion, AllZip, enumerate_from, flat_map}

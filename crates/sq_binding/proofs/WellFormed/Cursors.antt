@@ -1,5 +1,5 @@
--- A cursor that is bound as the definitions compute it fits the base tables, is well formed, has subqueries with numbers of their own, and is
--- the one that is written (ISO/IEC 9075:1992, 7.9, 7.10 and 13.1).
+-- A cursor that is bound as the definitions compute it fits the base tables and is well formed. Its subqueries have numbers of their own,
+-- and it is the written one (ISO/IEC 9075:1992, 7.9, 7.10 and 13.1).
 use Rattle.std.proofs.Common.{◌≡◌, ℕ, Bool, true, false, not, ◌&&◌, List, [], ◌∷◌, map, Option, Some, None, Ok, refl, sym, ap, subst, ◌∙◌}
 use Rattle.std.specs.List.{AllByRecursion}
 use Rattle.std.specs.Prelude.{fold, is_none, if◌then◌else◌}

@@ -1,4 +1,4 @@
--- A query expression that is bound as the definitions compute it is well formed, its subqueries have numbers of their own, and its columns
+-- A query expression that is bound as the definitions compute it is well formed. Its subqueries have numbers of their own, and its columns
 -- have the names of the text (ISO/IEC 9075:1992, 7.10).
 use Rattle.std.proofs.Common.{◌≡◌, ℕ, Bool, true, false, ◌&&◌, List, [], ◌∷◌, ◌++◌, length, map, Option, Ok, Err, refl, sym, ap, subst, arith, ◌∙◌, eq-eqb}
 use Rattle.std.proofs.lemmas.Simd.{map-map}

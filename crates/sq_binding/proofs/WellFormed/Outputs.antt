@@ -1,4 +1,4 @@
--- The targets of FETCH and of SELECT INTO, and the orientations of FETCH, are those that are written, and agree with the columns and with
+-- The targets of FETCH and of SELECT INTO, and the orientations of FETCH, are the written ones. They agree with the columns and with
 -- whole numbers (ISO/IEC 9075:1992, 9.1, 13.3 and 13.5).
 use Rattle.std.proofs.Common.{◌≡◌, ◌<◌, ℕ, Bool, true, false, not, ◌&&◌, ◌||◌, List, [], ◌∷◌, ◌++◌, length, map, Option, Some, None, Ok, Err, refl, sym, ap, subst, arith, ◌∙◌, lt-ltb}
 use Rattle.std.proofs.lemmas.Bool.{eqb-true}

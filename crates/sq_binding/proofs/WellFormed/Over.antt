@@ -1,5 +1,5 @@
--- An updatable query, as it is bound: over the table that its text names, its rows are those of the base table under it that meet its
--- condition, and it shows columns of that (ISO/IEC 9075:1992, 7.9).
+-- An updatable query, as it is bound, over the table that its text names. Its rows are the rows of the base table under it that meet
+-- its condition, and it shows columns of that table (ISO/IEC 9075:1992, 7.9).
 use Rattle.std.proofs.Common.{◌≡◌, ℕ, Bool, true, false, List, [], ◌∷◌, Option, Some, None, Ok, refl, sym, ap, subst, ◌∙◌}
 use Rattle.std.specs.List.{AllZip}
 use Rattle.std.specs.Option.{option_and_then, option_map}

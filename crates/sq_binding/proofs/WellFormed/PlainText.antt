@@ -1,5 +1,5 @@
--- The text of a query specification over one table whose rows are rows of that table: without DISTINCT, groups and HAVING; and what its
--- select list becomes (ISO/IEC 9075:1992, 7.9).
+-- The text of a query specification over one table whose rows are rows of that table. It has no DISTINCT, groups and HAVING; its select
+-- list is placed (ISO/IEC 9075:1992, 7.9).
 use Rattle.std.proofs.Common.{◌≡◌, ℕ, Bool, true, false, List, [], ◌∷◌, Option, Ok, Err, refl, sym, ap, ◌∙◌}
 use Rattle.sq_tree.specs.declared.names.ColumnReference.{ColumnReference}
 use Rattle.sq_meaning.specs.Environment.{Place, TableReference}

@@ -1,5 +1,5 @@
--- A statement that is bound as the definitions compute it fits what it was bound for, is well formed, and is the one that is written
--- (ISO/IEC 9075:1992, 13.2 to 13.10, 14.3 and 14.4).
+-- A statement that is bound as the definitions compute it fits its tables, cursors and parameters. It is well formed, and is the
+-- written one (ISO/IEC 9075:1992, 13.2 to 13.10, 14.3 and 14.4).
 use Rattle.std.proofs.Common.{◌≡◌, ◌<◌, ℕ, Bool, List, [], ◌∷◌, length, map, Option, Some, Ok, refl, sym, ap, subst, ◌∙◌}
 use Rattle.std.proofs.lemmas.Simd.{map-map}
 use Rattle.std.specs.List.{AllByRecursion}

@@ -1,5 +1,5 @@
--- The query of a view is well formed, and is the text with its names placed; where it is updatable, so is what it is over (ISO/IEC
--- 9075:1992, 11.19).
+-- The query of a view is well formed, and is the text with its names placed. If it is updatable, the same holds for its query over
+-- the base table (ISO/IEC 9075:1992, 11.19).
 use Rattle.std.proofs.Common.{◌≡◌, Bool, List, [], map, Option, Some, None, Ok, sym, ap, subst, ◌∙◌}
 use Rattle.std.proofs.lemmas.Simd.{map-map}
 use Rattle.std.specs.Option.{option_map}

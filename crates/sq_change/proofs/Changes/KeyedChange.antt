@@ -1,4 +1,4 @@
--- What a searched statement reads is what its search reads.
+-- A searched statement reads the same as its search.
 use Rattle.std.proofs.Common.{◌≡◌, ◌+◌, ◌≤◌, ℕ, List, subst}
 use Rattle.sq_lex.specs.declared.name.Name.{Name}
 use Rattle.sq_value.specs.declared.value.Value.{Value}

@@ -1,4 +1,4 @@
--- What INSERT, UPDATE and DELETE come to (ISO/IEC 9075:1992, 13.6 to 13.10).
+-- The outcomes of INSERT, UPDATE and DELETE (ISO/IEC 9075:1992, 13.6 to 13.10).
 use Rattle.std.proofs.Common.{◌≡◌, ◌∙◌, ℕ, true, List, [], ◌∷◌, map, Option, Result, Ok, Err, ap, refl, subst, sym}
 use Rattle.sq_value.specs.declared.value.Value.{Value}
 use Rattle.sq_store.specs.Change.{rows_put}

@@ -1,4 +1,4 @@
--- NOT NULL and references hold after a change, where they held before it (ISO/IEC 9075:1992, 11.4 and 11.8).
+-- NOT NULL and references hold after a change, if they held before it (ISO/IEC 9075:1992, 11.4 and 11.8).
 use Rattle.std.proofs.Common.{◌≡◌, ℕ, ◌⊎◌, inl, inr, Bool, true, false, nat_eq, List, Result, Ok, Err, is_err, slice_get, Some, refl, sym, ap, subst, ◌∙◌}
 use Rattle.std.specs.List.{Contains, enumerate_from, list_all}
 use Rattle.std.proofs.lemmas.Bool.{and_from, and_parts, eqb-true}

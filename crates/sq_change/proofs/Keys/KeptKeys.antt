@@ -1,4 +1,4 @@
--- What INSERT, UPDATE and DELETE leave of the values in keys, and that the rows that they put in a table are there afterwards.
+-- The values in keys that INSERT, UPDATE and DELETE leave, and that the rows that they put in a table are in it afterwards.
 use Rattle.std.proofs.Common.{◌≡◌, ℕ, true, false, nat_eq, List, [], ◌∷◌, map, is_some, Option, Ok, Err, refl, sym, ap, subst, ◌∙◌}
 use Rattle.std.specs.List.{AllByRecursion, Any, list_any}
 use Rattle.std.proofs.lemmas.List.Folds.{Any-from_list_any}

@@ -1,4 +1,4 @@
--- What ends with no 42000.
+-- Parts that never end with 42000.
 use Rattle.std.proofs.Common.{◌≡◌, ◌⊎◌, List, [], sym, subst, inl, inr, Result, Ok, Err}
 use Rattle.std.specs.Prelude.{⊤, IfErr, IsErrAnd}
 use Rattle.sq_lex.specs.declared.name.Name.{Name}

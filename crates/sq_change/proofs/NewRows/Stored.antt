@@ -1,4 +1,4 @@
--- What is stored is what is assigned, with the statuses of its faults.
+-- The stored value is the assigned one, with the statuses of its faults.
 use Rattle.std.proofs.Common.{◌≡◌, Result, Ok, Err, subst}
 use Rattle.sq_value.specs.Storing.{IsStored, stored}
 use Rattle.sq_value.specs.declared.domain.Domain.{Domain}

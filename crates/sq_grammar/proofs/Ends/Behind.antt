@@ -1,4 +1,4 @@
--- What stands behind a bracket that is one of `left + 1` is what stands outside, where `left` may be opened.
+-- The rules after a bracket that is one of `left + 1` are the rules outside, if `left` may be opened.
 use Rattle.std.proofs.Common.{◌≡◌, ℕ, ◌+◌, refl, add-one}
 use Rattle.sq_grammar.specs.Expr as expressions
 use Rattle.sq_grammar.specs.Cond as conditions

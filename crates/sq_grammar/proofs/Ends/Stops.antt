@@ -1,4 +1,4 @@
--- Where reading stops: at a later part, or at this one.
+-- The places where reading stops: at a later part, or at this one.
 use Rattle.std.proofs.Common.{◌≡◌, Ok, ◌∙◌, ap}
 use Rattle.sq_grammar.specs.Reading.{Tokens, Parser, ◌>>=◌, and_then}
 use Rattle.sq_grammar.specs.declared.stop.Stop.{Stop}

@@ -1,4 +1,5 @@
--- The tokens of a search condition are read as it, and those of an expression, where a condition may begin with one, as that.
+-- The tokens of a search condition are read as it. If a condition may begin with an expression, the expression's tokens are
+-- read as the expression.
 use Rattle.std.proofs.Common.{◌≡◌, ℕ, zero, suc, ◌<◌, max, Bool, true, false, List, [], ◌∷◌, ◌++◌, length, map, Option, Some, None, refl, sym, ◌∙◌, ap, subst, arith, append_assoc, append-nil}
 use Rattle.std.specs.List.{flat_map}
 use Rattle.sq_lex.specs.declared.lexeme.Lexeme.TheVariants as lexeme

@@ -1,4 +1,5 @@
--- A text that is refused has no tree, or only trees that are too deep; and then it is refused at the bracket that is one too many.
+-- A text that is refused has no tree, or only trees that are too deep. In the second case it is refused at the bracket that is one
+-- too many.
 use Rattle.std.proofs.Common.{◌≡◌, ℕ, ◌-◌, ◌<◌, Bool, true, false, ◌&&◌, [], ◌∷◌, ◌++◌, length, take, drop, Ok, Err, nat_lt, nat_eq, refl, sym, ◌∙◌, ap, subst, arith, append-nil, length-append}
 use Rattle.std.proofs.lemmas.Bool.{ltb-true, ltb-false}
 use Rattle.std.proofs.Math.Seq.{take-append_seam, drop-append_seam}

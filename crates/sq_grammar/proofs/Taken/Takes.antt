@@ -1,5 +1,5 @@
--- What a parser makes of the tokens that spell a tree: it takes the tree, or it stops at the first bracket that is one too many.
--- So no text of the grammar is refused but for its depth, and no two trees have one list of tokens.
+-- The result of a parser on the tokens that spell a tree. It takes the tree, or it stops at the first bracket that is one too many. So
+-- every text of the grammar is taken unless it is too deep, and no two trees have one list of tokens.
 use Rattle.std.proofs.Common.{◌≡◌, ℕ, zero, suc, ◌+◌, ◌<◌, ◌≤◌, max, Bool, true, false, cond, List, [], ◌∷◌, ◌++◌, length, map, Option, Some, None, Ok, Err, nat_lt, nat_eq, refl, sym, ◌∙◌, ap, subst, arith, append_assoc, length-append}
 use Rattle.std.specs.List.{fold, flat_map}
 use Rattle.std.proofs.lemmas.List.Sums.{fold-append}

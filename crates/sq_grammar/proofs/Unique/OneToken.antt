@@ -1,4 +1,4 @@
--- Two words or symbols that are one token stand for the same.
+-- Two words or symbols that are one token mean the same.
 use Rattle.std.proofs.Common.{◌≡◌, [], ◌∷◌, sym, ◌∙◌, ap, Option, Some}
 use Rattle.sq_lex.specs.declared.lexeme.Lexeme.{Lexeme}
 use Rattle.sq_grammar.specs.Reading.{first_of}

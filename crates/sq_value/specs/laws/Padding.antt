@@ -6,7 +6,7 @@ use Rattle.std.specs.Ordering.{nat_cmp, ordering_then}
 use Rattle.std.specs.Cmp.Lexicographic.{slice_cmp}
 use Rattle.sq_value.specs.Comparison.{texts_compared, padded}
 
--- the comparison from the front, where a list that has ended goes on with blanks
+-- the comparison from the front, as if a list that has ended went on with blanks
 abbrev pub from_front : List ℕ → List ℕ → Ordering
 from_front [] [] = Equal
 from_front [] (y ∷ ys) = ordering_then (nat_cmp 32 y) (from_front [] ys)
@@ -42,7 +42,7 @@ padded_is (suc n) (x ∷ xs) (y ∷ ys) p q =
 pub front_is : (xs ys : List ℕ) → texts_compared xs ys ≡ from_front xs ys
 front_is xs ys = padded_is (max (length xs) (length ys)) xs ys (omega arith) (omega arith)
 
--- what is left of a list from a place on, and what the code reads there
+-- the rest of a list from a place on, and the code read there
 at_place : (xs : List ℕ) (i : ℕ)
     → (drop i xs ≡ get_or xs i 32 ∷ drop (suc i) xs) ⊎ ((drop i xs ≡ []) × (get_or xs i 32 ≡ 32)
     × (drop (suc i) xs ≡ []))

@@ -73,7 +73,7 @@ same_is (Chars s) (Chars t) = refl
 pub same_equiv : IsEquivalence is_same
 same_equiv = subst IsEquivalence (λ i v w. sym (same_is v w) i) (eq_by_cmp_equiv values_total)
 
--- ---- what a hasher is fed
+-- ---- the writes to a hasher
 
 negated_quotient : (n k : ℕ) → int_div (neg_ℤ (pos n)) (pos k) ≡ neg_ℤ (pos (n / k))
 negated_quotient zero k = ap pos (zero-div k) ∙ sym (ap (λ q. neg_ℤ (pos q)) (zero-div k))

@@ -1,11 +1,12 @@
--- What the private functions of LIKE answer, and what they keep from item to item.
+-- The answers of the private functions of LIKE, and the facts that they keep from
+-- item to item.
 use Rattle.std.specs.Prelude.{ℕ, ◌≡◌, ◌==◌, Bool, true, false, Result, Ok, Err, List, length, drop, slice_index_or, ◌+◌, ◌≤◌}
 use Rattle.sq_value.specs.Pattern.{can_be_cut}
 use Rattle.sq_value.specs.declared.fault.LikeFault.{LikeFault}
 use Rattle.sq_value.specs.declared.pattern.Item.{Item}
 use Rattle.sq_value.specs.declared.pattern.Item.TheVariants.{AnyRun, AnyOne, This}
 
--- for each place of a text, whether what stands from there on can be cut
+-- for each place of a text, whether the rest from there on can be cut
 pub record AreCuts (items : List Item) (text : List ℕ) (cuts : List Bool) : Type 0 where
   pub long : length cuts ≡ length text + 1
   pub each : (k : ℕ) → k ≤ length text → slice_index_or cuts k false ≡ can_be_cut items (drop k text)

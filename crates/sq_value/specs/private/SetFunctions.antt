@@ -1,4 +1,5 @@
--- What the private functions of the set functions answer, and what they keep from value to value.
+-- The answers of the private functions of the set functions, and the facts that they keep from
+-- value to value.
 use Rattle.std.specs.Prelude.{ℕ, ℤ, pos, Option, Some, None, is_some, Bool, List, [], ◌∷◌, if◌then◌else◌}
 use Rattle.sq_value.specs.Number.{Number}
 use Rattle.sq_value.specs.SetFunctions.{number_in, is_null, surpasses}
@@ -6,7 +7,7 @@ use Rattle.sq_value.specs.declared.set_functions.Extreme.{Extreme}
 use Rattle.sq_value.specs.declared.value.Value.{Value}
 use Rattle.sq_value.specs.declared.value.Value.TheVariants.{Null, Num, Chars}
 
--- what a value adds to the sum of the unscaled values
+-- the summand of a value in the sum of the unscaled values
 abbrev pub unscaled_of : Value → ℤ
 unscaled_of Null = pos 0
 unscaled_of (Num n) = n.unscaled
