@@ -4,7 +4,7 @@ ghost use Rattle.std.specs.Prelude.{◌≡◌, ◌≤◌, length};
 ghost use Rattle.sq_advice.specs.Named as spec;
 
 use crate::kind::TextKind;
-use crate::names::{before, behind, is_symbol, is_word};
+use crate::names::{index_after, index_before, is_symbol, is_word};
 use sq_lex::{Symbol, Token, Word};
 
 /// Whether an element of a text begins at the token of this number.
@@ -20,7 +20,7 @@ pub(crate) fn begins_at(kind: TextKind, tokens: &[Token], index: usize) -> bool 
 
 /// Whether a grant begins at the token of this number; none does at the second word of WITH GRANT OPTION.
 fn is_grant(tokens: &[Token], index: usize) -> bool {
-    is_word(tokens, index, Word::Grant) && !is_word(tokens, behind(index), Word::Option)
+    is_word(tokens, index, Word::Grant) && !is_word(tokens, index_after(index), Word::Option)
 }
 
 /// How many tokens stand before the next element.
@@ -29,7 +29,11 @@ pub(crate) fn next_start(kind: TextKind, tokens: &[Token]) -> usize
 {
     let found = match kind {
         TextKind::Script => {
-            (0..tokens.len()).find(|index| is_symbol(tokens, before(*index), Symbol::Semicolon))
+            (0..tokens.len()).find(|index| is_symbol(
+                tokens,
+                index_before(*index),
+                Symbol::Semicolon,
+            ))
         }
         _ => (0..tokens.len()).find(|index| begins_at(kind, tokens, *index)),
     };
@@ -45,7 +49,7 @@ pub(crate) fn last_start(kind: TextKind, tokens: &[Token]) -> usize {
         TextKind::Script => {
             (0..tokens.len()).rev().find(|index| is_symbol(
                 tokens,
-                before(*index),
+                index_before(*index),
                 Symbol::Semicolon,
             ))
         }
@@ -81,7 +85,7 @@ fn depth_behind(open: usize, tokens: &[Token], index: usize) -> usize {
 /// How many brackets of a table's definition are open behind these tokens; 0 where they end in none.
 pub(crate) fn open_in_table(tokens: &[Token]) -> usize {
     let start = last_start(TextKind::Schema, tokens);
-    if is_word(tokens, behind(start), Word::Table) {
+    if is_word(tokens, index_after(start), Word::Table) {
         open_behind(&tokens[start.min(tokens.len())..])
     } else {
         0

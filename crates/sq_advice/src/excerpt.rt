@@ -37,12 +37,12 @@ fn push_margin(out: &mut Vec<u8>, length: usize) -> Result<(), AllocError> {
 /// Adds a line in printable characters and tabs; any other byte stands as `?`.
 fn push_shown(out: &mut Vec<u8>, line: &[u8]) -> Result<(), AllocError> {
     for byte in line {
-        out.push(shown(*byte))?;
+        out.push(show_byte(*byte))?;
     }
     Ok(())
 }
 
-fn shown(byte: u8) -> u8 {
+fn show_byte(byte: u8) -> u8 {
     match byte {
         b' '..=b'~' | b'\t' => byte,
         b'\r' => b' ',

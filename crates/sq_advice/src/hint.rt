@@ -69,14 +69,14 @@ fn fits(pattern: &str, text: &[u8], token: Option<&Token>) -> bool {
 /// The hint for a spot, if there is one: the first of those for the kind of text, or of those for all.
 pub(crate) fn hint_of(spot: &Spot<'_>) -> Option<&'static Hint> {
     let own = match spot.kind {
-        TextKind::Schema => first_of(&SCHEMAS, spot).or(first_of(&TYPES, spot)),
-        TextKind::Module => first_of(&MODULES, spot).or(first_of(&TYPES, spot)),
-        TextKind::Script => first_of(&SCRIPTS, spot),
+        TextKind::Schema => find_first(&SCHEMAS, spot).or(find_first(&TYPES, spot)),
+        TextKind::Module => find_first(&MODULES, spot).or(find_first(&TYPES, spot)),
+        TextKind::Script => find_first(&SCRIPTS, spot),
     };
-    own.or(first_of(&QUERIES, spot))
-        .or(first_of(&ANYWHERE, spot))
+    own.or(find_first(&QUERIES, spot))
+        .or(find_first(&ANYWHERE, spot))
 }
 
-fn first_of(hints: &'static [Hint], spot: &Spot<'_>) -> Option<&'static Hint> {
+fn find_first(hints: &'static [Hint], spot: &Spot<'_>) -> Option<&'static Hint> {
     hints.iter().find(|hint| hint.is_for(spot))
 }

@@ -3,7 +3,7 @@
 use crate::advice::{Advice, Trouble, What};
 use crate::line::first_line;
 use crate::offset::offset_of;
-use crate::spelled::{behind, is_of_word, length_of_literal, length_of_word};
+use crate::spelled::{bytes_from, is_of_word, length_of_literal, length_of_word};
 use sq_lex::{LexError, LexFault, LexFaultKind, Token, lex};
 use std::alloc::{AllocError, Global};
 
@@ -39,10 +39,10 @@ fn pass_piece(
     troubles: &mut Vec<Trouble>,
 ) -> Result<(), AllocError> {
     let start = offset_of(text.as_slice(), fault.line, fault.column);
-    let length = length_of_piece(behind(text.as_slice(), start), fault.kind);
+    let length = length_of_piece(bytes_from(text.as_slice(), start), fault.kind);
     let advice = advice_on(
         alloc,
-        behind(text.as_slice(), start),
+        bytes_from(text.as_slice(), start),
         fault.kind,
         start,
         length,
@@ -132,7 +132,7 @@ fn advice_on(
     length: usize,
 ) -> Result<Advice, AllocError> {
     let piece = &text[..length.min(text.len())];
-    let found = found_of(alloc, piece, kind)?;
+    let found = describe_piece(alloc, piece, kind)?;
     let hint = hint_of(alloc, piece, kind)?;
     Ok(Advice {
         start,
@@ -144,7 +144,7 @@ fn advice_on(
 }
 
 /// What a piece is.
-fn found_of(alloc: Global, piece: &[u8], kind: LexFaultKind) -> Result<Vec<u8>, AllocError> {
+fn describe_piece(alloc: Global, piece: &[u8], kind: LexFaultKind) -> Result<Vec<u8>, AllocError> {
     let mut words = Vec::new(alloc);
     match kind {
         LexFaultKind::BadByte => add_bad(&mut words, alloc, piece)?,

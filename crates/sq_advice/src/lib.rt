@@ -42,7 +42,7 @@ pub use kind::TextKind;
 pub use meaning::Module;
 pub use offset::offset_of;
 pub use pass::troubles_of;
-pub use passed::{Piece, Why, passed_over};
+pub use passed::{Piece, Why, pass_over};
 pub use schemas::Schemas;
 pub use slips::{Doubt, Slip, slips_of};
 pub use source::Source;

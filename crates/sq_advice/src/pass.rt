@@ -4,13 +4,13 @@ ghost use Rattle.std.specs.Prelude.{◌≤◌, length};
 
 use crate::advice::{Advice, Trouble, What};
 use crate::element::{last_comma, last_start, next_comma, next_start, open_in_table};
-use crate::expected::{called, expected, is_name, stands_for_names, tried};
+use crate::expected::{describe, find_expected, is_name, stands_for_names, tokens_to_try};
 use crate::hint::{Spot, hint_of};
 use crate::kind::{TextKind, refusal_of};
 use crate::lexical::{MOST, tokens_of};
 use crate::meaning::place_of;
 use crate::names::read;
-use crate::stands::found_at;
+use crate::stands::describe_spot;
 use sq_lex::Token;
 use sq_parse::ParseError;
 use std::alloc::{AllocError, Global};
@@ -62,7 +62,7 @@ fn pass(
     drop(before);
     let after = rest.split_off(way.next.min(rest.len()))?;
     drop(rest);
-    behind_head(alloc, way.head, after)
+    prepend_head(alloc, way.head, after)
 }
 
 /// Where reading goes on behind an error.
@@ -126,7 +126,7 @@ fn start_of_element(kind: TextKind, tokens: &[Token]) -> usize {
 }
 
 /// Tokens behind the head of a text.
-fn behind_head(alloc: Global, head: &[u8], tokens: Vec<Token>) -> Result<Vec<Token>, AllocError> {
+fn prepend_head(alloc: Global, head: &[u8], tokens: Vec<Token>) -> Result<Vec<Token>, AllocError> {
     let mut all = read(alloc, head)?;
     for token in tokens {
         all.push(token)?;
@@ -152,8 +152,8 @@ fn trouble_at(
     at: Option<&Token>,
     refusal: ParseError,
 ) -> Result<Trouble, AllocError> {
-    let tried = tried(alloc)?;
-    let fit = expected(alloc, kind, before, tried.as_slice())?;
+    let tried = tokens_to_try(alloc)?;
+    let fit = find_expected(alloc, kind, before, tried.as_slice())?;
     drop(tried);
     let spot = Spot {
         kind,
@@ -163,7 +163,7 @@ fn trouble_at(
         expected: fit.as_slice(),
     };
     let advice = match refusal {
-        ParseError::TooDeep(_) => too_deep(alloc, &spot),
+        ParseError::TooDeep(_) => advice_on_depth(alloc, &spot),
         _ => advice_at(alloc, &spot),
     };
     drop(fit);
@@ -179,7 +179,7 @@ fn trouble_at(
 /// What is said where a token is unexpected or missing.
 fn advice_at(alloc: Global, spot: &Spot<'_>) -> Result<Advice, AllocError> {
     let hint = hint_of(spot);
-    let found = found_at(alloc, spot, hint)?;
+    let found = describe_spot(alloc, spot, hint)?;
     let says = match hint {
         Some(hint) => Vec::from_slice(alloc, hint.says.as_bytes())?,
         None => Vec::new(alloc),
@@ -195,7 +195,7 @@ fn advice_at(alloc: Global, spot: &Spot<'_>) -> Result<Advice, AllocError> {
     })
 }
 
-fn too_deep(alloc: Global, spot: &Spot<'_>) -> Result<Advice, AllocError> {
+fn advice_on_depth(alloc: Global, spot: &Spot<'_>) -> Result<Advice, AllocError> {
     let (start, length) = place_of(spot.text, spot.at.or(spot.before));
     Ok(Advice {
         start,
@@ -212,7 +212,7 @@ fn names_of(alloc: Global, tokens: &[Token]) -> Result<Vec<&'static [u8]>, Alloc
     let has_name = tokens.iter().any(|token| stands_for_names(token));
     for token in tokens {
         if !has_name || stands_for_names(token) || !is_name(token) {
-            names.push(called(token))?;
+            names.push(describe(token))?;
         }
     }
     Ok(names)

@@ -8,8 +8,8 @@ use crate::element::begins_at;
 use crate::kind::TextKind;
 use crate::lexical::{is_in_comment, tokens_of};
 use crate::line::first_line;
-use crate::names::{behind, is_word};
-use crate::spelled::{behind as bytes_behind, length_of_word, spelled};
+use crate::names::{index_after, is_word};
+use crate::spelled::{bytes_from as bytes_behind, length_of_word, spelling_of};
 use sq_lex::{Token, Word};
 use std::alloc::{AllocError, Global};
 
@@ -34,7 +34,7 @@ pub struct Piece {
 /// A text in which what is refused at a byte is passed over: its element; in the head of a text, or of a schema, the token or the piece
 /// alone. Nothing where the head can't be mended so.
 #[tactic(auto, using(crate::proofs::Left::one_left))]
-pub fn passed_over(
+pub fn pass_over(
     alloc: Global,
     kind: TextKind,
     text: &[u8],
@@ -49,7 +49,7 @@ pub fn passed_over(
         piece_around(alloc, kind, text, at, why)?
     };
     match piece {
-        Some(piece) => Ok(Some(with_blanks(alloc, text, piece)?)),
+        Some(piece) => Ok(Some(blank_out(alloc, text, piece)?)),
         None => Ok(None),
     }
 }
@@ -87,7 +87,7 @@ fn piece_at(kind: TextKind, text: &[u8], tokens: &[Token], at: usize, why: Why) 
     ensures { IfSome result (IsPieceOf text.now) }
 {
     match element_at(kind, tokens, at, why) {
-        Some(index) if !is_word(tokens, behind(index), Word::Schema) => element_from(
+        Some(index) if !is_word(tokens, index_after(index), Word::Schema) => element_from(
             kind, text, tokens, index,
         ),
         Some(index) if why == Why::Element => schema_from(text, tokens, index),
@@ -113,24 +113,24 @@ fn is_up_to(tokens: &[Token], index: usize, at: usize, why: Why) -> bool {
 fn element_from(kind: TextKind, text: &[u8], tokens: &[Token], first: usize) -> Option<Piece>
     ensures { IfSome result (IsPieceOf text.now) }
 {
-    let next = (behind(first)..tokens.len()).find(|index| begins_at(kind, tokens, *index));
-    up_to(text, tokens, first, next)
+    let next = (index_after(first)..tokens.len()).find(|index| begins_at(kind, tokens, *index));
+    piece_up_to(text, tokens, first, next)
 }
 
 /// The schema that begins at the token of a number.
 fn schema_from(text: &[u8], tokens: &[Token], first: usize) -> Option<Piece>
     ensures { IfSome result (IsPieceOf text.now) }
 {
-    let next = (behind(first)..tokens.len()).find(|index| begins_schema(tokens, *index));
-    up_to(text, tokens, first, next)
+    let next = (index_after(first)..tokens.len()).find(|index| begins_schema(tokens, *index));
+    piece_up_to(text, tokens, first, next)
 }
 
 fn begins_schema(tokens: &[Token], index: usize) -> bool {
-    is_word(tokens, index, Word::Create) && is_word(tokens, behind(index), Word::Schema)
+    is_word(tokens, index, Word::Create) && is_word(tokens, index_after(index), Word::Schema)
 }
 
 /// The piece of a text from one token up to another, or to the end.
-fn up_to(text: &[u8], tokens: &[Token], first: usize, next: Option<usize>) -> Option<Piece>
+fn piece_up_to(text: &[u8], tokens: &[Token], first: usize, next: Option<usize>) -> Option<Piece>
     ensures { IfSome result (IsPieceOf text.now) }
 {
     let start = tokens.get(first)?.start;
@@ -159,7 +159,7 @@ fn piece_of_head(
             if begins_at(kind, tokens, index) {
                 return None;
             }
-            piece_of(text, at, spelled(text, tokens.get(index)?).len())
+            piece_of(text, at, spelling_of(text, tokens.get(index)?).len())
         }
     }
 }
@@ -177,7 +177,7 @@ fn piece_of(text: &[u8], start: usize, length: usize) -> Option<Piece>
 }
 
 /// The text with blanks for a piece of it.
-fn with_blanks(alloc: Global, text: &[u8], piece: Piece) -> Result<Vec<u8>, AllocError>
+fn blank_out(alloc: Global, text: &[u8], piece: Piece) -> Result<Vec<u8>, AllocError>
     requires { IsPieceOf text.now piece }
     ensures { IfOk result (λ left. left.items ≡ spec.passed text.now piece) }
 {

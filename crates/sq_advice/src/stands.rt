@@ -1,12 +1,12 @@
 //! What stands where a text is refused for its grammar.
 
 use crate::hint::{Hint, Spot};
-use crate::spelled::spelled;
+use crate::spelled::spelling_of;
 use sq_lex::{Lexeme, Token};
 use std::alloc::{AllocError, Global};
 
 /// What stands at a spot, in words; empty where its line says all.
-pub(crate) fn found_at(
+pub(crate) fn describe_spot(
     alloc: Global,
     spot: &Spot<'_>,
     hint: Option<&Hint>,
@@ -37,7 +37,7 @@ fn add_reserved(words: &mut Vec<u8>, spot: &Spot<'_>, token: &Token) -> Result<(
     if !is_word(token) || !spot.takes_names() {
         return Ok(());
     }
-    add_upper(words, spelled(spot.text, token))?;
+    add_upper(words, spelling_of(spot.text, token))?;
     words.extend_from_slice(b" is a reserved word")
 }
 

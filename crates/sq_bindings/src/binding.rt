@@ -143,7 +143,7 @@ fn add_procedure(
         (text.new.items ≡ text.old.items ++ spec.procedure_text naming.now (filling marks.now) parts.now owner procedure.now) }
 {
     let name = procedure_in(alloc, naming, owner, procedure.name)?;
-    let declarations = declared(alloc, &procedure.declarations)?;
+    let declarations = list_declarations(alloc, &procedure.declarations)?;
     let own = Marks {
         procedure: procedure.name.codes(),
         procedure_name: name.as_slice(),
@@ -181,7 +181,10 @@ fn add_parts(
 }
 
 /// The declarations of a procedure, in their order.
-fn declared(alloc: Global, declarations: &Declarations) -> Result<Vec<Declaration>, AllocError>
+fn list_declarations(
+    alloc: Global,
+    declarations: &Declarations,
+) -> Result<Vec<Declaration>, AllocError>
     ensures { IfOk result (λ list. list.items ≡ spec.declared_in declarations.now) }
 {
     match declarations {
@@ -191,12 +194,12 @@ fn declared(alloc: Global, declarations: &Declarations) -> Result<Vec<Declaratio
             list.extend_from_slice(declarations.rest.as_slice())?;
             Ok(list)
         }
-        Declarations::Bare(first, rest) => bare_declared(alloc, *first, rest.as_slice()),
+        Declarations::Bare(first, rest) => list_bare(alloc, *first, rest.as_slice()),
     }
 }
 
 #[tactic(auto, using(std::proofs::lemmas::Grind::common_steps))]
-fn bare_declared(
+fn list_bare(
     alloc: Global,
     first: Declaration,
     rest: &[BareDeclaration],

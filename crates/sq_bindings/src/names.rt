@@ -61,7 +61,7 @@ fn is_used_in_cobol(words: &[&[u8]], text: &[u8]) -> bool
 }
 
 /// A name with what stands behind one that is in use.
-fn escaped(mut name: Vec<u8>, is_used: bool, escape: &[u8]) -> Result<Vec<u8>, AllocError>
+fn escape(mut name: Vec<u8>, is_used: bool, escape: &[u8]) -> Result<Vec<u8>, AllocError>
     ensures { IfOk result (λ text. text.items ≡ spec.escaped name.items is_used escape.now) }
 {
     if is_used {
@@ -85,7 +85,7 @@ pub(crate) fn c_parameter(alloc: Global, words: &[&[u8]], name: Name) -> Result<
 {
     let text = lower(alloc, name.codes())?;
     let is_used = is_used_in_c(words, text.as_slice()) || ends_with_any(&C_ENDS, text.as_slice());
-    escaped(text, is_used, C_ESCAPE)
+    escape(text, is_used, C_ESCAPE)
 }
 
 /// The function of a procedure in C.
@@ -103,7 +103,7 @@ pub(crate) fn c_function(
     text.push(b'_')?;
     text.extend_from_slice(rest.as_slice())?;
     let is_used = is_used_in_c(words, text.as_slice());
-    escaped(text, is_used, C_ESCAPE)
+    escape(text, is_used, C_ESCAPE)
 }
 
 /// A letter of a name in COBOL.
@@ -113,7 +113,7 @@ fn cobol_code(code: u8) -> u8
     if code == b'_' { b'-' } else { code }
 }
 
-fn hyphened(alloc: Global, codes: &[u8]) -> Result<Vec<u8>, AllocError>
+fn hyphenate(alloc: Global, codes: &[u8]) -> Result<Vec<u8>, AllocError>
     ensures { IfOk result (λ text. text.items ≡ map spec.cobol_code codes.now) }
 {
     codes.iter().map(|code| cobol_code(*code)).collect(alloc)
@@ -123,7 +123,7 @@ fn hyphened(alloc: Global, codes: &[u8]) -> Result<Vec<u8>, AllocError>
 pub(crate) fn cobol_name(alloc: Global, words: &[&[u8]], name: Name) -> Result<Vec<u8>, AllocError>
     ensures { IfOk result (λ text. text.items ≡ spec.cobol_name (spec.listed words.now) name) }
 {
-    let text = hyphened(alloc, name.codes())?;
+    let text = hyphenate(alloc, name.codes())?;
     let is_used = is_used_in_cobol(words, text.as_slice());
-    escaped(text, is_used, COBOL_ESCAPE)
+    escape(text, is_used, COBOL_ESCAPE)
 }

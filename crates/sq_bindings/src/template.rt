@@ -28,7 +28,7 @@ pub(crate) struct Marks<'a> {
 }
 
 /// What stands for a byte, if it is a mark.
-fn marked<'a>(marks: &Marks<'a>, byte: u8) -> Option<&'a [u8]>
+fn text_of_mark<'a>(marks: &Marks<'a>, byte: u8) -> Option<&'a [u8]>
     ensures { option_map (λ text. text.now) result ≡ spec.marked (spec.filling marks.now) byte }
 {
     match byte {
@@ -49,7 +49,7 @@ fn marked<'a>(marks: &Marks<'a>, byte: u8) -> Option<&'a [u8]>
 fn add_byte(text: &mut Vec<u8>, marks: &Marks<'_>, byte: u8) -> Result<(), AllocError>
     ensures { OnOk result (text.new.items ≡ text.old.items ++ spec.put (spec.filling marks.now) byte) }
 {
-    match marked(marks, byte) {
+    match text_of_mark(marks, byte) {
         Some(part) => text.extend_from_slice(part),
         None => Ok(text.push(byte)?),
     }

@@ -5,4 +5,4 @@ mod entries;
 mod explain;
 
 pub use entries::text_of;
-pub use explain::{Entry, all_entries, letters_between, named, names_of, nearest};
+pub use explain::{Entry, all_entries, find_entry, letters_between, names_of, nearest_names};

@@ -186,7 +186,7 @@ impl Handle {
         let Some(host) = self.take(alloc) else {
             return Answer::NotOpen;
         };
-        let unfit = host.unfit(alloc, procedure);
+        let unfit = host.find_unfit(alloc, procedure);
         self.put(host);
         match unfit {
             Ok(None) => Answer::Done,

@@ -1,7 +1,7 @@
 //! What C holds of a host.
 ghost use Rattle.std.specs.Prelude.{◌≡◌, Some, None, MatchOption, IsSome};
 
-use crate::apart::{put_together, taken_apart};
+use crate::apart::{put_together, take_apart};
 use crate::host::Host;
 use crate::kept::Kept;
 use std::alloc::Global;
@@ -24,7 +24,7 @@ impl Handle {
     ghost use Rattle.sq_host.specs.Host.{leads_to};
 
     /// A handle that leads to nothing.
-    pub fn closed() -> Handle
+    pub fn new() -> Handle
         ensures { leads_to result ≡ None }
     {
         Handle {
@@ -38,7 +38,7 @@ impl Handle {
     {
         Handle {
             word: OPEN,
-            kept: Kept::of(taken_apart(host)),
+            kept: Kept::of(take_apart(host)),
         }
     }
 
@@ -50,7 +50,7 @@ impl Handle {
         if self.word != OPEN {
             return None;
         }
-        let Handle { word: _, kept } = replace(self, Handle::closed());
+        let Handle { word: _, kept } = replace(self, Handle::new());
         Some(put_together(kept.into_parts(alloc)))
     }
 

@@ -119,13 +119,13 @@ fn rows_of_table(
 fn copy_reversed(alloc: Global, rows: TableRows<'_, HeapStore>) -> Result<Vec<Row>, AllocError>
     ensures { IfOk result (λ copies. reverse copies.items ≡ values_in rows.entry) }
 {
-    let mut copies = copied(alloc, rows)?;
+    let mut copies = copy_rows(alloc, rows)?;
     copies.as_mut_slice().reverse();
     Ok(copies)
 }
 
 /// Copies of the rows that are still to come.
-fn copied(alloc: Global, mut rows: TableRows<'_, HeapStore>) -> Result<Vec<Row>, AllocError>
+fn copy_rows(alloc: Global, mut rows: TableRows<'_, HeapStore>) -> Result<Vec<Row>, AllocError>
     ensures { IfOk result (λ copies. copies.items ≡ values_in rows.entry) }
 {
     let mut copies = Vec::new(alloc);

@@ -17,13 +17,13 @@ pub(crate) fn add_text(alloc: Global, texts: &mut Vec<Vec<u8>>, text: &[u8]) -> 
     ensures added { result ≡ Done → spec.texts texts.new.items ≡ spec.texts texts.old.items ++ text.now ∷ [] }
     ensures none { ¬ (result ≡ Done) → spec.texts texts.new.items ≡ spec.texts texts.old.items }
 {
-    match added(alloc, texts, text) {
+    match push_copy(alloc, texts, text) {
         Ok(()) => Answer::Done,
         Err(_) => Answer::NoMemory,
     }
 }
 
-fn added(alloc: Global, texts: &mut Vec<Vec<u8>>, text: &[u8]) -> Result<(), AllocError>
+fn push_copy(alloc: Global, texts: &mut Vec<Vec<u8>>, text: &[u8]) -> Result<(), AllocError>
     ensures added { IfOk result (λ _. spec.texts texts.new.items ≡ spec.texts texts.old.items ++ text.now ∷ []) }
     ensures none { OnErr result (spec.texts texts.new.items ≡ spec.texts texts.old.items) }
 {

@@ -56,7 +56,11 @@ impl Host {
     /// The place of the first value that doesn't fit its parameter; how many values there are if the procedure has more or
     /// fewer parameters, or isn't there; none if the values fit.
     #[tactic(auto, using(crate::proofs::Places::none_unfit_at))]
-    pub(crate) fn unfit(&self, alloc: Global, procedure: usize) -> Result<Option<usize>, Answer>
+    pub(crate) fn find_unfit(
+        &self,
+        alloc: Global,
+        procedure: usize,
+    ) -> Result<Option<usize>, Answer>
         ensures place { IfOk result (λ place.
             and_then (unfit_in procedure self.now.values.items) (opened self.now.processor) ≡ Ok place) }
         ensures taken { IfOk result (λ place.
@@ -73,7 +77,7 @@ impl Host {
         if processor.fits(procedure, values) {
             return Ok(None);
         }
-        match first_unfit(alloc, processor, procedure, values) {
+        match find_first_unfit(alloc, processor, procedure, values) {
             Ok(place) => Ok(Some(place)),
             Err(_) => Err(Answer::NoMemory),
         }
@@ -81,7 +85,7 @@ impl Host {
 }
 
 /// The place of the first value that doesn't fit. Null fits each parameter, so it stands for each value behind the one that is tried.
-fn first_unfit(
+fn find_first_unfit(
     alloc: Global,
     processor: &Processor<HeapStore>,
     procedure: usize,

@@ -28,7 +28,7 @@ pub(crate) fn without_text(alloc: Global, answer: Answer) -> Outcome
 }
 
 /// The outcome of a run that stopped: the line of the refusal, or that memory ran out.
-pub(crate) fn stopped(alloc: Global, fault: RunFault) -> Outcome
+pub(crate) fn outcome_of_stop(alloc: Global, fault: RunFault) -> Outcome
     ensures { IsOfStop fault result.answer }
 {
     match line_of(alloc, fault) {

@@ -7,7 +7,7 @@ ghost use Rattle.sq_page_c.specs.Texts.{AreTexts};
 ghost use Rattle.sq_run.specs.Answer.{answered};
 ghost use Rattle.sq_run.specs.Texts.{texts};
 
-use crate::outcome::{Outcome, stopped, without_text};
+use crate::outcome::{Outcome, outcome_of_stop, without_text};
 use crate::texts::RunTexts;
 use sq_exchange::Answer;
 use sq_heap::HeapStore;
@@ -58,7 +58,7 @@ fn report_of(
         },
         Err(fault) => {
             drop(report);
-            stopped(alloc, fault)
+            outcome_of_stop(alloc, fault)
         }
     }
 }

@@ -17,6 +17,6 @@ mod tap;
 pub use folder::{Kind, kind_of};
 pub use glob::matches;
 pub use junit::{write_case, write_end, write_start};
-pub use outcome::{Outcome, Unclear, wanted, write_block, write_differences, write_part};
+pub use outcome::{Outcome, Unclear, wanted_outcome, write_block, write_differences, write_part};
 pub use shard::Shard;
 pub use tap::{write_counts, write_plan, write_result};

@@ -40,7 +40,7 @@ impl fmt::Display for Unclear {
 }
 
 /// What a folder wants of its script, if it has one, by the texts of its `report.txt` and its `refusal.txt`.
-pub fn wanted(
+pub fn wanted_outcome(
     alloc: Global,
     has_script: bool,
     report: Option<Vec<u8>>,

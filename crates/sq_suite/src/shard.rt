@@ -11,7 +11,7 @@ pub struct Shard {
 
 impl Shard {
     /// All cases.
-    pub fn whole() -> Shard {
+    pub fn all() -> Shard {
         Shard {
             number: 1,
             count: 1,

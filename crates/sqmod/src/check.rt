@@ -159,13 +159,13 @@ fn status_by_faults(checked: &Checked) -> u8 {
 /// What keeps the script from running over texts that are not refused, if anything does.
 fn fault_of_script(alloc: Global, checking: &Checking<'_>) -> Option<Fault> {
     let script = checking.script?;
-    match refused_script(alloc, checking.sources, script.text) {
+    match refuse_script(alloc, checking.sources, script.text) {
         Ok(()) => None,
         Err(fault) => Some(fault_of(fault)),
     }
 }
 
-fn refused_script(alloc: Global, sources: &Sources, script: &[u8]) -> Result<(), RunFault> {
+fn refuse_script(alloc: Global, sources: &Sources, script: &[u8]) -> Result<(), RunFault> {
     let limits = Limits {
         row_numbers: USUAL_ROW_NUMBERS,
     };

@@ -8,7 +8,7 @@ use crate::check::{Checking, check_sources};
 use crate::fault::{Fault, Source};
 use crate::refusals::{is_of_tokens, write_refusal};
 use crate::texts::Sources;
-use sq_advice::{TextKind, Why, offset_of, passed_over};
+use sq_advice::{TextKind, Why, offset_of, pass_over};
 use sq_perform::{Checked, Refusal, RefusalName};
 use std::alloc::{AllocError, Global};
 
@@ -32,7 +32,7 @@ pub(crate) fn judge(
 ) -> Result<Option<Judged>, AllocError>
     ensures { IfOk result (λ answer. IfSome answer (spec.IsJudged checking.now.sources.now)) }
 {
-    let mut left = copied(alloc, checking.sources)?;
+    let mut left = copy_sources(alloc, checking.sources)?;
     for _ in 0..MOST {
         match check_sources(alloc, &left) {
             Ok(checked) => return Ok(Some(Judged { left, checked })),
@@ -88,7 +88,7 @@ fn pass_in(
     }
     let text = all[index].as_slice();
     let at = offset_of(text, refusal.line, refusal.column);
-    match passed_over(alloc, kind, text, at, why(refusal.what))? {
+    match pass_over(alloc, kind, text, at, why(refusal.what))? {
         Some(left) => {
             all[index] = left;
             Ok(true)
@@ -107,11 +107,11 @@ fn why(what: RefusalName) -> Why {
 }
 
 /// A copy of texts.
-fn copied(alloc: Global, sources: &Sources) -> Result<Sources, AllocError>
+fn copy_sources(alloc: Global, sources: &Sources) -> Result<Sources, AllocError>
     ensures { IfOk result (spec.AreSourcesLeft sources.now) }
 {
-    let schemas = copied_all(alloc, sources.schemas.as_slice())?;
-    match copied_all(alloc, sources.modules.as_slice()) {
+    let schemas = copy_texts(alloc, sources.schemas.as_slice())?;
+    match copy_texts(alloc, sources.modules.as_slice()) {
         Ok(modules) => Ok(Sources { schemas, modules }),
         Err(error) => {
             drop(schemas);
@@ -120,7 +120,7 @@ fn copied(alloc: Global, sources: &Sources) -> Result<Sources, AllocError>
     }
 }
 
-fn copied_all(alloc: Global, all: &[Vec<u8>]) -> Result<Vec<Vec<u8>>, AllocError>
+fn copy_texts(alloc: Global, all: &[Vec<u8>]) -> Result<Vec<Vec<u8>>, AllocError>
     ensures { IfOk result (λ copy. texts copy.items ≡ texts all.now) }
 {
     let mut copy = Vec::new(alloc);

@@ -29,7 +29,7 @@ use bind::status_of_bind;
 use check::status_of_check;
 use clap::error::ErrorKind;
 use command_line::{Request, Task, TextsRequest, read_task};
-use explain::{printed, status_of_explain};
+use explain::{status_of_explain, status_of_print};
 use fault::{Fault, NO_MEMORY, REFUSED};
 use new::status_of_new;
 use shell::{Typed, status_of_shell};
@@ -82,7 +82,7 @@ fn status_of_words<R: Files + Print + Eprint + Input + Typed + AllocGlobal + Clo
 /// Prints what `clap` answers in place of a task: help or the version, where they are asked for, or what it refuses.
 fn status_of_answer<R: Print + Eprint>(rt: &R, words: &[String], error: &clap::Error) -> u8 {
     if is_asked_for(words, error.kind()) {
-        return printed(rt, rt.print(error));
+        return status_of_print(rt, rt.print(error));
     }
     refuse_words(rt, error)
 }

@@ -211,11 +211,11 @@ pub(crate) fn write_refusal(
     let text = Text::new(alloc, bytes)?;
     let says = format!(in alloc; "{}", refusal.what)?;
     let meaning = meaning_of(says.as_str(), part_of(source));
-    let advice = match named(alloc, checking, left, source, refusal)? {
+    let advice = match advise(alloc, checking, left, source, refusal)? {
         Some(advice) => advice,
         None => Advice::at(alloc, bytes, text.byte_at(refusal.line, refusal.column)),
     };
-    let advice = advice.explained(meaning.as_bytes())?;
+    let advice = advice.explain(meaning.as_bytes())?;
     let beside = Some(&advice);
     let item = Item {
         weight: Weight::Refusal,
@@ -231,7 +231,7 @@ pub(crate) fn write_refusal(
 }
 
 /// What is said of the name that a refusal is about, where one is found.
-fn named(
+fn advise(
     alloc: Global,
     checking: &Checking<'_>,
     left: &Sources,
@@ -248,7 +248,7 @@ fn named(
             refusal.column,
             name.fault,
         ),
-        (Source::Module(index), RefusalName::Module(fault)) => named_in_module(
+        (Source::Module(index), RefusalName::Module(fault)) => advise_on_module(
             alloc, checking, left, &schemas, index, refusal, fault,
         ),
         _ => Ok(None),
@@ -256,7 +256,7 @@ fn named(
 }
 
 /// What is said of the name that a refusal of a module is about.
-fn named_in_module(
+fn advise_on_module(
     alloc: Global,
     checking: &Checking<'_>,
     left: &Sources,
@@ -267,7 +267,7 @@ fn named_in_module(
 ) -> Result<Option<Advice>, AllocError> {
     match module_of(alloc, checking, left, schemas, index)? {
         Some(module) => {
-            let advice = module.refused(alloc, refusal.line, refusal.column, fault);
+            let advice = module.advice_on_refusal(alloc, refusal.line, refusal.column, fault);
             drop(module);
             advice
         }

@@ -163,7 +163,7 @@ fn write_fault(
     let meaning = meaning_of(name.as_str(), "statement");
     let advice = module
         .advice(alloc, note.line, note.column, rule, fault.about)?
-        .explained(meaning.as_bytes())?;
+        .explain(meaning.as_bytes())?;
     let part = Some(part_of(note));
     let beside = Some(&advice);
     let item = Item {

@@ -45,7 +45,7 @@ fn report_of_texts<R: Print + AllocGlobal>(
     };
     let ran = run_texts(rt.alloc(), texts, limits, &mut writer);
     let flushed = flush(&mut writer);
-    ended(ran, flushed)
+    ending_of(ran, flushed)
 }
 
 pub(crate) fn flush<W: Write>(writer: &mut W) -> Result<(), Fault>
@@ -59,7 +59,7 @@ pub(crate) fn flush<W: Write>(writer: &mut W) -> Result<(), Fault>
 
 /// How a request ends, by its run and the flush after it. A refusal has written nothing and stays; after
 /// any other run a flush that fails takes precedence, since lines are then missing.
-fn ended(ran: Result<(), Fault>, flushed: Result<(), Fault>) -> Result<(), Fault>
+fn ending_of(ran: Result<(), Fault>, flushed: Result<(), Fault>) -> Result<(), Fault>
     ensures { result ≡ spec.ended_with ran flushed }
 {
     match ran {

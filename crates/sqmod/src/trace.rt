@@ -85,7 +85,7 @@ fn trace_of_texts<R: Print + AllocGlobal>(
     };
     let traced = trace_texts(rt.alloc(), request, texts, &mut writer);
     let flushed = flush(&mut writer);
-    match ended(traced, flushed) {
+    match ending_of(traced, flushed) {
         Ok(stopped) => page_of_texts(rt.alloc(), request, texts, stopped.is_some()),
         Err(fault) => Err(fault),
     }
@@ -93,7 +93,7 @@ fn trace_of_texts<R: Print + AllocGlobal>(
 
 /// How a trace ends with the flush after it: a refusal, which wrote nothing, stays; after any other end a flush that fails takes
 /// precedence, since lines are then missing.
-fn ended(
+fn ending_of(
     traced: Result<Option<usize>, Fault>,
     flushed: Result<(), Fault>,
 ) -> Result<Option<usize>, Fault>

@@ -60,13 +60,13 @@ pub(crate) fn command_of(line: &[u8]) -> Command<'_> {
 
 fn command_in(text: &str) -> Command<'_> {
     match text.split_once(' ') {
-        Some((word, rest)) => with_word(word, rest.trim_start()),
-        None => alone(text),
+        Some((word, rest)) => command_with_word(word, rest.trim_start()),
+        None => command_of_word(text),
     }
 }
 
 /// A command of one word.
-fn alone(word: &str) -> Command<'_> {
+fn command_of_word(word: &str) -> Command<'_> {
     match word {
         ".help" => Command::Help,
         ".quit" => Command::Quit,
@@ -80,19 +80,19 @@ fn alone(word: &str) -> Command<'_> {
 }
 
 /// A command with a word behind it.
-fn with_word<'a>(word: &str, rest: &'a str) -> Command<'a> {
+fn command_with_word<'a>(word: &str, rest: &'a str) -> Command<'a> {
     match word {
         ".read" => Command::Read(rest),
         ".load-module" => Command::LoadModule(rest),
         ".procedures" => Command::List(Listing::ProceduresOf(rest)),
         ".show" => Command::List(Listing::View(rest)),
-        ".trace" => switched(rest),
+        ".trace" => command_of_switch(rest),
         _ => Command::Unknown,
     }
 }
 
 /// A command that turns notes on or off.
-fn switched(word: &str) -> Command<'_> {
+fn command_of_switch(word: &str) -> Command<'_> {
     match word {
         "on" => Command::Trace(true),
         "off" => Command::Trace(false),

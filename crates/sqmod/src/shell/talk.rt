@@ -141,7 +141,7 @@ impl Talk {
                 self.refuse(rt, file, place_in(self.start, inside), refusal.what);
                 Ok(())
             }
-            Err(fault) => Err(self.stopped(fault)),
+            Err(fault) => Err(self.fault_of_stop(fault)),
         }
     }
 
@@ -155,7 +155,7 @@ impl Talk {
     }
 
     /// What a fault means that is no refusal of what is typed.
-    fn stopped(&self, fault: RunFault) -> Fault {
+    fn fault_of_stop(&self, fault: RunFault) -> Fault {
         match fault {
             RunFault::NoMemory(_) => Fault::NoMemory(self.taken),
             _ => fault_of(fault),
@@ -175,7 +175,7 @@ impl Talk {
     }
 
     /// The session of the texts, before the first item.
-    fn opened(&self, alloc: Global) -> Result<Shell<HeapStore>, RunFault> {
+    fn open_shell(&self, alloc: Global) -> Result<Shell<HeapStore>, RunFault> {
         let schemas = self.texts.schemas.as_slice();
         let modules = self.texts.modules.as_slice();
         Shell::open(alloc, schemas, modules, self.limits)
@@ -183,7 +183,7 @@ impl Talk {
 
     /// Goes back to the first state.
     pub(crate) fn restart<R: Eprint + AllocGlobal>(&mut self, rt: &R) -> Result<(), Fault> {
-        match self.opened(rt.alloc()) {
+        match self.open_shell(rt.alloc()) {
             Ok(mut shell) => {
                 shell.trace = self.shell.trace;
                 self.shell = shell;
@@ -191,7 +191,7 @@ impl Talk {
                 let _ = eprintln!(rt; "the session is as it was before the first call");
                 Ok(())
             }
-            Err(fault) => Err(self.stopped(fault)),
+            Err(fault) => Err(self.fault_of_stop(fault)),
         }
     }
 
@@ -205,7 +205,7 @@ impl Talk {
         if self.texts.modules.push(text).is_err() {
             return Err(Fault::NoMemory(self.taken));
         }
-        match self.opened(rt.alloc()) {
+        match self.open_shell(rt.alloc()) {
             Ok(shell) => self.make_again(rt, name, shell),
             Err(RunFault::ModuleRefused(refusal)) => {
                 let _ = self.texts.modules.pop();
@@ -216,7 +216,7 @@ impl Talk {
                 self.refuse(rt, name, place, refusal.what);
                 Ok(())
             }
-            Err(fault) => Err(self.stopped(fault)),
+            Err(fault) => Err(self.fault_of_stop(fault)),
         }
     }
 
@@ -242,7 +242,7 @@ impl Talk {
             }
             Err(fault) => {
                 drop(shell);
-                Err(self.stopped(fault))
+                Err(self.fault_of_stop(fault))
             }
         }
     }

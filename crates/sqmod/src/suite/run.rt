@@ -47,7 +47,7 @@ pub(crate) fn outcome_of_run<R: Files + AllocGlobal>(
     let kept = Kept::new(rt.alloc());
     let status = match run_files(rt, files, script, limits, &mut report) {
         Ok(()) => 0,
-        Err(stop) => report_of_file(&kept, said(stop.path, case), stop.fault),
+        Err(stop) => report_of_file(&kept, relative_path(stop.path, case), stop.fault),
     };
     Outcome {
         report,
@@ -78,7 +78,7 @@ fn run_files<'a, R: Files + AllocGlobal>(
         Ok(()) => Ok(remove_start(report, before)?),
         Err(fault) => Err(Stop {
             path: files.path(fault).unwrap_or(script),
-            fault: moved_up(fault, shared),
+            fault: move_up(fault, shared),
         }),
     }
 }
@@ -133,7 +133,7 @@ fn remove_start(report: &mut Vec<u8>, count: usize) -> Result<(), AllocError>
 }
 
 /// A fault with the line counted from the one behind so many others, where it is about a script.
-fn moved_up(fault: Fault, lines: usize) -> Fault {
+fn move_up(fault: Fault, lines: usize) -> Fault {
     match fault {
         Fault::Refused(Source::Script, refusal) => Fault::Refused(
             Source::Script,
@@ -187,7 +187,7 @@ fn status_of_files<R: Files + AllocGlobal>(
     };
     let status = match sources_of(rt, files) {
         Ok(sources) => status_of_sources(kept, rt.alloc(), &request, &sources),
-        Err(stop) => report_of_file(kept, said(stop.path, case), stop.fault),
+        Err(stop) => report_of_file(kept, relative_path(stop.path, case), stop.fault),
     };
     drop(request);
     Ok(status)
@@ -226,13 +226,13 @@ fn strs<'a>(alloc: Global, texts: &'a [String]) -> Result<Vec<&'a str>, AllocErr
 fn names<'a>(alloc: Global, paths: &'a [String], case: &str) -> Result<Vec<&'a str>, AllocError> {
     let mut names = Vec::new(alloc);
     for path in paths {
-        names.push(said(path.as_str(), case))?;
+        names.push(relative_path(path.as_str(), case))?;
     }
     Ok(names)
 }
 
 /// A path below a case's folder as it is seen from there, and any other from its folder `setup` on.
-fn said<'a>(path: &'a str, case: &str) -> &'a str {
+fn relative_path<'a>(path: &'a str, case: &str) -> &'a str {
     let below = path
         .strip_prefix(case)
         .and_then(|rest| rest.strip_prefix('/'));

@@ -9,7 +9,7 @@ use crate::suite::select::Case;
 use crate::suite::update::{begin_report, update_check, update_outcome};
 use sq_run::Limits;
 use sq_store::MOST_ROW_NUMBERS;
-use sq_suite::{Outcome, Unclear, wanted, write_block, write_differences, write_part};
+use sq_suite::{Outcome, Unclear, wanted_outcome, write_block, write_differences, write_part};
 use std::alloc::AllocError;
 use std::io::ErrorKind;
 use std::rt::Files;
@@ -103,7 +103,7 @@ fn try_run<R: Files + AllocGlobal>(
     update: bool,
     says: &mut Vec<u8>,
 ) -> Result<bool, Trouble> {
-    let wanted = wanted_of(rt, folder, files, update)?;
+    let wanted = read_wanted(rt, folder, files, update)?;
     let (Some(wanted), Some(script)) = (wanted, files.script.as_ref()) else {
         return Ok(true);
     };
@@ -117,7 +117,7 @@ fn try_run<R: Files + AllocGlobal>(
 }
 
 /// What a case wants of its script. Where there is no report yet, and one is to be written, an empty one is put there.
-fn wanted_of<R: Files + AllocGlobal>(
+fn read_wanted<R: Files + AllocGlobal>(
     rt: &R,
     folder: &str,
     files: &CaseFiles,
@@ -130,7 +130,7 @@ fn wanted_of<R: Files + AllocGlobal>(
         begin_report(rt, folder)?;
         report = Some(Vec::new(rt.alloc()));
     }
-    wanted(rt.alloc(), has_script, report, refusal).map_err(Trouble::Unclear)
+    wanted_outcome(rt.alloc(), has_script, report, refusal).map_err(Trouble::Unclear)
 }
 
 fn try_check<R: Files + AllocGlobal>(

@@ -1,6 +1,6 @@
 use Rattle.std.proofs.Common.{◌≡◌, length, take, true}
 use Rattle.sq_run.specs.Processor.{takes}
-use Rattle.sq_host.proofs.trial.first_unfit.Given as goal
+use Rattle.sq_host.proofs.trial.find_first_unfit.Given as goal
 
 -- the values up to here fit, with nulls behind them
 abbrev pub invariant-loop-place : goal.invariant-loop-place
