@@ -62,7 +62,8 @@ pub(crate) fn add_filled(
     marks: &Marks<'_>,
     template: &str,
 ) -> Result<(), AllocError>
-    ensures { OnOk result (text.new.items ≡ text.old.items ++ spec.filled (spec.filling marks.now) template.now) }
+    ensures { OnOk result
+        (text.new.items ≡ text.old.items ++ spec.filled (spec.filling marks.now) template.now) }
 {
     for byte in template.as_bytes() {
         add_byte(text, marks, *byte)?;

@@ -67,7 +67,8 @@ opened (Some m) = Ok m
 abbrev pub IsOf : ℕ → List Bytes → List Bytes → Option Machine → Type 0
 IsOf row_numbers schemas modules None = ⊥
 IsOf row_numbers schemas modules (Some m) =
-    (run.accepted_program schemas modules row_numbers ≡ Ok m.program) × (m.state ≡ first_state m.program) × AllHold m
+    (run.accepted_program schemas modules row_numbers ≡ Ok m.program)
+    × (m.state ≡ first_state m.program) × AllHold m
 
 -- the texts are refused, as `run` refuses them
 abbrev pub AreRefused : ℕ → List Bytes → List Bytes → Type 0
@@ -121,7 +122,8 @@ abbrev pub is_faulty : ℕ → Option Machine → Result Bool Answer
 is_faulty number m = and_then (fault_in number) (opened m)
 
 -- The call of the procedure with this number is the machine's step, and the reply the machine's.
-pub record IsCall (m : Machine) (number : ℕ) (values : List Value) (reply : Reply) (after : Machine) : Type 0 where
+pub record IsCall (m : Machine) (number : ℕ) (values : List Value) (reply : Reply) (after : Machine)
+    : Type 0 where
   pub step : IsStep m number values reply after
   pub constraints : AllHold after
   pub failures : FailsWithoutChange m reply after

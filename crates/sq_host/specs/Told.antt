@@ -95,7 +95,8 @@ bytes_of (Ok words) = Ok words.items
 bytes_of (Err why) = Err why
 
 -- What is told is put into a room.
-pub record Puts (Told : Result Bytes Answer → Type 0) (before after : Bytes) (old new : ℕ) (answer : Answer) : Type 0 where
+pub record Puts (Told : Result Bytes Answer → Type 0) (before after : Bytes) (old new : ℕ) (answer : Answer)
+    : Type 0 where
   pub words : Result Bytes Answer
   pub told : Told words
   pub answered : answer ≡ put_answer words before
@@ -103,7 +104,8 @@ pub record Puts (Told : Result Bytes Answer → Type 0) (before after : Bytes) (
   pub counted : new ≡ put_length words old
 
 -- the same for C, which is given the code of the answer
-pub record PutsCode (Told : Result Bytes Answer → Type 0) (before after : Bytes) (old new : ℕ) (number : ℤ) : Type 0 where
+pub record PutsCode (Told : Result Bytes Answer → Type 0) (before after : Bytes) (old new : ℕ) (number : ℤ)
+    : Type 0 where
   pub answer : Answer
   pub puts : Puts Told before after old new answer
   pub code_is : number ≡ code answer

@@ -32,7 +32,8 @@ parameters_at p number = option_map (λ e. declared_parameters e.1) (procedure_a
 
 -- where there is no such procedure, how many values there are
 abbrev pub unfit_at : Program → ℕ → List Value → Option ℕ
-unfit_at p number values = option_map_or (λ ds. unfit ds values) (parameters_at p number) (Some (length values))
+unfit_at p number values =
+    option_map_or (λ ds. unfit ds values) (parameters_at p number) (Some (length values))
 
 abbrev pub unfit_in : ℕ → List Value → Machine → Result (Option ℕ) Answer
 unfit_in number values m = Ok (unfit_at m.program number values)

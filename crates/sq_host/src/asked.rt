@@ -166,7 +166,8 @@ impl Handle {
         scale: &mut u32,
     ) -> Answer
         ensures answer { result ≡ set_answer (spec.number_behind (leads_to self.old) place) }
-        ensures unscaled { unscaled.new ≡ set_value (spec.unscaled_behind (leads_to self.old) place) unscaled.old }
+        ensures unscaled { unscaled.new
+            ≡ set_value (spec.unscaled_behind (leads_to self.old) place) unscaled.old }
         ensures scale { scale.new ≡ set_value (spec.scale_behind (leads_to self.old) place) scale.old }
         ensures same { leads_to self.new ≡ leads_to self.old }
     {

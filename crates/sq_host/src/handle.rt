@@ -44,7 +44,8 @@ impl Handle {
 
     /// The host, to which the handle then doesn't lead any more; none where it leads to none.
     pub(crate) fn take(&mut self, alloc: Global) -> Option<Box<Host>>
-        ensures host { MatchOption result (leads_to self.old ≡ None) (λ host. leads_to self.old ≡ Some host.value) }
+        ensures host { MatchOption result (leads_to self.old ≡ None)
+            (λ host. leads_to self.old ≡ Some host.value) }
         ensures closed { leads_to self.new ≡ None }
     {
         if self.word != OPEN {

@@ -85,7 +85,8 @@ impl Host {
     /// Opens a processor of the texts, in which a table has this many row numbers.
     pub(crate) fn open(&mut self, alloc: Global, row_numbers: u64) -> Answer
         ensures opened { result ≡ Done
-            → IsOf row_numbers (texts self.old.schemas.items) (texts self.old.modules.items) self.new.processor }
+            → IsOf row_numbers (texts self.old.schemas.items) (texts self.old.modules.items)
+            self.new.processor }
         ensures refused { result ≡ Refused
             → AreRefused row_numbers (texts self.old.schemas.items) (texts self.old.modules.items) }
         ensures already { result ≡ AlreadyOpen → IsSome self.old.processor }
@@ -137,7 +138,8 @@ impl Host {
         name: &[u8],
     ) -> Result<usize, Answer>
         ensures number { IfOk result
-            (λ number. and_then (procedure_named «module».now name.now) (opened self.now.processor) ≡ Ok number) }
+            (λ number. and_then (procedure_named «module».now name.now) (opened self.now.processor)
+            ≡ Ok number) }
         ensures refused { IfErr result
             (IsWhy (and_then (procedure_named «module».now name.now) (opened self.now.processor))) }
     {
@@ -172,7 +174,8 @@ impl Host {
     /// Calls a procedure with the values that were added since the last call, which are then gone.
     pub(crate) fn call(&mut self, alloc: Global, procedure: usize) -> Answer
         ensures answer { ¬ (result ≡ NoMemory)
-            → result ≡ set_answer (and_then (taken procedure self.old.values.items) (opened self.old.processor)) }
+            → result ≡ set_answer
+            (and_then (taken procedure self.old.values.items) (opened self.old.processor)) }
         ensures called { result ≡ Done
             → Called self.old.processor procedure self.old.values.items self.new.last self.new.processor }
         ensures none { ¬ (result ≡ Done) → self.new.processor ≡ self.old.processor }

@@ -20,7 +20,8 @@ impl Host {
         ensures answer { ¬ (result ≡ NoMemory)
             → result ≡ set_answer (and_then (rows_named user.now name.now) (opened self.old.processor)) }
         ensures rows { result ≡ Done
-            → and_then (rows_named user.now name.now) (opened self.old.processor) ≡ Ok (reverse self.new.rows.items) }
+            → and_then (rows_named user.now name.now) (opened self.old.processor)
+            ≡ Ok (reverse self.new.rows.items) }
         ensures none { ¬ (result ≡ Done) → self.new.rows ≡ self.old.rows }
         ensures processor { self.new.processor ≡ self.old.processor }
     {
@@ -74,7 +75,8 @@ fn rows_of_named(
     user: &[u8],
     name: &[u8],
 ) -> Result<Vec<Row>, Answer>
-    ensures rows { IfOk result (λ rows. rows_named user.now name.now processor.now ≡ Ok (reverse rows.items)) }
+    ensures rows { IfOk result
+        (λ rows. rows_named user.now name.now processor.now ≡ Ok (reverse rows.items)) }
     ensures refused { IfErr result (IsWhy (rows_named user.now name.now processor.now)) }
 {
     match name_of(alloc, user) {

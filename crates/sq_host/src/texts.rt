@@ -24,7 +24,8 @@ pub(crate) fn add_text(alloc: Global, texts: &mut Vec<Vec<u8>>, text: &[u8]) -> 
 }
 
 fn push_copy(alloc: Global, texts: &mut Vec<Vec<u8>>, text: &[u8]) -> Result<(), AllocError>
-    ensures added { IfOk result (λ _. spec.texts texts.new.items ≡ spec.texts texts.old.items ++ text.now ∷ []) }
+    ensures added { IfOk result
+        (λ _. spec.texts texts.new.items ≡ spec.texts texts.old.items ++ text.now ∷ []) }
     ensures none { OnErr result (spec.texts texts.new.items ≡ spec.texts texts.old.items) }
 {
     let text = Vec::from_slice(alloc, text)?;

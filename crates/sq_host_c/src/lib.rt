@@ -215,7 +215,8 @@ pub extern "C" fn sq_host_output_number(
     scale: &mut u32,
 ) -> i32
     ensures answer { result ≡ code (set_answer (outputs.number_behind (leads_to handle.old) place)) }
-    ensures unscaled { unscaled.new ≡ set_value (outputs.unscaled_behind (leads_to handle.old) place) unscaled.old }
+    ensures unscaled { unscaled.new
+        ≡ set_value (outputs.unscaled_behind (leads_to handle.old) place) unscaled.old }
     ensures scale { scale.new ≡ set_value (outputs.scale_behind (leads_to handle.old) place) scale.old }
 {
     handle.output_number(alloc, place, unscaled, scale).code()

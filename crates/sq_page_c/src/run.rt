@@ -46,7 +46,8 @@ fn report_of(
     limits: Limits,
 ) -> Outcome
     requires { limits.row_numbers ≤ MOST_ROW_NUMBERS }
-    ensures { IsOutcome (answered (texts schemas.now) (texts modules.now) script.now limits.row_numbers) result }
+    ensures { IsOutcome
+        (answered (texts schemas.now) (texts modules.now) script.now limits.row_numbers) result }
 {
     let mut out = OutOf::new(Vec::new(alloc));
     let ended = run::<HeapStore, OutOf<Vec<u8>>>(alloc, schemas, modules, script, limits, &mut out);

@@ -46,7 +46,8 @@ fn page_of(
     limits: Limits,
 ) -> Outcome
     requires { limits.row_numbers ≤ MOST_ROW_NUMBERS }
-    ensures { IsSteps (answered (texts schemas.now) (texts modules.now) script.now limits.row_numbers) result }
+    ensures { IsSteps
+        (answered (texts schemas.now) (texts modules.now) script.now limits.row_numbers) result }
 {
     let options = TraceOptions {
         tables: false,

@@ -18,4 +18,5 @@ is_end (byte ∷ bytes) = false
 -- The text is one of those that the pattern stands for: `*` is 42.
 abbrev pub matches : List ℕ → List ℕ → Bool
 matches [] text = is_end text
-matches (sign ∷ rest) text = if sign == 42 then some_end (matches rest) text else first_then sign (matches rest) text
+matches (sign ∷ rest) text =
+    if sign == 42 then some_end (matches rest) text else first_then sign (matches rest) text

@@ -132,7 +132,8 @@ folders_rule = record (new_rule (codes "folder")) { value_names = 1; action = So
 -- `test FOLDER... [--filter GLOB]... [--shard K/N]`
 abbrev pub selecting : App
 selecting =
-    let with_filters = with_rule (with_rule (new_app (codes "test")) folders_rule) (files_rule (codes "filter")) in
+    let with_filters = with_rule (with_rule (new_app (codes "test")) folders_rule)
+    (files_rule (codes "filter")) in
     with_rule with_filters (value_rule (codes "shard"))
 
 -- `test FOLDER... [--filter GLOB]... [--shard K/N] [--junit F] [--list] [--update]`
@@ -144,7 +145,8 @@ test =
 -- `sqmod` with `run` and `check`, of which one must be given
 abbrev pub of_files : App
 of_files =
-    let without = on_top (λ shape. record shape { has_version = true; subcommand_required = true }) (new_app (codes "sqmod")) in
+    let without = on_top (λ shape. record shape { has_version = true; subcommand_required = true })
+    (new_app (codes "sqmod")) in
     with_subcommand (with_subcommand without run.top) check.top
 
 -- `sqmod` with those, `trace` and `shell`

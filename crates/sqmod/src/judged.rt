@@ -81,7 +81,8 @@ fn pass_in(
     index: usize,
     refusal: Refusal,
 ) -> Result<bool, AllocError>
-    ensures { (before : _) → spec.AreLeft before (texts all.old.items) → spec.AreLeft before (texts all.new.items) }
+    ensures { (before : _) → spec.AreLeft before (texts all.old.items)
+        → spec.AreLeft before (texts all.new.items) }
 {
     if index >= all.len() {
         return Ok(false);
