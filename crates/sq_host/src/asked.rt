@@ -50,7 +50,7 @@ impl Handle {
         put_words(words, room, count)
     }
 
-    /// Puts why the last call did not end with 00000 into a room, as a trace says it; no words where it did.
+    /// Puts why the last call did not end with 00000 into a room, as a trace says it; no words if it did.
     #[tactic(auto, using(crate::proofs::Telling::puts_cause, crate::proofs::Telling::puts_no_cause))]
     pub fn cause(&mut self, alloc: Global, room: &mut [u8], count: &mut usize) -> Answer
         ensures told { Puts (CauseTold (machine_of (leads_to self.old)) (made_last (leads_to self.old)))

@@ -1,5 +1,5 @@
-//! The calls of a handle. One that leads to nothing answers `NotOpen` to each but `start`, and where a call
-//! doesn't answer `Done` it sets nothing, but for the length of a text for which there is no room.
+//! The calls of a handle. If it leads to nothing, each but `start` answers `NotOpen`. A call that doesn't
+//! answer `Done` sets nothing but the length of a text for which the room is too small.
 
 ghost use Rattle.std.specs.Prelude.{◌≡◌, [], ◌∷◌, ◌++◌, IsSome, None, Ok, option_to_list, reverse};
 ghost use Rattle.sq_value.specs.declared.value.Value.TheVariants.{Null};

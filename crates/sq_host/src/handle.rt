@@ -1,4 +1,4 @@
-//! What C holds of a host.
+//! The handle that C holds of a host.
 ghost use Rattle.std.specs.Prelude.{◌≡◌, Some, None, MatchOption, IsSome};
 
 use crate::apart::{put_together, take_apart};
@@ -42,7 +42,7 @@ impl Handle {
         }
     }
 
-    /// The host, to which the handle then doesn't lead any more; none where it leads to none.
+    /// Takes the host, to which the handle then doesn't lead any more; none if it leads to none.
     pub(crate) fn take(&mut self, alloc: Global) -> Option<Box<Host>>
         ensures host { MatchOption result (leads_to self.old ≡ None)
             (λ host. leads_to self.old ≡ Some host.value) }

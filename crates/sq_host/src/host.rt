@@ -1,4 +1,4 @@
-//! What a handle leads to: texts, and the session that they open.
+//! The host that a handle leads to: texts, and the session that they open.
 ghost use Rattle.std.specs.Prelude.{◌≡◌, [], ◌∷◌, ◌++◌, Ok, Some, IfErr, IfOk, IsSome};
 ghost use Rattle.sq_exchange.specs.Answer.{IsWhy};
 ghost use Rattle.sq_exchange.specs.declared.answer.Answer.TheVariants.{AlreadyOpen, BadValue, Done, NoMemory, Refused};
@@ -19,8 +19,8 @@ use sq_value::{Row, Value};
 use std::alloc::Global;
 use std::mem::replace;
 
-/// Texts, and from when they are opened a processor; with it the values for the next call, the last call with its answer, and the
-/// rows of a table that is read.
+/// Texts, and after they are opened a processor. With it go the values for the next call, the last call with
+/// its answer, and the rows of a table that is read.
 #[derive(Drop)]
 pub struct Host {
     pub schemas: Vec<Vec<u8>>,

@@ -54,7 +54,8 @@ fn line_with(alloc: Global, kind: &str, refusal: Refusal) -> Result<Vec<u8>, All
     Vec::from_slice(alloc, line.as_bytes())
 }
 
-/// The words of a fault: the name of its rule, and behind a blank the name that it is about, if there is one.
+/// Makes the words of a fault: the name of its rule, and after a blank the name that it is about, if there is
+/// one.
 pub(crate) fn words_of(alloc: Global, fault: Fault) -> Result<Vec<u8>, AllocError>
     ensures { IfOk result (λ words. words.items ≡ fault_words fault) }
 {
