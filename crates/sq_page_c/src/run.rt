@@ -15,7 +15,7 @@ use sq_run::{Limits, OutOf, run};
 use sq_store::MOST_ROW_NUMBERS;
 use std::alloc::Global;
 
-/// What a run of these texts comes to.
+/// Runs the script on these texts, and makes the outcome.
 pub(crate) fn outcome_of_run(
     alloc: Global,
     given: &Option<RunTexts>,
