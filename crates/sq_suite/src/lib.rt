@@ -1,5 +1,5 @@
-//! What a runner of suites decides and writes, without files: which cases are asked for, what a case wants, where two texts
-//! differ, and the words of TAP and JUnit.
+//! The decisions and texts of a runner of suites, without files: the cases asked for, the outcome that a case
+//! wants, the differences of two texts, and the words of TAP and JUnit.
 #![tactic(auto)]
 
 mod bytes;
