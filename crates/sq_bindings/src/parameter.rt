@@ -31,7 +31,7 @@ pub(crate) enum Kind {
     Varying(u8),
 }
 
-/// The precision of NUMERIC and DECIMAL where it is left out.
+/// The precision of NUMERIC and DECIMAL if it is left out.
 const USUAL_DIGITS: u8 = 18;
 
 /// The number that digits say, up to 255.
@@ -64,7 +64,7 @@ fn exact_kind(word: ExactWord, digits: u8, scale: u8) -> Kind
     }
 }
 
-/// What a data type is for a host.
+/// Finds how a host declares a data type.
 pub(crate) fn kind_of(data_type: &DataType) -> Kind
     ensures { result ≡ spec.kind_of data_type.now }
 {
