@@ -1,4 +1,5 @@
-//! What each status, refusal and fault means, with a small text that shows it: docs/STATUSES.md, name by name.
+//! The meaning of each status, refusal and fault, with a small text that shows it: docs/STATUSES.md, name by
+//! name.
 #![tactic(auto)]
 
 mod entries;
