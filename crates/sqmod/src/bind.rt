@@ -1,4 +1,4 @@
-//! What binds modules to a host's language, on standard output.
+//! Prints the text that binds modules to a host's language on standard output.
 ghost use Rattle.std.specs.Prelude.{◌≡◌, IfErr, IfOk, length};
 ghost use Rattle.sq_perform.specs.Texts.{AllSpell, SpellsTree, texts};
 ghost use Rattle.sq_tree.specs.Module.{module_tokens, module_depth};
@@ -45,7 +45,8 @@ fn print_text<R: Print>(rt: &R, text: &[u8]) -> io::Result<()> {
     writer.flush()
 }
 
-/// The text that binds the modules of a request to a host's language. They are refused as a run refuses them.
+/// Reads the modules of a request and binds them to a host's language. They are refused as a run refuses
+/// them.
 fn read_and_bind<R: Files + AllocGlobal>(
     rt: &R,
     host: Host,
@@ -59,7 +60,7 @@ fn read_and_bind<R: Files + AllocGlobal>(
     answer
 }
 
-/// The text that binds modules to a host's language, by its templates, which keep off the words that are in use there.
+/// Binds modules to a host's language, by its templates, which keep off the words that are in use there.
 fn bind_to(alloc: Global, host: Host, sources: &Sources) -> Result<Vec<u8>, Fault>
     ensures { IfErr result
         (NamesOneOf (length sources.now.schemas.items) (length sources.now.modules.items)) }
@@ -128,7 +129,7 @@ fn bind_module_texts(
     }
 }
 
-/// The text that binds module texts, none of which is refused.
+/// Binds module texts, none of which is refused.
 fn bind_texts(
     alloc: Global,
     language: &Language<'_>,
@@ -142,7 +143,7 @@ fn bind_texts(
     text
 }
 
-/// The trees of module texts, none of which is refused, so that memory alone can fail.
+/// Reads the trees of module texts, none of which is refused, so that memory alone can fail.
 fn trees_of(alloc: Global, modules: &[Vec<u8>]) -> Result<Vec<ModuleText>, AllocError>
     ensures { IfOk result (λ trees. AllSpell module_tokens module_depth (texts modules.now) trees.items) }
 {

@@ -1,4 +1,4 @@
-//! What is to be said of schema and module texts, and of a script, on standard output.
+//! Remarks on schema and module texts, and on a script, on standard output.
 ghost use Rattle.std.specs.Prelude.{◌≡◌, IfErr, IfOk, length};
 ghost use Rattle.sq_perform.specs.Checked.{AreCheckedTexts};
 ghost use Rattle.sq_perform.specs.Texts.{texts};
@@ -156,7 +156,7 @@ fn status_by_faults(checked: &Checked) -> u8 {
     if checked.has_fault() { FAULTY } else { 0 }
 }
 
-/// What keeps the script from running over texts that are not refused, if anything does.
+/// Finds the fault that keeps the script from running over texts that are not refused, if one does.
 fn fault_of_script(alloc: Global, checking: &Checking<'_>) -> Option<Fault> {
     let script = checking.script?;
     match refuse_script(alloc, checking.sources, script.text) {

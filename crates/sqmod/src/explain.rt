@@ -1,4 +1,4 @@
-//! What a status, a refusal or a fault means, on standard output.
+//! The meaning of a status, a refusal or a fault, on standard output.
 use crate::command_line::ExplainRequest;
 use crate::fault::{FAILED, REFUSED};
 use crate::refuse_for_memory;
@@ -36,7 +36,7 @@ fn print_names<R: Print>(rt: &R, entries: &[Entry]) -> io::Result<()> {
     Ok(())
 }
 
-/// The status for what was printed.
+/// Gives the status after something was printed, or could not be.
 pub(crate) fn status_of_print<R: Eprint>(rt: &R, printed: io::Result<()>) -> u8 {
     match printed {
         Ok(()) => 0,

@@ -1,4 +1,4 @@
-//! What is judged of texts in which elements with an error are passed over.
+//! Texts in which elements with an error are passed over, and the judgement on the rest.
 
 ghost use Rattle.std.specs.Prelude.{◌≡◌, IfOk, IfSome};
 ghost use Rattle.sq_perform.specs.Texts.{texts};
@@ -15,15 +15,15 @@ use std::alloc::{AllocError, Global};
 /// How many errors are passed over, at most.
 const MOST: usize = 1000;
 
-/// What is left of texts where elements with an error are passed over, and what is to be said of it.
+/// The rest of texts after elements with an error are passed over, and the lines about it.
 #[derive(Drop)]
 pub(crate) struct Judged {
     pub(crate) left: Sources,
     pub(crate) checked: Checked,
 }
 
-/// Passes over what is refused of texts, one thing after the other, and adds each refusal for what a text means; then what is left is
-/// checked. Nothing where the head of a text cannot be mended so.
+/// Passes over the refused parts of texts, one after the other, and adds each refusal for the meaning of a
+/// text. Then it checks the rest. It answers nothing if the head of a text cannot be mended so.
 #[tactic(auto, using(crate::proofs::Left::is_judged))]
 pub(crate) fn judge(
     out: &mut Vec<u8>,
@@ -98,7 +98,7 @@ fn pass_in(
     }
 }
 
-/// What is refused: a piece that is no token, a token, or an element.
+/// Tells whether a piece that is no token is refused, or a token, or an element.
 fn why(what: RefusalName) -> Why {
     match what {
         RefusalName::Lexical(_) => Why::NoToken,
@@ -107,7 +107,7 @@ fn why(what: RefusalName) -> Why {
     }
 }
 
-/// A copy of texts.
+/// Copies texts.
 fn copy_sources(alloc: Global, sources: &Sources) -> Result<Sources, AllocError>
     ensures { IfOk result (spec.AreSourcesLeft sources.now) }
 {

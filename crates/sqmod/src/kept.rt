@@ -19,7 +19,7 @@ impl Kept {
         }
     }
 
-    /// What was printed.
+    /// Gives the text that was printed.
     pub(crate) fn into_text(self) -> Vec<u8> {
         let Kept { text, .. } = self;
         text.into_inner()

@@ -57,8 +57,8 @@ pub(crate) fn flush<W: Write>(writer: &mut W) -> Result<(), Fault>
     }
 }
 
-/// How a request ends, by its run and the flush after it. A refusal has written nothing and stays; after
-/// any other run a flush that fails takes precedence, since lines are then missing.
+/// Gives the end of a request, by its run and the flush after it. A refusal has written nothing and stays.
+/// After any other run a flush that fails takes precedence, since lines are then missing.
 fn ending_of(ran: Result<(), Fault>, flushed: Result<(), Fault>) -> Result<(), Fault>
     ensures { result ≡ spec.ended_with ran flushed }
 {
@@ -94,7 +94,7 @@ pub(crate) fn run_texts<W: Write>(
     }
 }
 
-/// What a fault of a run means for the program.
+/// Makes the program's fault for a fault of a run.
 pub(crate) fn fault_of(fault: RunFault) -> Fault
     ensures { result ≡ spec.fault_of fault }
 {

@@ -24,7 +24,7 @@ use std::io::{self, BufRead, BufReader, IsTerminal};
 use std::rt::{Files, LibcRuntime};
 use talk::Talk;
 
-/// What a line of standard input is called, where it is no file.
+/// The name of standard input in messages.
 const STANDARD_INPUT: &str = "standard input";
 
 /// Whether someone types what is read.
@@ -51,7 +51,7 @@ pub(crate) fn status_of_shell<R: Files + Print + Eprint + Input + Typed + AllocG
     }
 }
 
-/// The shell of a request, before the first item.
+/// Opens the shell of a request, before the first item.
 fn open_talk<R: Files + AllocGlobal>(rt: &R, request: &ShellRequest<'_>) -> Result<Talk, Fault>
     requires { request.now.row_numbers ≤ MOST_ROW_NUMBERS }
     ensures { IfErr result (NamesCheckedFile request.now.texts) }
@@ -244,7 +244,7 @@ fn obey<R: Files + Print + Eprint + AllocGlobal>(
     }
 }
 
-/// Prints what the session has, or says that nothing of what is asked for is there.
+/// Prints what the session has, or says that it has nothing of the kind.
 fn list<R: Print + Eprint + AllocGlobal>(
     rt: &R,
     talk: &mut Talk,
@@ -366,7 +366,7 @@ fn load_module<R: Files + Print + Eprint + AllocGlobal>(
     talk.add_module(rt, name, text)
 }
 
-/// What a failed output means for the shell.
+/// Turns an output that failed into a fault.
 fn check_written(done: io::Result<()>) -> Result<(), Fault> {
     match done {
         Ok(()) => Ok(()),

@@ -1,4 +1,4 @@
-//! `sqmod test`: suites of cases, of which it says which come to what they want.
+//! `sqmod test`: suites of cases, and which of them have the outcome that they want.
 
 mod cases;
 mod files;
@@ -138,7 +138,7 @@ struct Results {
     elements: Vec<u8>,
 }
 
-/// Tries the cases in their order, says what comes of each, and gives how many differ.
+/// Tries the cases in their order, says how each ends, and gives how many differ.
 fn try_cases<'a, R: Files + Print + AllocGlobal + Clone + Drop>(
     rt: &R,
     request: &TestRequest<'a>,
@@ -160,7 +160,7 @@ fn try_cases<'a, R: Files + Print + AllocGlobal + Clone + Drop>(
     Ok(results.differ)
 }
 
-/// Tries a case and says what comes of it.
+/// Tries a case and says how it ends.
 fn try_case<'a, R: Files + Print + AllocGlobal + Clone + Drop>(
     rt: &R,
     request: &TestRequest<'a>,

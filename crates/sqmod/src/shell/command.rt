@@ -1,7 +1,7 @@
 //! Lines that begin with a dot, which are the shell's own.
 use std::str;
 
-/// What such a line asks for.
+/// The command in such a line.
 #[derive(Clone, Copy)]
 pub(crate) enum Command<'a> {
     Help,
@@ -20,7 +20,7 @@ pub(crate) enum Command<'a> {
     Unknown,
 }
 
-/// What a session has, to be listed.
+/// A part of a session, to be listed.
 #[derive(Clone, Copy)]
 pub(crate) enum Listing<'a> {
     Tables,
@@ -33,7 +33,7 @@ pub(crate) enum Listing<'a> {
     View(&'a str),
 }
 
-/// What `.help` prints.
+/// The text that `.help` prints.
 pub(crate) const HELP: &str = "\
 CALL M.P (1, 'A', NULL, *);  calls a procedure
 TABLE U.T;                   shows a base table
@@ -50,7 +50,7 @@ TABLE U.T;                   shows a base table
 .quit                        ends, as the end of what is typed does
 ";
 
-/// What a line asks for.
+/// Reads the command of a line.
 pub(crate) fn command_of(line: &[u8]) -> Command<'_> {
     match str::from_utf8(line) {
         Ok(text) => command_in(text.trim()),
@@ -65,7 +65,7 @@ fn command_in(text: &str) -> Command<'_> {
     }
 }
 
-/// A command of one word.
+/// Reads a command of one word.
 fn command_of_word(word: &str) -> Command<'_> {
     match word {
         ".help" => Command::Help,
@@ -79,7 +79,7 @@ fn command_of_word(word: &str) -> Command<'_> {
     }
 }
 
-/// A command with a word behind it.
+/// Reads a command with a word after it.
 fn command_with_word<'a>(word: &str, rest: &'a str) -> Command<'a> {
     match word {
         ".read" => Command::Read(rest),
@@ -91,7 +91,7 @@ fn command_with_word<'a>(word: &str, rest: &'a str) -> Command<'a> {
     }
 }
 
-/// A command that turns notes on or off.
+/// Reads a command that turns notes on or off.
 fn command_of_switch(word: &str) -> Command<'_> {
     match word {
         "on" => Command::Trace(true),

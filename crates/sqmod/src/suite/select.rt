@@ -14,7 +14,8 @@ pub(crate) struct Case {
     pub(crate) root: usize,
 }
 
-/// The cases that a request asks for: of those below its folders, those with a name that it asks for, and of these its part.
+/// Selects the cases that a request asks for: of the cases below its folders those with a name that it asks
+/// for, and of these its part.
 pub(crate) fn select_cases<'a, R: Files + AllocGlobal + Clone + Drop>(
     rt: &R,
     request: &TestRequest<'a>,
@@ -71,7 +72,7 @@ fn stop_for_unread(folder: &str, kind: ErrorKind) -> Stop<'_> {
     }
 }
 
-/// The cases of a part.
+/// Takes the cases of a part.
 fn part_of<R: AllocGlobal>(
     rt: &R,
     cases: Vec<Case>,
@@ -86,7 +87,7 @@ fn part_of<R: AllocGlobal>(
     Ok(part)
 }
 
-/// A folder's path without slashes at its end.
+/// Cuts off the slashes at the end of a folder's path.
 fn trim_slashes(folder: &str) -> &str {
     folder.trim_end_matches('/')
 }
