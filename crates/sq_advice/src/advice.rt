@@ -1,4 +1,4 @@
-//! What is said beside a line of `check`.
+//! The advice beside a line of `check`.
 
 use crate::spelled::{bytes_from, length_of_word};
 use sq_lex::LexFaultKind;

@@ -1,4 +1,4 @@
-//! What is said beside a refusal of a schema for what it means: which name it is about.
+//! The advice beside a refusal of a schema for its meaning: which name it is about.
 
 ghost use Rattle.std.specs.Prelude.{◌≡◌, IfSome};
 ghost use Rattle.sq_advice.specs.Named as spec;
@@ -18,7 +18,7 @@ use sq_lex::{Name, Token, Word};
 use sq_meaning::SchemaFault;
 use std::alloc::{AllocError, Global};
 
-/// What is said of the element that begins at a line and column of a schema text, by its number, and is refused.
+/// Makes the advice on a refused element, which begins at a line and column of the schema text of a number.
 pub fn advice_on_schema(
     alloc: Global,
     schemas: &Schemas<'_>,
@@ -44,7 +44,7 @@ pub fn advice_on_schema(
     advice_on(alloc, schemas, source, &element, fault)
 }
 
-/// The user of the schema that begins at a token, or in which it stands.
+/// Finds the user of the schema that begins at a token, or that holds it.
 fn user_of(tokens: &[Token], first: usize) -> Option<Name> {
     user_before(tokens, first).or(name_at(tokens, first.saturating_add(3)))
 }
@@ -106,7 +106,7 @@ pub(crate) fn length_of_written(text: &[u8], tokens: &[Token], index: usize) -> 
     }
 }
 
-/// What is said of the name at the token of a number.
+/// Says what is wrong with the name at the token of a number.
 fn words_on(
     alloc: Global,
     schemas: &Schemas<'_>,
@@ -172,7 +172,7 @@ pub(crate) fn add_written(
     }
 }
 
-/// What a refusal says of the name that it is about.
+/// Says what a refusal finds wrong with the name that it is about.
 fn says_of(fault: SchemaFault, is_table: bool, tokens: &[Token], index: usize) -> &'static [u8] {
     match fault {
         SchemaFault::NameTwice if is_word(tokens, 1, Word::Schema) => b" has a schema already",
@@ -196,7 +196,7 @@ fn says_of(fault: SchemaFault, is_table: bool, tokens: &[Token], index: usize) -
     }
 }
 
-/// What is said of the privilege that an element's user lacks.
+/// Makes the advice on the privilege that an element's user lacks.
 fn missing_privilege(
     alloc: Global,
     schemas: &Schemas<'_>,

@@ -11,8 +11,8 @@ use sq_lex::{Characters, LexError, Lexeme, Token, lex};
 use sq_parse::ParseError;
 use std::alloc::{AllocError, Global};
 
-/// What is tried: a name, a number, a text, each reserved word, each symbol, and CALL, which is a name where it begins no item of
-/// a script.
+/// The tokens that are tried: a name, a number, a text, each reserved word and each symbol. CALL is tried
+/// too, which is a name if it begins no item of a script.
 pub(crate) const TRIED: &[u8] = b"\
 N 1 '' ABSOLUTE ALL AND ANY AS ASC AUTHORIZATION AVG BETWEEN BY CALL CHAR CHARACTER CHECK CLOSE COMMIT COUNT CREATE CURRENT CURSOR DEC \
 DECIMAL DECLARE DEFAULT DELETE DESC DISTINCT ESCAPE EXISTS FETCH FIRST FOR FOREIGN FROM GRANT GROUP HAVING IN INDICATOR INSENSITIVE \
@@ -131,16 +131,17 @@ fn may_go_on(refusal: Option<ParseError>) -> bool
     matches!(refusal, None | Some(ParseError::EndOfText))
 }
 
+/// Whether a token is a name.
 pub(crate) fn is_name(token: &Token) -> bool {
     matches!(token.lexeme, Lexeme::Name(_))
 }
 
-/// Whether a token that was tried stands for all names.
+/// Whether a token that was tried is taken as any name.
 pub(crate) fn stands_for_names(token: &Token) -> bool {
     is_name(token) && token.start == 0
 }
 
-/// What a token that was tried is called: its spelling, or what it stands for.
+/// Describes a token that was tried, by its spelling or its kind.
 pub(crate) fn describe(token: &Token) -> &'static [u8] {
     match &token.lexeme {
         Lexeme::Number(_) => b"a number",
@@ -159,7 +160,7 @@ fn name_or_call(start: usize) -> &'static [u8] {
     }
 }
 
-/// What was tried, from a byte to the next blank.
+/// Gives the bytes of `TRIED` from one up to the next blank.
 fn up_to_blank(start: usize) -> &'static [u8] {
     let tried = TRIED;
     if tried.len() < start {

@@ -8,7 +8,7 @@ pub(crate) fn find_ungrouped(part: &[Token]) -> Option<usize> {
     (0..part.len()).find(|index| is_ungrouped(part, *index))
 }
 
-/// Whether an ungrouped column stands at the token of a number: in the list or the HAVING of a query that groups.
+/// Whether an ungrouped column is at the token of a number: in the list or the HAVING of a query that groups.
 fn is_ungrouped(part: &[Token], index: usize) -> bool {
     match query_of(part, index) {
         Some(query) => {
@@ -38,7 +38,8 @@ fn is_parameter_name(part: &[Token], index: usize) -> bool {
     is_symbol(part, index_before(index), Symbol::Colon)
 }
 
-/// How many more brackets are closed than opened, from one token to another; nothing where more are opened in between.
+/// Counts how many more brackets are closed than opened, from one token to another; nothing if more are
+/// opened in between.
 fn count_closed(part: &[Token], from: usize, to: usize) -> Option<usize> {
     let mut open: usize = 0;
     for index in from..to.min(part.len()) {
@@ -51,7 +52,7 @@ fn count_closed(part: &[Token], from: usize, to: usize) -> Option<usize> {
     Some(open)
 }
 
-/// The number of the SELECT of the innermost query in which the token of a number stands.
+/// Finds the SELECT of the innermost query that holds the token of a number.
 fn query_of(part: &[Token], index: usize) -> Option<usize> {
     (0..index).rev().find(|select| is_word(part, *select, Word::Select)
         && count_closed(part, *select, index).is_some())
@@ -64,7 +65,7 @@ fn word_of(part: &[Token], query: usize, word: Word) -> Option<usize> {
         && is_same_query(part, query, *index))
 }
 
-/// Whether no UNION stands between the SELECT of a query and a token.
+/// Whether no UNION is between the SELECT of a query and a token.
 fn is_same_query(part: &[Token], query: usize, index: usize) -> bool {
     !(query..index).any(|at| is_word(part, at, Word::Union)
         && count_closed(part, query, at) == Some(0))
@@ -92,7 +93,7 @@ fn is_set_function(part: &[Token], index: usize) -> bool {
     }
 }
 
-/// Whether a token stands in the list of a query or behind its HAVING, and not in the brackets of a set function.
+/// Whether a token is in the list of a query or after its HAVING, and not in the brackets of a set function.
 fn is_of_group(part: &[Token], query: usize, index: usize) -> bool {
     let list = word_of(part, query, Word::Into)
         .or(word_of(part, query, Word::From))
@@ -105,7 +106,7 @@ fn is_of_group(part: &[Token], query: usize, index: usize) -> bool {
     (is_listed || is_had) && !is_summed(part, query, index)
 }
 
-/// Whether a token stands behind the ORDER BY of a query.
+/// Whether a token is after the ORDER BY of a query.
 fn is_sorted(part: &[Token], query: usize, index: usize) -> bool {
     match word_of(part, query, Word::Order) {
         Some(order) => order < index,
@@ -113,7 +114,7 @@ fn is_sorted(part: &[Token], query: usize, index: usize) -> bool {
     }
 }
 
-/// Whether a token stands in the brackets of a set function.
+/// Whether a token is in the brackets of a set function.
 fn is_summed(part: &[Token], query: usize, index: usize) -> bool {
     (query..index).any(|at| is_set_function(part, at)
         && matches!(count_closed(part, index_after(at), index), Some(open) if open > 0))

@@ -1,4 +1,4 @@
-//! Where the name stands that a fault of meaning is about, and the declared name nearest to it.
+//! The place of the name that a fault of meaning is about, and the declared name nearest to it.
 
 ghost use Rattle.std.specs.Prelude.{◌≡◌};
 ghost use Rattle.sq_advice.specs.Named as spec;
@@ -45,7 +45,7 @@ pub struct Module<'t, 's> {
 }
 
 impl<'t, 's> Module<'t, 's> {
-    /// A module's text over those of schemas.
+    /// Puts a module's text over the texts of schemas.
     pub fn new(
         alloc: Global,
         schemas: &'s Schemas<'t>,
@@ -61,7 +61,7 @@ impl<'t, 's> Module<'t, 's> {
         })
     }
 
-    /// The tokens of the declaration of a cursor; none where it is not declared.
+    /// Finds the tokens of the declaration of a cursor; none if it is not declared.
     pub(crate) fn declaration_of(&self, cursor: Name) -> &[Token] {
         match self.cursors.get(&cursor) {
             Some(first) => element_of(TextKind::Module, self.source.tokens.as_slice(), *first),
@@ -69,7 +69,8 @@ impl<'t, 's> Module<'t, 's> {
         }
     }
 
-    /// What is said of a part with a fault that begins at a line and column, and the name that the fault is about.
+    /// Makes the advice on a part with a fault. The part begins at a line and column, and the fault is about
+    /// a name.
     pub fn advice(
         &self,
         alloc: Global,
@@ -91,7 +92,7 @@ impl<'t, 's> Module<'t, 's> {
         }
     }
 
-    /// What is said of the privilege that the module's user lacks for a part.
+    /// Makes the advice on the privilege that the module's user lacks for a part.
     fn advice_on_privilege(&self, alloc: Global, part: &[Token]) -> Result<Advice, AllocError> {
         let mut words = Vec::new(alloc);
         let mut at = 0;
@@ -106,7 +107,7 @@ impl<'t, 's> Module<'t, 's> {
         Ok(advice)
     }
 
-    /// What is said of the column of a part that is not grouped.
+    /// Makes the advice on the column of a part that is not grouped.
     fn advice_on_group(&self, alloc: Global, part: &[Token]) -> Result<Advice, AllocError> {
         let mut words = Vec::new(alloc);
         let Some(at) = find_ungrouped(part) else {
@@ -117,7 +118,7 @@ impl<'t, 's> Module<'t, 's> {
         Ok(self.at_token(alloc, part, at, words, Vec::new(alloc)))
     }
 
-    /// What is said of a name in a part.
+    /// Makes the advice on a name in a part.
     fn advice_about(
         &self,
         alloc: Global,
@@ -155,7 +156,7 @@ impl<'t, 's> Module<'t, 's> {
         }
     }
 
-    /// Adds where a cursor is declared, if it is, and what is wrong with it.
+    /// Adds the place at which a cursor is declared, if it is, and what is wrong with it.
     fn add_cursor(&self, words: &mut Vec<u8>, alloc: Global, name: Name) -> Result<(), AllocError> {
         let Some(index) = self.cursors.get(&name) else {
             return Ok(());
@@ -174,7 +175,7 @@ impl<'t, 's> Module<'t, 's> {
         }
     }
 
-    /// Adds where the table at a token is declared, if that is so with an error.
+    /// Adds the place at which the table at a token is declared, if that is so with an error.
     fn add_table(
         &self,
         words: &mut Vec<u8>,
@@ -244,7 +245,7 @@ impl<'t, 's> Module<'t, 's> {
         Ok(words)
     }
 
-    /// An advice at the token of a number that says what stands there, and what to do.
+    /// Makes an advice at the token of a number, with the token there and a hint.
     fn at_token(
         &self,
         alloc: Global,
@@ -292,7 +293,7 @@ fn add_cursor(
     Ok(())
 }
 
-/// What a fault is about.
+/// Finds the name that a fault is about.
 fn subject_of(rule: BindingFault, name: Name) -> Subject {
     Subject {
         kind: kind_of(rule),
@@ -347,8 +348,8 @@ fn nearest_declared(
     Ok(near)
 }
 
-/// The number of the token of a part that a fault is about: the first use of the name there, or the last where it stands twice; else
-/// the part's first token.
+/// Finds the token of a part that a fault is about: the first use of the name there, or the last if the name
+/// occurs twice. If there is none, it answers the part's first token.
 fn place_in(part: &[Token], subject: &Subject) -> usize {
     let found = if subject.is_twice {
         (0..part.len())
@@ -378,7 +379,7 @@ fn is_use(part: &[Token], index: usize, subject: &Subject) -> bool {
     }
 }
 
-/// The number of the first token of a part that is the name of a table behind that of its user.
+/// Finds the first token of a part that is the name of a table after its user's.
 fn table_after_user(part: &[Token], subject: &Subject) -> Option<usize> {
     if subject.kind == NameKind::Table {
         (0..part.len()).find(|index| is_name(part, *index, subject.name))
@@ -387,7 +388,7 @@ fn table_after_user(part: &[Token], subject: &Subject) -> Option<usize> {
     }
 }
 
-/// The first byte and the length of a token; of none, those of the text's first byte.
+/// Gives the first byte and the length of a token, or of the text's first byte if there is none.
 pub(crate) fn place_of(text: &[u8], token: Option<&Token>) -> (usize, usize) {
     match token {
         Some(token) => (token.start, spelling_of(text, token).len()),

@@ -15,7 +15,7 @@ pub(crate) struct Need {
     pub(crate) at: usize,
 }
 
-/// What a privilege is needed for.
+/// The use for which a privilege is needed.
 #[derive(Clone, Copy)]
 pub(crate) enum Use {
     /// To do to a table what a statement does.
@@ -35,7 +35,8 @@ pub(crate) fn need_for(tokens: &[Token], index: usize, user: Name, how: Use) -> 
     }
 }
 
-/// The privilege that is needed for the table whose name begins at the token of a number, where no other user is written for this user.
+/// Finds the privilege that is needed for the table whose name begins at the token of a number. The table is
+/// this user's if no other user is written.
 pub(crate) fn need_at(tokens: &[Token], index: usize, user: Name) -> Option<Need> {
     let action = action_at(tokens, index)?;
     let written = table_name_at(tokens, index)?;
@@ -52,7 +53,7 @@ fn need_of(action: Word, written: &TableName, at: usize, user: Name, column: Opt
     }
 }
 
-/// What is done to the table whose name begins at the token of a number.
+/// Finds what a statement does to the table whose name begins at the token of a number.
 fn action_at(tokens: &[Token], index: usize) -> Option<Word> {
     let last = index_before(index);
     if is_word(tokens, last, Word::Into) && is_word(tokens, index_before(last), Word::Insert) {
@@ -90,7 +91,7 @@ fn is_source(tokens: &[Token], index: usize) -> bool {
         && !is_word(tokens, index_after(index), Word::Into)
 }
 
-/// Whether a token may stand among the tables of a FROM clause.
+/// Whether a token may be among the tables of a FROM clause.
 fn is_of_sources(token: &Token) -> bool {
     matches!(
         token.lexeme,
@@ -119,7 +120,8 @@ fn need_of_set(tokens: &[Token], index: usize, user: Name) -> Option<Need> {
     ))
 }
 
-/// The privilege that is needed where an UPDATE or a DELETE reads the table whose name begins at the token of a number.
+/// Finds the privilege that is needed if an UPDATE or a DELETE reads the table whose name begins at the token
+/// of a number.
 fn need_to_read(tokens: &[Token], index: usize, user: Name) -> Option<Need> {
     match action_at(tokens, index)? {
         Word::Update | Word::Delete => {
@@ -130,7 +132,7 @@ fn need_to_read(tokens: &[Token], index: usize, user: Name) -> Option<Need> {
     }
 }
 
-/// What is granted on a table to whom, by the tokens of a grant.
+/// A grant by its tokens: the privileges on a table, and who gets them.
 #[derive(Clone, Copy)]
 pub(crate) struct Grant<'t> {
     pub(crate) tokens: &'t [Token],
@@ -194,7 +196,7 @@ impl<'t> Grant<'t> {
         }
     }
 
-    /// Whether a name stands in the list that a bracket opens.
+    /// Whether a name is in the list that a bracket opens.
     fn lists(&self, open: usize, name: Name) -> bool {
         let rest = self.tokens.iter().skip(index_after(open));
         rest.take_while(|token| !is_close(token))

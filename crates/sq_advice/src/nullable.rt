@@ -14,7 +14,7 @@ struct Query<'m> {
     user: Name,
 }
 
-/// The numbers of the tokens of a procedure among which its targets stand, from its INTO on.
+/// Finds the numbers of the tokens of a procedure between which its targets are, from its INTO on.
 pub(crate) fn targets_of(part: &[Token]) -> (usize, usize) {
     let into = (0..part.len()).find(|index| is_word(part, *index, Word::Into)
         && !is_word(part, index_before(*index), Word::Insert));
@@ -33,8 +33,8 @@ fn is_of_targets(token: &Token) -> bool {
     )
 }
 
-/// Whether the token of a number is the name of a target without an indicator, behind the INTO of a procedure, and what comes into
-/// it may be null.
+/// Whether the token of a number is a target without an indicator, after the INTO of a procedure, and may get
+/// a null.
 pub(crate) fn lacks_indicator(
     module: &Module<'_, '_>,
     part: &[Token],
@@ -53,7 +53,7 @@ pub(crate) fn lacks_indicator(
     }
 }
 
-/// Whether a target's name is the token of a number: it stands behind a colon that begins a target.
+/// Whether a target's name is the token of a number: it is after a colon that begins a target.
 fn is_target(part: &[Token], index: usize) -> bool {
     let colon = index_before(index);
     let begins = is_word(part, index_before(colon), Word::Into)
@@ -66,14 +66,15 @@ fn has_indicator(part: &[Token], index: usize) -> bool {
         || is_symbol(part, index_after(index), Symbol::Colon)
 }
 
-/// How many commas stand between two tokens.
+/// Counts the commas between two tokens.
 fn commas_between(part: &[Token], from: usize, to: usize) -> usize {
     (from..to)
         .filter(|index| is_symbol(part, *index, Symbol::Comma))
         .count()
 }
 
-/// The query whose row comes into the targets behind an INTO: that of the procedure, or of the cursor that it fetches from.
+/// Finds the query whose row comes into the targets after an INTO: the procedure's, or the cursor's that it
+/// fetches from.
 fn query_of<'m>(module: &'m Module<'_, '_>, part: &'m [Token], into: usize) -> Option<Query<'m>> {
     let user = module.user?;
     match name_at(part, index_before(into)) {
@@ -100,7 +101,7 @@ fn from_select(tokens: &[Token]) -> &[Token] {
     &tokens[start.unwrap_or(tokens.len()).min(tokens.len())..]
 }
 
-/// The item behind so many others in the list of a query that begins with SELECT.
+/// Finds the item after so many others in the list of a query that begins with SELECT.
 fn nth_item(query: &[Token], place: usize) -> &[Token] {
     let list = &query[list_start(query).min(query.len())..];
     let mut rest = list;
@@ -119,7 +120,7 @@ fn list_start(query: &[Token]) -> usize {
     }
 }
 
-/// What stands behind the first item and its comma.
+/// Gives the tokens after the first item and its comma.
 fn tail_after_item(list: &[Token]) -> &[Token] {
     &list[index_after(item_length(list)).min(list.len())..]
 }
@@ -151,7 +152,8 @@ fn open_behind(open: usize, token: &Token) -> usize {
     }
 }
 
-/// Whether an item of a query is a column that is not declared NOT NULL, or a set function that has no value where there is no row.
+/// Whether an item of a query is a column that is not declared NOT NULL, or a set function that has no value
+/// if there is no row.
 fn may_be_null(schemas: &Schemas<'_>, query: &Query<'_>, item: &[Token]) -> bool {
     if is_of_no_rows(item) && is_symbol(item, index_before(item.len()), Symbol::Close) {
         return !has_groups(query.tokens);
@@ -165,7 +167,7 @@ fn may_be_null(schemas: &Schemas<'_>, query: &Query<'_>, item: &[Token]) -> bool
     }
 }
 
-/// Whether a set function that is null where there is no row stands at the start of an item.
+/// Whether a set function that is null if there is no row begins an item.
 fn is_of_no_rows(item: &[Token]) -> bool {
     match item.first() {
         Some(token) => matches!(

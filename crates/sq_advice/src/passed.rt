@@ -13,10 +13,10 @@ use crate::spelled::{bytes_from as bytes_behind, length_of_word, spelling_of};
 use sq_lex::{Token, Word};
 use std::alloc::{AllocError, Global};
 
-/// What is refused at a byte of a text.
+/// The thing that is refused at a byte of a text.
 #[derive(Clone, Copy, Debug, PartialEq, Eq)]
 pub enum Why {
-    /// The element in which it stands.
+    /// The element that holds it.
     Element,
     /// The token that begins there, which cannot follow those before it.
     Token,
@@ -24,15 +24,15 @@ pub enum Why {
     NoToken,
 }
 
-/// A piece of a text, by its first byte and the byte behind it.
+/// A piece of a text, by its first byte and the byte after it.
 #[derive(Clone, Copy, Debug, PartialEq, Eq)]
 pub struct Piece {
     pub start: usize,
     pub end: usize,
 }
 
-/// A text in which what is refused at a byte is passed over: its element; in the head of a text, or of a schema, the token or the piece
-/// alone. Nothing where the head can't be mended so.
+/// Passes over the element that is refused at a byte of a text. In the head of a text, or of a schema, it
+/// passes over the token or the piece alone. It answers nothing if the head can't be mended so.
 #[tactic(auto, using(crate::proofs::Left::one_left))]
 pub fn pass_over(
     alloc: Global,
@@ -54,14 +54,14 @@ pub fn pass_over(
     }
 }
 
-/// What stands from a byte on in its line.
+/// Finds the bytes from one on in its line.
 fn rest_of_line(text: &[u8], at: usize) -> Option<Piece>
     ensures { IfSome result (IsPieceOf text.now) }
 {
     piece_of(text, at, first_line(bytes_behind(text, at)).len())
 }
 
-/// The piece of a text to be passed over for what is refused at a byte that stands in no comment.
+/// Finds the piece of a text to be passed over for a refusal at a byte in no comment.
 fn piece_around(
     alloc: Global,
     kind: TextKind,
@@ -95,13 +95,14 @@ fn piece_at(kind: TextKind, text: &[u8], tokens: &[Token], at: usize, why: Why) 
     }
 }
 
-/// The number of the token with which the element begins that is refused at a byte: before the byte, where a token is refused.
+/// Finds the token with which the element begins that is refused at a byte. If a token is refused, it begins
+/// before the byte.
 fn element_at(kind: TextKind, tokens: &[Token], at: usize, why: Why) -> Option<usize> {
     (0..tokens.len()).rev().find(|index| begins_at(kind, tokens, *index)
         && is_up_to(tokens, *index, at, why))
 }
 
-/// Whether a token begins before a byte, or at it where no token is refused there.
+/// Whether a token begins before a byte, or at it if no token is refused there.
 fn is_up_to(tokens: &[Token], index: usize, at: usize, why: Why) -> bool {
     match tokens.get(index) {
         Some(token) => token.start < at || token.start == at && why != Why::Token,

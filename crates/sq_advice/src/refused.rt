@@ -20,7 +20,7 @@ pub(crate) struct Element<'t> {
     pub(crate) place: (usize, usize),
 }
 
-/// The number of the token of an element that a refusal is about, where one is found.
+/// Finds the token of an element that a refusal is about, if one is found.
 pub(crate) fn token_of_refusal(
     schemas: &Schemas<'_>,
     element: &Element<'_>,
@@ -50,7 +50,7 @@ pub(crate) fn token_of_refusal(
     }
 }
 
-/// The name of a user's second schema, of a table that is there, or of a column that stands twice.
+/// Finds the name of a user's second schema, of a table that exists, or of a column that occurs twice.
 fn repeated_name(schemas: &Schemas<'_>, element: &Element<'_>) -> Option<usize> {
     let tokens = element.tokens;
     if is_word(tokens, 1, Word::Schema) {
@@ -76,7 +76,8 @@ pub(crate) fn find_earlier<'s>(
     }
 }
 
-/// Whether a column stands at the token of a number that stands before, in a table, or in a view's list or select list.
+/// Whether a column at the token of a number has occurred before, in a table, or in a view's list or select
+/// list.
 fn is_column_twice(tokens: &[Token], index: usize) -> bool {
     match name_at(tokens, index) {
         Some(name) => {
@@ -98,7 +99,7 @@ fn is_new_column(tokens: &[Token], index: usize) -> bool {
     index > 2 && ends
 }
 
-/// Whether a table or a column that is not there is named at the token of a number by a key, a reference or a grant.
+/// Whether a key, a reference or a grant names an unknown table or column at the token of a number.
 fn is_unknown(schemas: &Schemas<'_>, element: &Element<'_>, index: usize) -> bool {
     let tokens = element.tokens;
     if is_table_named(tokens, index) {
@@ -150,7 +151,7 @@ fn is_listed_column(schemas: &Schemas<'_>, element: &Element<'_>, open: usize, n
     }
 }
 
-/// The table of whose columns a list is: the one behind REFERENCES, or that of a grant.
+/// Finds the table whose columns a list has: the one after REFERENCES, or a grant's.
 fn table_of_list<'s>(
     schemas: &'s Schemas<'_>,
     element: &Element<'_>,
@@ -166,7 +167,7 @@ fn table_of_list<'s>(
     written_table(schemas, element, at)
 }
 
-/// Whether a column of a key stands at the token of a number that is not declared NOT NULL.
+/// Whether a column of a key is at the token of a number, and is not declared NOT NULL.
 fn is_nullable(tokens: &[Token], index: usize) -> bool {
     if column_at(tokens, index).is_some() {
         let definition = definition_at(tokens, index);
@@ -225,7 +226,8 @@ fn is_of_columns(tokens: &[Token], open: usize) -> bool {
         || (open.saturating_sub(3)..open).any(|index| is_table_named(tokens, index))
 }
 
-/// The name of the table of a reference that fits no key of it; of the first reference, where all seem to fit.
+/// Finds the name of the table of a reference that fits no key of it; of the first reference if all seem to
+/// fit.
 fn bad_reference(schemas: &Schemas<'_>, element: &Element<'_>) -> Option<usize> {
     let tokens = element.tokens;
     let bad = (0..tokens.len()).find(|index| is_table_named(tokens, *index)
@@ -233,7 +235,7 @@ fn bad_reference(schemas: &Schemas<'_>, element: &Element<'_>) -> Option<usize> 
     bad.or((0..tokens.len()).find(|index| is_table_named(tokens, *index)))
 }
 
-/// Whether the columns of the reference to the table that is named at a token are those of a key of it.
+/// Whether the reference to the table that is named at a token has the columns of a key of that table.
 fn fits_key(schemas: &Schemas<'_>, element: &Element<'_>, index: usize) -> bool {
     match (
         written_table(schemas, element, index),
@@ -247,7 +249,7 @@ fn fits_key(schemas: &Schemas<'_>, element: &Element<'_>, index: usize) -> bool 
     }
 }
 
-/// The tokens in the brackets that open at the token of a number; none where no bracket opens there.
+/// Gives the tokens in the brackets that open at the token of a number; none if no bracket opens there.
 fn names_from(tokens: &[Token], open: usize) -> &[Token] {
     if is_symbol(tokens, open, Symbol::Open) {
         let rest = &tokens[index_after(open).min(tokens.len())..];
@@ -258,7 +260,7 @@ fn names_from(tokens: &[Token], open: usize) -> &[Token] {
     }
 }
 
-/// Whether a table has a key of these columns; a primary one, where there are none.
+/// Whether a table has a key of these columns; a primary one if there are none.
 fn has_key(table: &[Token], columns: &[Token]) -> bool {
     (0..table.len()).any(|index| is_key_of(table, index, columns))
 }
@@ -301,7 +303,8 @@ fn is_of_column(table: &[Token], index: usize, columns: &[Token]) -> bool {
     }
 }
 
-/// Whether a name that is no column of the table, a subquery, a set function or USER stands in a CHECK at the token of a number.
+/// Whether a CHECK may not have the token of a number: a name that is no column of the table, a subquery, a
+/// set function or USER.
 fn is_bad_in_check(tokens: &[Token], index: usize) -> bool {
     let is_wrong = match name_at(tokens, index) {
         Some(name) => {
@@ -323,7 +326,7 @@ fn is_no_check(tokens: &[Token], index: usize) -> bool {
         || is_word(tokens, index, Word::Max)
 }
 
-/// Whether the token of a number stands in the brackets of a CHECK.
+/// Whether the token of a number is in the brackets of a CHECK.
 fn is_in_check(tokens: &[Token], index: usize) -> bool {
     (0..index).rev().any(|check| is_word(tokens, check, Word::Check)
         && is_inside(tokens, index_after(check), index))
@@ -359,7 +362,7 @@ fn is_unknown_source(schemas: &Schemas<'_>, element: &Element<'_>, index: usize)
     }
 }
 
-/// The number of the token with which the column behind so many others begins.
+/// Finds the token with which the column after so many others begins.
 fn nth_column(tokens: &[Token], count: usize) -> Option<usize> {
     (0..tokens.len())
         .filter(|index| column_at(tokens, *index).is_some())

@@ -1,4 +1,4 @@
-//! What is said beside a refusal of a module for what it means: which name it is about.
+//! The advice beside a refusal of a module for its meaning: which name it is about.
 
 use crate::advice::Advice;
 use crate::element::{begins_at, element_of, token_at};
@@ -13,7 +13,7 @@ use sq_meaning::ModuleFault;
 use std::alloc::{AllocError, Global};
 
 impl Module<'_, '_> {
-    /// What is said of the part that begins at a line and column, where the module is refused.
+    /// Makes the advice on the refused part of a module, which begins at a line and column.
     pub fn advice_on_refusal(
         &self,
         alloc: Global,
@@ -61,7 +61,7 @@ impl Module<'_, '_> {
         words.extend_from_slice(says_of(self.source.text.bytes, part, fault))
     }
 
-    /// Adds where the earlier part with the name of this one is declared.
+    /// Adds the place at which the earlier part with the name of this one is declared.
     fn add_earlier(
         &self,
         words: &mut Vec<u8>,
@@ -85,7 +85,7 @@ impl Module<'_, '_> {
         Ok(())
     }
 
-    /// Adds where a cursor is opened, as far as it is.
+    /// Adds the places at which a cursor is opened, or that it never is.
     fn add_openings(
         &self,
         words: &mut Vec<u8>,
@@ -108,7 +108,7 @@ impl Module<'_, '_> {
         Ok(())
     }
 
-    /// Adds where a cursor is opened, behind the places before.
+    /// Adds a place at which a cursor is opened, after the places before.
     fn add_opening(
         &self,
         words: &mut Vec<u8>,
@@ -131,7 +131,7 @@ impl Module<'_, '_> {
     }
 }
 
-/// What a refusal says of the name that it is about.
+/// Says what a refusal finds wrong with the name that it is about.
 fn says_of(text: &[u8], part: &[Token], fault: ModuleFault) -> &'static [u8] {
     match fault {
         ModuleFault::TwoModules => b" is an earlier module's name",

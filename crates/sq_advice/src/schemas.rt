@@ -61,7 +61,8 @@ impl<'t> Schemas<'t> {
         find_nearest(self.columns.as_slice(), name)
     }
 
-    /// Adds that a table is declared, and where, as it is said in a file; also that its declaration has an error, if it has.
+    /// Adds the place at which a table is declared, as it is said in a file. If its declaration has an error,
+    /// it adds that, too.
     pub(crate) fn add_declared(
         &self,
         words: &mut Vec<u8>,

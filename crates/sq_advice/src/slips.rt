@@ -1,4 +1,4 @@
-//! What a module may not mean as it is written: a parameter that no statement uses, a cursor that is never fetched, and a target
+//! Doubts about a module: a parameter that no statement uses, a cursor that is never fetched, and a target
 //! without an indicator for a column that may be null.
 
 use crate::advice::Advice;
@@ -22,7 +22,7 @@ pub enum Doubt {
     UnusedParameter,
     /// No procedure fetches from the cursor.
     NeverFetched,
-    /// What comes into the target may be null, and no indicator is given.
+    /// A null may come into the target, and no indicator is given.
     NoIndicator,
 }
 
@@ -184,7 +184,7 @@ fn uses(tokens: &[Token], name: Name) -> bool {
     })
 }
 
-/// The declaration of the cursor that a procedure opens; no tokens where it opens none.
+/// Finds the declaration of the cursor that a procedure opens; no tokens if it opens none.
 fn find_opened<'m>(module: &'m Module<'_, '_>, part: &[Token]) -> &'m [Token] {
     let open = (0..part.len()).find(|index| is_word(part, *index, Word::Open));
     match name_at(part, index_after(open.unwrap_or(part.len()))) {
@@ -193,7 +193,7 @@ fn find_opened<'m>(module: &'m Module<'_, '_>, part: &[Token]) -> &'m [Token] {
     }
 }
 
-/// What may be wrong at a name of a part.
+/// Makes the warning at a name of a part.
 fn slip_at(
     alloc: Global,
     module: &Module<'_, '_>,
@@ -220,7 +220,8 @@ fn slip_at(
     })
 }
 
-/// What to look at: the name without a colon in the procedure, or in the cursor that it opens; or how to fetch.
+/// Makes the hint on a doubt: the name without a colon in the procedure, or in the cursor that it opens; or
+/// how to fetch.
 fn hint_on(
     alloc: Global,
     module: &Module<'_, '_>,
@@ -249,7 +250,7 @@ fn hint_on(
     Ok(words)
 }
 
-/// Adds that a name stands without a colon.
+/// Adds that a name without a colon is a column.
 fn add_bare(
     words: &mut Vec<u8>,
     alloc: Global,
@@ -267,7 +268,7 @@ fn add_bare(
     words.extend_from_slice(name.codes())
 }
 
-/// The first token that is a name without a colon, behind the name of the part.
+/// Finds the first token that is a name without a colon, after the name of the part.
 fn find_bare(tokens: &[Token], name: Name) -> Option<&Token> {
     let found = (0..tokens.len()).find(|index| is_bare(tokens, *index, name));
     tokens.get(found?)
@@ -286,7 +287,7 @@ fn is_set(tokens: &[Token], index: usize) -> bool {
     is_symbol(tokens, index_after(index), Symbol::Equal) && !is_compared(tokens, index)
 }
 
-/// Whether a comparison may begin at the token of this number: it is not behind SET or a comma.
+/// Whether a comparison may begin at the token of this number: it is not after SET or a comma.
 fn is_compared(tokens: &[Token], index: usize) -> bool {
     !is_word(tokens, index_before(index), Word::Set)
         && !is_symbol(tokens, index_before(index), Symbol::Comma)

@@ -8,7 +8,7 @@ pub(crate) fn spelling_of<'t>(text: &'t [u8], token: &Token) -> &'t [u8] {
     &rest[..length_of(rest, &token.lexeme).min(rest.len())]
 }
 
-/// What stands from a byte on; past the text's end that is nothing.
+/// Gives the bytes from one on; past the text's end there are none.
 pub(crate) fn bytes_from(text: &[u8], start: usize) -> &[u8] {
     if start <= text.len() {
         &text[start..]
@@ -33,6 +33,7 @@ pub(crate) fn length_of_word(text: &[u8]) -> usize {
     text.iter().take_while(|byte| is_of_word(**byte)).count()
 }
 
+/// Whether a byte may be in a word: a letter, a digit or an underscore.
 pub(crate) fn is_of_word(byte: u8) -> bool {
     byte.is_ascii_alphanumeric() || byte == b'_'
 }

@@ -20,7 +20,7 @@ pub(crate) struct Table {
 pub(crate) struct TableName {
     pub(crate) owner: Option<Name>,
     pub(crate) name: Name,
-    /// The number of the token behind it.
+    /// The number of the token after it.
     pub(crate) end: usize,
 }
 
@@ -124,7 +124,8 @@ pub(crate) fn column_named(table: &[Token], name: Name) -> Option<usize> {
         && is_type(table, index_after(*index)))
 }
 
-/// Whether a table or a view may have a column of this name: a view, where its text has the name, or selects all columns.
+/// Whether a table or a view may have a column of this name: a view if its text has the name, or selects all
+/// columns.
 pub(crate) fn may_have(table: &[Token], name: Name) -> bool {
     if is_word(table, 1, Word::Table) {
         return column_named(table, name).is_some();
@@ -133,7 +134,8 @@ pub(crate) fn may_have(table: &[Token], name: Name) -> bool {
         || is_symbol(table, index, Symbol::Star))
 }
 
-/// The tokens from one on that belong to a column's definition: up to the comma or the bracket behind it.
+/// Gives the tokens from one on that belong to a column's definition: up to the comma or the bracket after
+/// it.
 pub(crate) fn definition_at(table: &[Token], index: usize) -> &[Token] {
     let rest = &table[index.min(table.len())..];
     let mut open: usize = 0;
@@ -165,7 +167,7 @@ pub(crate) fn is_not_null(definition: &[Token]) -> bool {
         && !is_word(definition, index_before(index), Word::Is))
 }
 
-/// The number of the bracket that opens the list of names in which the token of a number stands.
+/// Finds the bracket that opens the list of names that holds the token of a number.
 pub(crate) fn list_of(tokens: &[Token], index: usize) -> Option<usize> {
     let count = tokens
         .iter()

@@ -24,7 +24,7 @@ pub(crate) fn has_bad_type(text: &[u8], definition: &[Token]) -> bool {
     }
 }
 
-/// The number of the bracket behind a type.
+/// Finds the bracket after a type.
 fn length_open(definition: &[Token]) -> Option<usize> {
     let open = (1..definition.len().min(4)).find(|index| is_symbol(
         definition,
