@@ -227,6 +227,7 @@ fn status_of_refusal<R: Print + Eprint>(
     REFUSED
 }
 
+/// Checks the schemas and modules of a request.
 #[tactic(auto, using(crate::proofs::Named::checked_one))]
 pub(crate) fn check_sources(alloc: Global, sources: &Sources) -> Result<Checked, Fault>
     ensures checked { IfOk result

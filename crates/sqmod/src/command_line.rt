@@ -448,6 +448,7 @@ fn modules_option<'a>(alloc: Global) -> Arg<'a>
     files_option(alloc, "module", "A file with a module").required(true)
 }
 
+/// Makes the option for a script.
 pub(crate) fn script_option<'a>(alloc: Global) -> Arg<'a>
     ensures rule { rule_of result ≡ spec.script_rule }
     ensures local { result.global ≡ false }
@@ -455,6 +456,7 @@ pub(crate) fn script_option<'a>(alloc: Global) -> Arg<'a>
     value_option(alloc, "script", "F", "The file with the script").required(true)
 }
 
+/// Makes the option for the number of row numbers.
 pub(crate) fn rows_option<'a>(alloc: Global) -> Arg<'a>
     ensures rule { rule_of result ≡ spec.rows_rule }
     ensures local { result.global ≡ false }

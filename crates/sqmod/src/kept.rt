@@ -12,6 +12,7 @@ pub(crate) struct Kept {
 }
 
 impl Kept {
+    /// Makes a handle that keeps nothing yet.
     pub(crate) fn new(alloc: Global) -> Kept {
         Kept {
             alloc,

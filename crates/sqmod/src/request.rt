@@ -48,6 +48,7 @@ fn report_of_texts<R: Print + AllocGlobal>(
     ending_of(ran, flushed)
 }
 
+/// Flushes a writer.
 pub(crate) fn flush<W: Write>(writer: &mut W) -> Result<(), Fault>
     ensures { IfErr result (λ fault. fault ≡ Output) }
 {
@@ -68,6 +69,7 @@ fn ending_of(ran: Result<(), Fault>, flushed: Result<(), Fault>) -> Result<(), F
     }
 }
 
+/// Runs the script of these texts, and writes to a writer.
 #[tactic(auto, using(crate::proofs::Named::names_one))]
 pub(crate) fn run_texts<W: Write>(
     alloc: Global,

@@ -31,6 +31,7 @@ pub(crate) struct Talk {
 }
 
 impl Talk {
+    /// Makes a shell before its first item.
     pub(crate) fn new(
         alloc: Global,
         texts: Sources,

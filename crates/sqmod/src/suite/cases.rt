@@ -18,6 +18,7 @@ pub(crate) struct Listing {
 }
 
 impl Listing {
+    /// Lists what a folder holds.
     pub(crate) fn read<R: Files + AllocGlobal + Clone + Drop>(
         rt: &R,
         folder: &str,
