@@ -1,4 +1,4 @@
--- The values that the last call set, or those of the row that is read.
+-- The values that the last call set, or the values of the row that is read.
 use Rattle.std.specs.Prelude.{ℕ, ℤ, List, [], ◌∷◌, ◌++◌, length, slice_get, position, Option, Some, None, option_map, Result, Ok, Err}
 use Rattle.sq_lex.specs.declared.name.Name.{Name}
 use Rattle.sq_value.specs.Number.{Number}

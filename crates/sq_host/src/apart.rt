@@ -16,6 +16,7 @@ impl<T, A: Allocator> Model for Apart<T, A> {
     ghost also_owns = { λ parts. box_owns (A.dealloc_token parts.alloc) T.row parts.at parts.value };
 }
 
+/// Takes a box apart.
 pub(crate) fn take_apart<T: Drop, A: Allocator>(whole: Box<T, A>) -> Apart<T, A>
     ensures { result.value ≡ whole.value }
 {
@@ -23,6 +24,7 @@ pub(crate) fn take_apart<T: Drop, A: Allocator>(whole: Box<T, A>) -> Apart<T, A>
     Apart { alloc, at }
 }
 
+/// Makes the box of its parts.
 pub(crate) fn put_together<T, A: Allocator>(parts: Apart<T, A>) -> Box<T, A>
     ensures { result.value ≡ parts.value }
 {

@@ -41,6 +41,7 @@ impl Host {
     ghost use Rattle.sq_host.specs.Calls.{AreRefused, IsOf, IsOutOfBounds, MayOpen, opened, unopened};
     ghost use Rattle.sq_host.specs.Changes.{with_value};
 
+    /// Makes a host without texts.
     pub(crate) fn new(alloc: Global) -> Host {
         Host {
             schemas: Vec::new(alloc),
@@ -54,6 +55,7 @@ impl Host {
         }
     }
 
+    /// Adds a schema text.
     pub(crate) fn add_schema(&mut self, alloc: Global, text: &[u8]) -> Answer
         ensures answer { ¬ (result ≡ NoMemory) → result ≡ set_answer (unopened self.old.processor) }
         ensures added { result ≡ Done
@@ -68,6 +70,7 @@ impl Host {
         add_text(alloc, &mut self.schemas, text)
     }
 
+    /// Adds a module text.
     pub(crate) fn add_module(&mut self, alloc: Global, text: &[u8]) -> Answer
         ensures answer { ¬ (result ≡ NoMemory) → result ≡ set_answer (unopened self.old.processor) }
         ensures added { result ≡ Done
