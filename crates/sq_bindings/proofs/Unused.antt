@@ -49,7 +49,7 @@ left_false : (a b : Bool) → (a || b) ≡ false → a ≡ false
 left_false true b e = absurd (true≢false e)
 left_false false b e = refl
 
--- the words of C and C++, and those of COBOL
+-- the words of C and C++, and the words of COBOL
 abbrev pub c_words : List Text
 c_words = map (λ word. word.now) (FROM_ALIGNAS ++ FROM_ERRNO ++ FROM_NOEXCEPT ++ FROM_THIS)
 

@@ -294,6 +294,7 @@ fn header() -> &'static [Part<'static>] {
     HEADER.as_slice()
 }
 
+/// Gives the start of a header.
 pub(crate) fn start_in_c() -> &'static str {
     START
 }

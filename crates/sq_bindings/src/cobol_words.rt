@@ -2,8 +2,8 @@
 
 use std::alloc::{AllocError, Global};
 
-/// Lists the reserved words of COBOL (1985 to 2023) that are reserved in any context, with those of GnuCOBOL
-/// and of other compilers.
+/// Lists the words of COBOL (1985 to 2023), of GnuCOBOL and of other compilers that are reserved in any
+/// context.
 pub(crate) fn words_in_use_in_cobol(alloc: Global) -> Result<Vec<&'static [u8]>, AllocError> {
     let mut words = Vec::new(alloc);
     for part in [
