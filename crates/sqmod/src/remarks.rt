@@ -10,7 +10,7 @@ use sq_perform::{Checked, Note, Remark};
 use std::alloc::{AllocError, Global};
 use std::str;
 
-/// Adds the lines about each text, of which so much is left.
+/// Adds the lines about the rest of each text.
 pub(crate) fn write_checked<'a>(
     out: &mut Vec<u8>,
     alloc: Global,
@@ -32,7 +32,7 @@ pub(crate) fn write_checked<'a>(
     Ok(())
 }
 
-/// Reads the schemas of a check, of which so much is left.
+/// Reads the rest of the schemas of a check.
 pub(crate) fn schemas_of<'a>(
     alloc: Global,
     checking: &Checking<'a>,
@@ -47,7 +47,7 @@ pub(crate) fn schemas_of<'a>(
     Schemas::new(alloc, texts)
 }
 
-/// Reads a module of a check, of which so much is left.
+/// Reads the rest of a module of a check.
 pub(crate) fn module_of<'a, 's>(
     alloc: Global,
     checking: &Checking<'a>,
