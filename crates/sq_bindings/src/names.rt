@@ -62,7 +62,7 @@ fn is_used_in_cobol(words: &[&[u8]], text: &[u8]) -> bool
 }
 
 /// Puts an escape after a name that is in use.
-fn escape(mut name: Vec<u8>, is_used: bool, escape: &[u8]) -> Result<Vec<u8>, AllocError>
+fn escape_if_used(mut name: Vec<u8>, is_used: bool, escape: &[u8]) -> Result<Vec<u8>, AllocError>
     ensures { IfOk result (λ text. text.items ≡ spec.escaped name.items is_used escape.now) }
 {
     if is_used {
@@ -86,7 +86,7 @@ pub(crate) fn c_parameter(alloc: Global, words: &[&[u8]], name: Name) -> Result<
 {
     let text = lower(alloc, name.codes())?;
     let is_used = is_used_in_c(words, text.as_slice()) || ends_with_any(&C_ENDS, text.as_slice());
-    escape(text, is_used, C_ESCAPE)
+    escape_if_used(text, is_used, C_ESCAPE)
 }
 
 /// Makes the name of the function of a procedure in C.
@@ -104,7 +104,7 @@ pub(crate) fn c_function(
     text.push(b'_')?;
     text.extend_from_slice(rest.as_slice())?;
     let is_used = is_used_in_c(words, text.as_slice());
-    escape(text, is_used, C_ESCAPE)
+    escape_if_used(text, is_used, C_ESCAPE)
 }
 
 /// A letter of a name in COBOL.
@@ -126,5 +126,5 @@ pub(crate) fn cobol_name(alloc: Global, words: &[&[u8]], name: Name) -> Result<V
 {
     let text = hyphenate(alloc, name.codes())?;
     let is_used = is_used_in_cobol(words, text.as_slice());
-    escape(text, is_used, COBOL_ESCAPE)
+    escape_if_used(text, is_used, COBOL_ESCAPE)
 }
