@@ -1,4 +1,4 @@
--- Texts in which pieces are passed over: blanks take their place, and each line ends where it did.
+-- Texts in which pieces are passed over: blanks take their place, and each line keeps its end.
 use Rattle.std.specs.Prelude.{◌≡◌, ◌==◌, ◌≤◌, ℕ, length, if◌then◌else◌, List, [], ◌∷◌, ◌++◌, drop, map, take}
 use Rattle.std.specs.List.{slice_range}
 use Rattle.sq_lex.specs.Characters.{blank, line_feed}

@@ -152,8 +152,8 @@ fn open_behind(open: usize, token: &Token) -> usize {
     }
 }
 
-/// Whether an item of a query is a column that is not declared NOT NULL, or a set function that has no value
-/// if there is no row.
+/// Whether an item of a query may be null: a column that is not declared NOT NULL, or a set function without
+/// a value if there is no row.
 fn may_be_null(schemas: &Schemas<'_>, query: &Query<'_>, item: &[Token]) -> bool {
     if is_of_no_rows(item) && is_symbol(item, index_before(item.len()), Symbol::Close) {
         return !has_groups(query.tokens);
