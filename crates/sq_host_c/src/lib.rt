@@ -1,7 +1,7 @@
-//! The calls of a handle as functions for C, which `host/sqmod.c` calls.
+//! The calls of a handle as functions for C, which `host/sqmod.c` calls. Each answers the code of the
+//! handle's answer.
 //!
-//! C hands in the memory of a handle, in which it has put zeros before the first call. No pointer is null. Each function
-//! answers a code: that of the answer which the call of the handle gives.
+//! C hands in the memory of a handle, in which it has put zeros before the first call. No pointer is null.
 #![tactic(auto)]
 
 ghost use Rattle.std.specs.Prelude.{◌≡◌, Ok};
