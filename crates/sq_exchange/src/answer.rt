@@ -17,7 +17,7 @@ pub enum Answer {
     /// No procedure or table has this name, or no value this place; or nothing was called before.
     Unknown,
     /// No value: a number of more than 18 digits or places, or a text that is too long or has other
-    /// characters; or a number of rows that is out of bounds.
+    /// characters. Also a number of rows that is out of bounds.
     BadValue,
     /// No procedure has this number, or the values don't fit its parameters.
     BadArguments,
