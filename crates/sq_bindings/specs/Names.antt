@@ -38,8 +38,8 @@ escaped name is_used escape = name ++ (if is_used then escape else [])
 abbrev pub lower : Text → Text
 lower codes = map to_ascii_lowercase codes
 
--- A parameter in C is its name in lower case, with `_` after one that is in use or ends as a part of one
--- does.
+-- A parameter in C is its name in lower case. One that is in use, or ends as a part of one does, has `_`
+-- after it.
 abbrev pub c_parameter : List Text → Name → Text
 c_parameter words name =
     let text = lower name in

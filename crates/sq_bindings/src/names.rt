@@ -35,8 +35,8 @@ fn has_end(words: &[&[u8]], text: &[u8]) -> bool
 /// The ends of the names that the parts of a parameter have in C, and the end of a name that was in use.
 const C_ENDS: [&[u8]; 3] = [b"_", b"_length", b"_size"];
 
-/// The ends of the names in COBOL of the parts of a parameter and of the group of a module, and the ends of a
-/// name that was in use.
+/// The ends of the names in COBOL of the parts of a parameter and the group of a module, and of a name that
+/// was in use.
 const COBOL_ENDS: [&[u8]; 5] = [b"-", b"-SQL", b"-LENGTH", b"-DIGITS", b"-MODULE"];
 
 /// How the names of sqmod.h begin, and of the copybook.
