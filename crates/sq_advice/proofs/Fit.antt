@@ -4,7 +4,7 @@ use Rattle.std.proofs.lemmas.List.{map-append, take_more}
 use Rattle.std.proofs.lemmas.List.Elements.{filter-append}
 use Rattle.std.specs.List.{filter}
 
--- what passes among one more
+-- those that pass among one more
 pub fit_next : {X Y : Type 0} (p : X → Bool) (f : Y → X) (ys : List Y) (before : List X) (i : ℕ) (y : Y) → i < length ys → y ≡ get_or ys i y
     → before ≡ filter p (map f (take i ys)) → before ++ filter p (f y ∷ []) ≡ filter p (map f (take (i + 1) ys))
 fit_next p f ys before i y lt e is =

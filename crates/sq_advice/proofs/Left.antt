@@ -1,4 +1,4 @@
--- What is left of a text where one piece of it is passed over.
+-- The rest of a text after one piece of it is passed over.
 use Rattle.std.proofs.Common.{◌≡◌, ℕ, List, [], ◌∷◌}
 use Rattle.sq_advice.specs.Passed.{IsLeft, passed}
 use Rattle.sq_advice.specs.declared.passed.Piece.{Piece}

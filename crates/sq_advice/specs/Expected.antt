@@ -12,7 +12,7 @@ use Rattle.sq_parse.specs.declared.error.ParseError.TheVariants.{NoMemory, Unexp
 use Rattle.sq_advice.specs.declared.kind.TextKind.{TextKind}
 use Rattle.sq_advice.specs.declared.kind.TextKind.TheVariants.{Schema, Module, Script}
 
--- What an answer of a parse refuses, if it does.
+-- the refusal of a parse, if it answers one
 abbrev pub error_of : {T : Type 0} → Result T ParseError → Option ParseError
 error_of (Ok tree) = None
 error_of (Err error) = Some error

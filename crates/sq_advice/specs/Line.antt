@@ -18,7 +18,7 @@ first_line text = take (line_length text) text
 abbrev pub last_length : List ℕ → ℕ
 last_length text = length (take_while is_of_line (reverse text))
 
--- The line in which a byte stands, without its end: from behind the last end of a line before it.
+-- The line that holds a byte, without its end: it begins after the last end of a line before the byte.
 abbrev pub line_around : List ℕ → ℕ → List ℕ
 line_around text byte =
     first_line (drop (length (take byte text) - last_length (take byte text)) text)

@@ -1,10 +1,10 @@
--- Texts in which pieces are passed over: blanks stand in their place, and each line ends where it did.
+-- Texts in which pieces are passed over: blanks take their place, and each line keeps its end.
 use Rattle.std.specs.Prelude.{◌≡◌, ◌==◌, ◌≤◌, ℕ, length, if◌then◌else◌, List, [], ◌∷◌, ◌++◌, drop, map, take}
 use Rattle.std.specs.List.{slice_range}
 use Rattle.sq_lex.specs.Characters.{blank, line_feed}
 use Rattle.sq_advice.specs.declared.passed.Piece.{Piece}
 
--- what stands in a byte's place
+-- the byte in the place of another
 abbrev pub blank_for : ℕ → ℕ
 blank_for b = if b == line_feed then line_feed else blank
 
@@ -24,7 +24,7 @@ abbrev pub all_passed : List ℕ → List Piece → List ℕ
 all_passed text [] = text
 all_passed text (piece ∷ pieces) = all_passed (passed text piece) pieces
 
--- this is left of a text where some of its pieces are passed over
+-- this is the rest of a text after some of its pieces are passed over
 pub record IsLeft (text left : List ℕ) : Type 0 where
   pub pieces : List Piece
   pub is : left ≡ all_passed text pieces

@@ -1,6 +1,6 @@
-//! What is said beside a line of `check`.
+//! The advice beside a line of `check`.
 
-use crate::spelled::{behind, length_of_word};
+use crate::spelled::{bytes_from, length_of_word};
 use sq_lex::LexFaultKind;
 use std::alloc::{AllocError, Global};
 use thiserror::Error;
@@ -25,7 +25,7 @@ impl Advice {
     pub fn at(alloc: Global, text: &[u8], start: usize) -> Advice {
         Advice {
             start,
-            length: length_of_word(behind(text, start)).max(1),
+            length: length_of_word(bytes_from(text, start)).max(1),
             found: Vec::new(alloc),
             expected: Vec::new(alloc),
             hint: Vec::new(alloc),
@@ -33,7 +33,7 @@ impl Advice {
     }
 
     /// The advice; one without words says what the line means.
-    pub fn explained(self, meaning: &[u8]) -> Result<Advice, AllocError> {
+    pub fn explain(self, meaning: &[u8]) -> Result<Advice, AllocError> {
         let Advice {
             start,
             length,

@@ -1,4 +1,4 @@
-//! What is said beside a refusal of a schema for what it means: which name it is about.
+//! The advice beside a refusal of a schema for its meaning: which name it is about.
 
 ghost use Rattle.std.specs.Prelude.{◌≡◌, IfSome};
 ghost use Rattle.sq_advice.specs.Named as spec;
@@ -6,19 +6,19 @@ ghost use Rattle.sq_advice.specs.Named as spec;
 use crate::advice::Advice;
 use crate::element::{element_of, start_of, token_at};
 use crate::kind::TextKind;
-use crate::names::{before, is_word, name_at};
+use crate::names::{index_before, is_word, name_at};
 use crate::need::{Grant, Need};
-use crate::privilege::{add_need, lacking};
-use crate::refused::{Element, earlier, is_table_named, token_of_refusal};
+use crate::privilege::{add_need, find_lacking};
+use crate::refused::{Element, find_earlier, is_table_named, token_of_refusal};
 use crate::schemas::Schemas;
 use crate::source::Source;
-use crate::spelled::spelled;
+use crate::spelled::spelling_of;
 use crate::table::{table_name_at, user_before};
 use sq_lex::{Name, Token, Word};
 use sq_meaning::SchemaFault;
 use std::alloc::{AllocError, Global};
 
-/// What is said of the element that begins at a line and column of a schema text, by its number, and is refused.
+/// Makes the advice on a refused element, which begins at a line and column of the schema text of a number.
 pub fn advice_on_schema(
     alloc: Global,
     schemas: &Schemas<'_>,
@@ -44,7 +44,7 @@ pub fn advice_on_schema(
     advice_on(alloc, schemas, source, &element, fault)
 }
 
-/// The user of the schema that begins at a token, or in which it stands.
+/// Finds the user of the schema that begins at a token, or that holds it.
 fn user_of(tokens: &[Token], first: usize) -> Option<Name> {
     user_before(tokens, first).or(name_at(tokens, first.saturating_add(3)))
 }
@@ -57,7 +57,7 @@ fn advice_on(
     fault: SchemaFault,
 ) -> Result<Option<Advice>, AllocError> {
     if fault == SchemaFault::PrivilegeMissing {
-        return privilege_missing(alloc, schemas, source, element);
+        return missing_privilege(alloc, schemas, source, element);
     }
     let Some(index) = token_of_refusal(schemas, element, fault) else {
         return Ok(None);
@@ -94,19 +94,19 @@ fn at_name(
 /// How many bytes the name has that begins at the token of a number: of a table, with its user; else the token.
 pub(crate) fn length_of_written(text: &[u8], tokens: &[Token], index: usize) -> usize {
     let last = match table_name_at(tokens, index) {
-        Some(written) => before(written.end),
+        Some(written) => index_before(written.end),
         None => index,
     };
     match (tokens.get(index), tokens.get(last)) {
         (Some(first), Some(last)) => {
-            let end = last.start.saturating_add(spelled(text, last).len());
+            let end = last.start.saturating_add(spelling_of(text, last).len());
             end.saturating_sub(first.start)
         }
         _ => 1,
     }
 }
 
-/// What is said of the name at the token of a number.
+/// Says what is wrong with the name at the token of a number.
 fn words_on(
     alloc: Global,
     schemas: &Schemas<'_>,
@@ -117,7 +117,7 @@ fn words_on(
 ) -> Result<Vec<u8>, AllocError> {
     let mut words = Vec::new(alloc);
     if fault == SchemaFault::NameTwice && index == 2 {
-        if let Some(table) = earlier(schemas, element) {
+        if let Some(table) = find_earlier(schemas, element) {
             schemas.add_declared(&mut words, alloc, table, source.file)?;
         }
         return Ok(words);
@@ -167,12 +167,12 @@ pub(crate) fn add_written(
         return words.extend_from_slice(written.name.codes());
     }
     match tokens.get(index) {
-        Some(token) => words.extend_from_slice(spelled(source.text.bytes, token)),
+        Some(token) => words.extend_from_slice(spelling_of(source.text.bytes, token)),
         None => Ok(()),
     }
 }
 
-/// What a refusal says of the name that it is about.
+/// Says what a refusal finds wrong with the name that it is about.
 fn says_of(fault: SchemaFault, is_table: bool, tokens: &[Token], index: usize) -> &'static [u8] {
     match fault {
         SchemaFault::NameTwice if is_word(tokens, 1, Word::Schema) => b" has a schema already",
@@ -196,8 +196,8 @@ fn says_of(fault: SchemaFault, is_table: bool, tokens: &[Token], index: usize) -
     }
 }
 
-/// What is said of the privilege that an element's user lacks.
-fn privilege_missing(
+/// Makes the advice on the privilege that an element's user lacks.
+fn missing_privilege(
     alloc: Global,
     schemas: &Schemas<'_>,
     source: &Source<'_>,
@@ -210,7 +210,7 @@ fn privilege_missing(
         add_written(&mut words, source, element.tokens, grant.table())?;
         return Ok(at_name(alloc, source, element.tokens, grant.table(), words));
     }
-    match lacking(schemas, element.tokens, element.user) {
+    match find_lacking(schemas, element.tokens, element.user) {
         Some(need) => {
             add_lacking(&mut words, element.user, &need)?;
             Ok(at_name(alloc, source, element.tokens, need.at, words))

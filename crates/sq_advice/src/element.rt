@@ -1,10 +1,11 @@
-//! The elements of a text: those of a schema, the cursors and procedures of a module, and the items of a script.
+//! The elements of a text: the elements of a schema, the cursors and procedures of a module, and the items of
+//! a script.
 
 ghost use Rattle.std.specs.Prelude.{◌≡◌, ◌≤◌, length};
 ghost use Rattle.sq_advice.specs.Named as spec;
 
 use crate::kind::TextKind;
-use crate::names::{before, behind, is_symbol, is_word};
+use crate::names::{index_after, index_before, is_symbol, is_word};
 use sq_lex::{Symbol, Token, Word};
 
 /// Whether an element of a text begins at the token of this number.
@@ -20,16 +21,20 @@ pub(crate) fn begins_at(kind: TextKind, tokens: &[Token], index: usize) -> bool 
 
 /// Whether a grant begins at the token of this number; none does at the second word of WITH GRANT OPTION.
 fn is_grant(tokens: &[Token], index: usize) -> bool {
-    is_word(tokens, index, Word::Grant) && !is_word(tokens, behind(index), Word::Option)
+    is_word(tokens, index, Word::Grant) && !is_word(tokens, index_after(index), Word::Option)
 }
 
-/// How many tokens stand before the next element.
+/// Counts the tokens before the next element.
 pub(crate) fn next_start(kind: TextKind, tokens: &[Token]) -> usize
     ensures { result ≤ length tokens.now }
 {
     let found = match kind {
         TextKind::Script => {
-            (0..tokens.len()).find(|index| is_symbol(tokens, before(*index), Symbol::Semicolon))
+            (0..tokens.len()).find(|index| is_symbol(
+                tokens,
+                index_before(*index),
+                Symbol::Semicolon,
+            ))
         }
         _ => (0..tokens.len()).find(|index| begins_at(kind, tokens, *index)),
     };
@@ -39,13 +44,14 @@ pub(crate) fn next_start(kind: TextKind, tokens: &[Token]) -> usize
     }
 }
 
-/// The number of the token with which the last element begins among these; of the first token where none does.
+/// Finds the number of the token with which the last element begins among these; of the first token if none
+/// does.
 pub(crate) fn last_start(kind: TextKind, tokens: &[Token]) -> usize {
     let found = match kind {
         TextKind::Script => {
             (0..tokens.len()).rev().find(|index| is_symbol(
                 tokens,
-                before(*index),
+                index_before(*index),
                 Symbol::Semicolon,
             ))
         }
@@ -58,7 +64,7 @@ pub(crate) fn last_start(kind: TextKind, tokens: &[Token]) -> usize {
     found.unwrap_or(0)
 }
 
-/// How many brackets of these tokens are open behind them.
+/// Counts the brackets of these tokens that are open after them.
 fn open_behind(tokens: &[Token]) -> usize {
     let mut open: usize = 0;
     for index in 0..tokens.len() {
@@ -67,7 +73,7 @@ fn open_behind(tokens: &[Token]) -> usize {
     open
 }
 
-/// How many brackets are open behind the token of this number, where so many are before it.
+/// Counts the brackets that are open after the token of this number, if so many are before it.
 fn depth_behind(open: usize, tokens: &[Token], index: usize) -> usize {
     if is_symbol(tokens, index, Symbol::Open) {
         open.saturating_add(1)
@@ -78,17 +84,18 @@ fn depth_behind(open: usize, tokens: &[Token], index: usize) -> usize {
     }
 }
 
-/// How many brackets of a table's definition are open behind these tokens; 0 where they end in none.
+/// Counts the brackets of a table's definition that are open after these tokens; 0 if they end in no such
+/// definition.
 pub(crate) fn open_in_table(tokens: &[Token]) -> usize {
     let start = last_start(TextKind::Schema, tokens);
-    if is_word(tokens, behind(start), Word::Table) {
+    if is_word(tokens, index_after(start), Word::Table) {
         open_behind(&tokens[start.min(tokens.len())..])
     } else {
         0
     }
 }
 
-/// The number of the next comma between elements of a table, where so many brackets are open before these tokens.
+/// Finds the next comma between elements of a table, if so many brackets are open before these tokens.
 pub(crate) fn next_comma(open: usize, tokens: &[Token]) -> Option<usize> {
     let mut open = open;
     for index in 0..tokens.len() {
@@ -118,7 +125,7 @@ pub(crate) fn last_comma(tokens: &[Token]) -> Option<usize> {
     None
 }
 
-/// How many brackets are open before the token of this number, where so many are behind it.
+/// Counts the brackets that are open before the token of this number, if so many are after it.
 fn depth_before(open: usize, tokens: &[Token], index: usize) -> usize {
     if is_symbol(tokens, index, Symbol::Open) {
         open.saturating_sub(1)
@@ -148,7 +155,7 @@ pub(crate) fn token_at(tokens: &[Token], byte: usize) -> Option<usize> {
     }
 }
 
-/// The first byte of the token of a number, or 0 where there is no such token.
+/// Finds the first byte of the token of a number, or 0 if there is no such token.
 pub(crate) fn start_of(tokens: &[Token], index: usize) -> usize
     ensures { result ≡ spec.start_of tokens.now index }
 {

@@ -4,8 +4,8 @@ use crate::line::line_around;
 use crate::text::Text;
 use std::alloc::{AllocError, Global};
 
-/// Adds the line in which a byte stands, with its number, and below it a caret for each byte from there on, as many as asked for
-/// and the line has, and at least one.
+/// Adds the line that holds a byte, with its number. Below it a caret marks each byte from there on, as many
+/// as asked for and the line has, and at least one.
 pub(crate) fn write_excerpt(
     out: &mut Vec<u8>,
     alloc: Global,
@@ -26,7 +26,7 @@ pub(crate) fn write_excerpt(
     push_carets(out, carets)
 }
 
-/// Adds blanks as wide as a line's number, and the bar behind it.
+/// Adds blanks as wide as a line's number, and the bar after it.
 fn push_margin(out: &mut Vec<u8>, length: usize) -> Result<(), AllocError> {
     for _ in 2..length {
         out.push(b' ')?;
@@ -34,15 +34,15 @@ fn push_margin(out: &mut Vec<u8>, length: usize) -> Result<(), AllocError> {
     out.extend_from_slice(b"| ")
 }
 
-/// Adds a line in printable characters and tabs; any other byte stands as `?`.
+/// Adds a line in printable characters and tabs; any other byte becomes `?`.
 fn push_shown(out: &mut Vec<u8>, line: &[u8]) -> Result<(), AllocError> {
     for byte in line {
-        out.push(shown(*byte))?;
+        out.push(show_byte(*byte))?;
     }
     Ok(())
 }
 
-fn shown(byte: u8) -> u8 {
+fn show_byte(byte: u8) -> u8 {
     match byte {
         b' '..=b'~' | b'\t' => byte,
         b'\r' => b' ',

@@ -11,8 +11,8 @@ use sq_lex::{Characters, LexError, Lexeme, Token, lex};
 use sq_parse::ParseError;
 use std::alloc::{AllocError, Global};
 
-/// What is tried: a name, a number, a text, each reserved word, each symbol, and CALL, which is a name where it begins no item of
-/// a script.
+/// The tokens that are tried: a name, a number, a text, each reserved word and each symbol. CALL is tried
+/// too, which is a name if it begins no item of a script.
 pub(crate) const TRIED: &[u8] = b"\
 N 1 '' ABSOLUTE ALL AND ANY AS ASC AUTHORIZATION AVG BETWEEN BY CALL CHAR CHARACTER CHECK CLOSE COMMIT COUNT CREATE CURRENT CURSOR DEC \
 DECIMAL DECLARE DEFAULT DELETE DESC DISTINCT ESCAPE EXISTS FETCH FIRST FOR FOREIGN FROM GRANT GROUP HAVING IN INDICATOR INSENSITIVE \
@@ -21,7 +21,7 @@ PRIVILEGES PROCEDURE PUBLIC REFERENCES RELATIVE ROLLBACK SCHEMA SCROLL SELECT SE
 UNIQUE UPDATE USER VALUES VARCHAR VARYING VIEW WHERE WITH WORK ( ) , ; . : * + - / = <> < > <= >=";
 
 /// The tokens that are tried.
-pub(crate) fn tried(alloc: Global) -> Result<Vec<Token>, AllocError> {
+pub(crate) fn tokens_to_try(alloc: Global) -> Result<Vec<Token>, AllocError> {
     match lex(alloc, TRIED) {
         Ok(tokens) => Ok(tokens),
         Err(LexError::NoMemory) => Err(AllocError),
@@ -31,7 +31,7 @@ pub(crate) fn tried(alloc: Global) -> Result<Vec<Token>, AllocError> {
 
 /// The tokens, of these, that may follow others in a text of a kind.
 #[tactic(auto, using(crate::proofs::Fit::fit_next))]
-pub(crate) fn expected(
+pub(crate) fn find_expected(
     alloc: Global,
     kind: TextKind,
     before: &mut Vec<Token>,
@@ -61,7 +61,7 @@ fn add_if_fit(
         ++ filter (spec.may_follow kind (lexemes before.old.items)) (token.now.lexeme ∷ [])) }
 {
     if may_follow(alloc, kind, before, token)? {
-        fit.push(copied(alloc, token)?)?;
+        fit.push(copy_token(alloc, token)?)?;
     }
     Ok(())
 }
@@ -77,7 +77,7 @@ fn may_follow(
     ensures follows { IfOk result
         (λ follows. follows ≡ spec.may_follow kind (lexemes before.old.items) token.now.lexeme) }
 {
-    before.push(copied(alloc, token)?)?;
+    before.push(copy_token(alloc, token)?)?;
     let goes = goes_on(alloc, kind, before.as_slice());
     if let Some(last) = before.pop() {
         drop(last);
@@ -86,16 +86,16 @@ fn may_follow(
 }
 
 /// A copy of a token.
-fn copied(alloc: Global, token: &Token) -> Result<Token, AllocError>
+fn copy_token(alloc: Global, token: &Token) -> Result<Token, AllocError>
     ensures { IfOk result (λ copy. copy ≡ token.now) }
 {
     Ok(Token {
-        lexeme: copied_lexeme(alloc, &token.lexeme)?,
+        lexeme: copy_lexeme(alloc, &token.lexeme)?,
         start: token.start,
     })
 }
 
-fn copied_lexeme(alloc: Global, lexeme: &Lexeme) -> Result<Lexeme, AllocError>
+fn copy_lexeme(alloc: Global, lexeme: &Lexeme) -> Result<Lexeme, AllocError>
     ensures { IfOk result (λ copy. copy ≡ lexeme.now) }
 {
     match lexeme {
@@ -103,11 +103,11 @@ fn copied_lexeme(alloc: Global, lexeme: &Lexeme) -> Result<Lexeme, AllocError>
         Lexeme::Name(name) => Ok(Lexeme::Name(*name)),
         Lexeme::Number(number) => Ok(Lexeme::Number(*number)),
         Lexeme::Symbol(symbol) => Ok(Lexeme::Symbol(*symbol)),
-        Lexeme::Text(characters) => copied_text(alloc, characters.get()),
+        Lexeme::Text(characters) => copy_text(alloc, characters.get()),
     }
 }
 
-fn copied_text(alloc: Global, characters: &Characters) -> Result<Lexeme, AllocError>
+fn copy_text(alloc: Global, characters: &Characters) -> Result<Lexeme, AllocError>
     ensures { IfOk result (λ copy. copy ≡ Lexeme.Text characters.now) }
 {
     let copy = characters.copy(alloc)?;
@@ -131,27 +131,28 @@ fn may_go_on(refusal: Option<ParseError>) -> bool
     matches!(refusal, None | Some(ParseError::EndOfText))
 }
 
+/// Whether a token is a name.
 pub(crate) fn is_name(token: &Token) -> bool {
     matches!(token.lexeme, Lexeme::Name(_))
 }
 
-/// Whether a token that was tried stands for all names.
+/// Whether a token that was tried is taken as any name.
 pub(crate) fn stands_for_names(token: &Token) -> bool {
     is_name(token) && token.start == 0
 }
 
-/// What a token that was tried is called: its spelling, or what it stands for.
-pub(crate) fn called(token: &Token) -> &'static [u8] {
+/// Describes a token that was tried, by its spelling or its kind.
+pub(crate) fn describe(token: &Token) -> &'static [u8] {
     match &token.lexeme {
         Lexeme::Number(_) => b"a number",
         Lexeme::Text(_) => b"a text",
-        Lexeme::Name(_) => called_name(token.start),
+        Lexeme::Name(_) => name_or_call(token.start),
         Lexeme::Word(_) | Lexeme::Symbol(_) => up_to_blank(token.start),
     }
 }
 
 /// A name, or CALL.
-fn called_name(start: usize) -> &'static [u8] {
+fn name_or_call(start: usize) -> &'static [u8] {
     if start == 0 {
         b"a name"
     } else {
@@ -159,7 +160,7 @@ fn called_name(start: usize) -> &'static [u8] {
     }
 }
 
-/// What was tried, from a byte to the next blank.
+/// Gives the bytes of `TRIED` from one up to the next blank.
 fn up_to_blank(start: usize) -> &'static [u8] {
     let tried = TRIED;
     if tried.len() < start {

@@ -1,4 +1,4 @@
-//! What to write in place of what a text may not have.
+//! Hints on what to write in place of a token that a text may not have.
 
 use crate::expected::{TRIED, stands_for_names};
 use crate::hints::{ANYWHERE, MODULES, QUERIES, SCHEMAS, SCRIPTS, TYPES};
@@ -14,15 +14,15 @@ pub(crate) struct Hint {
     pub(crate) before: &'static str,
     /// The pattern of the token that is refused.
     pub(crate) at: &'static str,
-    /// The pattern of a token that may stand there.
+    /// The pattern of a token that may be there.
     pub(crate) expected: &'static str,
-    /// What is not there in this language; empty where nothing is said of that.
+    /// The feature that this language lacks; empty if nothing is said of one.
     pub(crate) missing: &'static str,
-    /// What to do, or nothing.
+    /// The advice, or nothing.
     pub(crate) says: &'static str,
 }
 
-/// Where a text is refused.
+/// The place at which a text is refused.
 #[derive(Clone, Copy)]
 pub(crate) struct Spot<'t> {
     pub(crate) kind: TextKind,
@@ -34,12 +34,12 @@ pub(crate) struct Spot<'t> {
 }
 
 impl Spot<'_> {
-    /// Whether any name may stand here.
+    /// Whether any name may be here.
     pub(crate) fn takes_names(&self) -> bool {
         self.expected.iter().any(|token| stands_for_names(token))
     }
 
-    /// Whether a token of this pattern may stand here.
+    /// Whether a token of this pattern may be here.
     fn expects(&self, pattern: &str) -> bool {
         self.expected
             .iter()
@@ -69,14 +69,14 @@ fn fits(pattern: &str, text: &[u8], token: Option<&Token>) -> bool {
 /// The hint for a spot, if there is one: the first of those for the kind of text, or of those for all.
 pub(crate) fn hint_of(spot: &Spot<'_>) -> Option<&'static Hint> {
     let own = match spot.kind {
-        TextKind::Schema => first_of(&SCHEMAS, spot).or(first_of(&TYPES, spot)),
-        TextKind::Module => first_of(&MODULES, spot).or(first_of(&TYPES, spot)),
-        TextKind::Script => first_of(&SCRIPTS, spot),
+        TextKind::Schema => find_first(&SCHEMAS, spot).or(find_first(&TYPES, spot)),
+        TextKind::Module => find_first(&MODULES, spot).or(find_first(&TYPES, spot)),
+        TextKind::Script => find_first(&SCRIPTS, spot),
     };
-    own.or(first_of(&QUERIES, spot))
-        .or(first_of(&ANYWHERE, spot))
+    own.or(find_first(&QUERIES, spot))
+        .or(find_first(&ANYWHERE, spot))
 }
 
-fn first_of(hints: &'static [Hint], spot: &Spot<'_>) -> Option<&'static Hint> {
+fn find_first(hints: &'static [Hint], spot: &Spot<'_>) -> Option<&'static Hint> {
     hints.iter().find(|hint| hint.is_for(spot))
 }

@@ -1,5 +1,5 @@
-//! What is said at tokens that a text may not have there: what docs/LANGUAGE.md leaves out, the habits of docs/COMING_FROM.md, and
-//! forms of old modules. Of several that fit, the first is said.
+//! Hints at tokens that a text may not have: features that docs/LANGUAGE.md leaves out, the habits of
+//! docs/COMING_FROM.md, and forms of old modules. If several fit, the first is given.
 
 mod anywhere;
 mod modules;

@@ -1,4 +1,4 @@
-//! The lines of `check`: what is said of a place, and beside it.
+//! The lines of `check`, and the advice beside them.
 
 use crate::advice::Advice;
 use crate::excerpt::write_excerpt;
@@ -129,6 +129,7 @@ fn write_line(
     Ok(())
 }
 
+/// Adds a part: the module or user that it belongs to, and its name.
 pub(crate) fn write_part(out: &mut Vec<u8>, part: Part) -> Result<(), AllocError> {
     out.extend_from_slice(part.owner.codes())?;
     out.push(b'.')?;
@@ -148,7 +149,7 @@ fn write_advice(
     write_words(out, b"  hint: ", advice.hint.as_slice())
 }
 
-/// Adds a line of words behind its start, if there are any.
+/// Adds a line of words after its start, if there are any.
 fn write_words(out: &mut Vec<u8>, start: &[u8], words: &[u8]) -> Result<(), AllocError> {
     if words.is_empty() {
         return Ok(());
@@ -159,7 +160,7 @@ fn write_words(out: &mut Vec<u8>, start: &[u8], words: &[u8]) -> Result<(), Allo
     Ok(())
 }
 
-/// Adds a line of what may stand at a place, if that is known.
+/// Adds a line with the tokens that may be at a place, if they are known.
 fn write_expected(out: &mut Vec<u8>, expected: &[&[u8]]) -> Result<(), AllocError> {
     for (index, name) in expected.iter().enumerate() {
         let start: &[u8] = if index == 0 { b"  expected: " } else { b" " };

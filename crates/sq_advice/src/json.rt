@@ -5,7 +5,7 @@ use crate::item::{Item, Part, Weight, write_part};
 use crate::text::Text;
 use std::alloc::{AllocError, Global};
 
-/// Adds an item as an object: where it is, what it weighs, of which part it is, what is said, and the words beside it.
+/// Adds an item as an object, with its place, its weight, its part, its message, and the words beside it.
 pub(crate) fn write_object(
     out: &mut Vec<u8>,
     alloc: Global,
@@ -48,7 +48,7 @@ fn write_owner(out: &mut Vec<u8>, part: Option<Part>) -> Result<(), AllocError> 
     }
 }
 
-/// Adds where an advice points, and its words.
+/// Adds the place of an advice, and its words.
 fn write_advice(
     out: &mut Vec<u8>,
     alloc: Global,

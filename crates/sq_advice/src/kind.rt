@@ -38,7 +38,8 @@ pub(crate) fn refusal_of(
 }
 
 fn schema_refusal(alloc: Global, tokens: &[Token]) -> Result<Option<ParseError>, AllocError>
-    ensures { IfOk result (λ refusal. refusal ≡ spec.error_of (parsed (schema_text MAX_DEPTH (MAX_DEPTH - 1)) (lexemes tokens.now))) }
+    ensures { IfOk result (λ refusal. refusal
+        ≡ spec.error_of (parsed (schema_text MAX_DEPTH (MAX_DEPTH - 1)) (lexemes tokens.now))) }
 {
     match parse_schema(alloc, tokens) {
         Ok(tree) => {
@@ -51,7 +52,8 @@ fn schema_refusal(alloc: Global, tokens: &[Token]) -> Result<Option<ParseError>,
 }
 
 fn module_refusal(alloc: Global, tokens: &[Token]) -> Result<Option<ParseError>, AllocError>
-    ensures { IfOk result (λ refusal. refusal ≡ spec.error_of (parsed (module_text MAX_DEPTH) (lexemes tokens.now))) }
+    ensures { IfOk result (λ refusal. refusal
+        ≡ spec.error_of (parsed (module_text MAX_DEPTH) (lexemes tokens.now))) }
 {
     match parse_module(alloc, tokens) {
         Ok(tree) => {

@@ -3,7 +3,7 @@
 use crate::advice::{Advice, Trouble, What};
 use crate::line::first_line;
 use crate::offset::offset_of;
-use crate::spelled::{behind, is_of_word, length_of_literal, length_of_word};
+use crate::spelled::{bytes_from, is_of_word, length_of_literal, length_of_word};
 use sq_lex::{LexError, LexFault, LexFaultKind, Token, lex};
 use std::alloc::{AllocError, Global};
 
@@ -13,8 +13,8 @@ pub(crate) const MOST: usize = 100;
 /// How many characters a name has at most.
 const LONGEST_NAME: usize = 18;
 
-/// The tokens of a text, where each piece that is none counts as blanks; or nothing, where there are too many of these. What is
-/// wrong with each of these is added.
+/// Reads the tokens of a text. Each piece that is none counts as blanks, and a trouble is added for it. It
+/// answers nothing if these pieces are too many.
 pub(crate) fn tokens_of(
     alloc: Global,
     text: &[u8],
@@ -39,10 +39,10 @@ fn pass_piece(
     troubles: &mut Vec<Trouble>,
 ) -> Result<(), AllocError> {
     let start = offset_of(text.as_slice(), fault.line, fault.column);
-    let length = length_of_piece(behind(text.as_slice(), start), fault.kind);
+    let length = length_of_piece(bytes_from(text.as_slice(), start), fault.kind);
     let advice = advice_on(
         alloc,
-        behind(text.as_slice(), start),
+        bytes_from(text.as_slice(), start),
         fault.kind,
         start,
         length,
@@ -55,7 +55,7 @@ fn pass_piece(
     Ok(())
 }
 
-/// Whether a byte of a text stands in a comment. No literal ends in another line than the one that it begins in.
+/// Whether a byte of a text is in a comment. No literal ends in another line than the one that it begins in.
 pub(crate) fn is_in_comment(text: &[u8], at: usize) -> bool {
     let before = &text[..at.min(text.len())];
     let length = before
@@ -115,7 +115,7 @@ fn length_of_bad(text: &[u8]) -> usize {
     }
 }
 
-/// How many bytes a quote has with what stands behind it up to the next one in its line, or the quote alone.
+/// Counts the bytes of a quote with those after it up to the next one in its line, or of the quote alone.
 fn length_of_quoted(quote: u8, rest: &[u8]) -> usize {
     match first_line(rest).iter().position(|byte| *byte == quote) {
         Some(end) => end.saturating_add(2),
@@ -123,7 +123,7 @@ fn length_of_quoted(quote: u8, rest: &[u8]) -> usize {
     }
 }
 
-/// What is said of the piece that a text begins with.
+/// Makes the advice on the piece that a text begins with.
 fn advice_on(
     alloc: Global,
     text: &[u8],
@@ -132,7 +132,7 @@ fn advice_on(
     length: usize,
 ) -> Result<Advice, AllocError> {
     let piece = &text[..length.min(text.len())];
-    let found = found_of(alloc, piece, kind)?;
+    let found = describe_piece(alloc, piece, kind)?;
     let hint = hint_of(alloc, piece, kind)?;
     Ok(Advice {
         start,
@@ -143,8 +143,8 @@ fn advice_on(
     })
 }
 
-/// What a piece is.
-fn found_of(alloc: Global, piece: &[u8], kind: LexFaultKind) -> Result<Vec<u8>, AllocError> {
+/// Describes a piece.
+fn describe_piece(alloc: Global, piece: &[u8], kind: LexFaultKind) -> Result<Vec<u8>, AllocError> {
     let mut words = Vec::new(alloc);
     match kind {
         LexFaultKind::BadByte => add_bad(&mut words, alloc, piece)?,
@@ -182,7 +182,7 @@ fn add_long_name(words: &mut Vec<u8>, alloc: Global, length: usize) -> Result<()
     words.extend_from_slice(says.as_bytes())
 }
 
-/// What to do about a piece.
+/// Makes the hint on a piece.
 fn hint_of(alloc: Global, piece: &[u8], kind: LexFaultKind) -> Result<Vec<u8>, AllocError> {
     let mut words = Vec::new(alloc);
     match kind {
@@ -214,8 +214,8 @@ fn hint_of_byte(piece: &[u8]) -> &'static [u8] {
     }
 }
 
-/// Adds a short form of a name: without vowels inside its words, from the left, as many as needed, and cut where that is not
-/// enough.
+/// Adds a short form of a name. It leaves out vowels inside its words, from the left, as many as needed, and
+/// cuts the rest if that is not enough.
 fn add_short(words: &mut Vec<u8>, name: &[u8]) -> Result<(), AllocError> {
     words.extend_from_slice(b"a short form is ")?;
     let start = words.len();

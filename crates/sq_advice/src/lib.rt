@@ -1,5 +1,5 @@
-//! What can be said beside the lines of `check`, by the tokens of the texts: what stands where a text is refused, what may stand
-//! there, what to write, and where the next error is.
+//! Advice beside the lines of `check`, by the tokens of the texts: the token at which a text is refused, the
+//! tokens that may be there, a hint, and the place of the next error.
 #![tactic(auto)]
 
 mod advice;
@@ -42,7 +42,7 @@ pub use kind::TextKind;
 pub use meaning::Module;
 pub use offset::offset_of;
 pub use pass::troubles_of;
-pub use passed::{Piece, Why, passed_over};
+pub use passed::{Piece, Why, pass_over};
 pub use schemas::Schemas;
 pub use slips::{Doubt, Slip, slips_of};
 pub use source::Source;

@@ -3,7 +3,7 @@
 ghost use Rattle.std.specs.Prelude.{◌≡◌, ◌≤◌, length};
 ghost use Rattle.sq_advice.specs.Line as spec;
 
-/// The line of a text in which a byte stands, without its end.
+/// Finds the line of a text that holds a byte, without its end.
 pub(crate) fn line_around(text: &[u8], byte: usize) -> &[u8]
     ensures { result.now ≡ spec.line_around text.now byte }
 {

@@ -1,4 +1,4 @@
-//! Where the name stands that a fault of meaning is about, and the declared name nearest to it.
+//! The place of the name that a fault of meaning is about, and the declared name nearest to it.
 
 ghost use Rattle.std.specs.Prelude.{◌≡◌};
 ghost use Rattle.sq_advice.specs.Named as spec;
@@ -6,16 +6,17 @@ ghost use Rattle.sq_advice.specs.Named as spec;
 use crate::advice::Advice;
 use crate::blame::{add_lacking, add_written, length_of_written};
 use crate::element::{begins_at, element_of, start_of, token_at};
-use crate::grouped::ungrouped;
+use crate::grouped::find_ungrouped;
 use crate::kind::TextKind;
 use crate::names::{
-    NameKind, before, behind, declared, is_name, is_parameter, is_symbol, is_type, is_word, name_at,
+    NameKind, index_after, index_before, is_name, is_parameter, is_symbol, is_type, is_word,
+    list_declared, name_at,
 };
-use crate::near::nearest;
-use crate::privilege::lacking;
+use crate::near::find_nearest;
+use crate::privilege::find_lacking;
 use crate::schemas::Schemas;
 use crate::source::Source;
-use crate::spelled::spelled;
+use crate::spelled::spelling_of;
 use crate::table::{Table, table_name_at, user_before};
 use indexmap::IndexMap;
 use sq_lex::{Name, Symbol, Token, Word};
@@ -44,7 +45,7 @@ pub struct Module<'t, 's> {
 }
 
 impl<'t, 's> Module<'t, 's> {
-    /// A module's text over those of schemas.
+    /// Puts a module's text over the texts of schemas.
     pub fn new(
         alloc: Global,
         schemas: &'s Schemas<'t>,
@@ -60,7 +61,7 @@ impl<'t, 's> Module<'t, 's> {
         })
     }
 
-    /// The tokens of the declaration of a cursor; none where it is not declared.
+    /// Finds the tokens of the declaration of a cursor; none if it is not declared.
     pub(crate) fn declaration_of(&self, cursor: Name) -> &[Token] {
         match self.cursors.get(&cursor) {
             Some(first) => element_of(TextKind::Module, self.source.tokens.as_slice(), *first),
@@ -68,7 +69,8 @@ impl<'t, 's> Module<'t, 's> {
         }
     }
 
-    /// What is said of a part with a fault that begins at a line and column, and the name that the fault is about.
+    /// Makes the advice on a part with a fault. The part begins at a line and column, and the fault is about
+    /// a name.
     pub fn advice(
         &self,
         alloc: Global,
@@ -90,12 +92,12 @@ impl<'t, 's> Module<'t, 's> {
         }
     }
 
-    /// What is said of the privilege that the module's user lacks for a part.
+    /// Makes the advice on the privilege that the module's user lacks for a part.
     fn advice_on_privilege(&self, alloc: Global, part: &[Token]) -> Result<Advice, AllocError> {
         let mut words = Vec::new(alloc);
         let mut at = 0;
         if let Some(user) = self.user {
-            if let Some(need) = lacking(self.schemas, part, user) {
+            if let Some(need) = find_lacking(self.schemas, part, user) {
                 add_lacking(&mut words, user, &need)?;
                 at = need.at;
             }
@@ -105,10 +107,10 @@ impl<'t, 's> Module<'t, 's> {
         Ok(advice)
     }
 
-    /// What is said of the column of a part that is not grouped.
+    /// Makes the advice on the column of a part that is not grouped.
     fn advice_on_group(&self, alloc: Global, part: &[Token]) -> Result<Advice, AllocError> {
         let mut words = Vec::new(alloc);
-        let Some(at) = ungrouped(part) else {
+        let Some(at) = find_ungrouped(part) else {
             return Ok(self.at_token(alloc, part, 0, words, Vec::new(alloc)));
         };
         add_written(&mut words, &self.source, part, start_of_name(part, at))?;
@@ -116,7 +118,7 @@ impl<'t, 's> Module<'t, 's> {
         Ok(self.at_token(alloc, part, at, words, Vec::new(alloc)))
     }
 
-    /// What is said of a name in a part.
+    /// Makes the advice on a name in a part.
     fn advice_about(
         &self,
         alloc: Global,
@@ -154,7 +156,7 @@ impl<'t, 's> Module<'t, 's> {
         }
     }
 
-    /// Adds where a cursor is declared, if it is, and what is wrong with it.
+    /// Adds the place at which a cursor is declared, if it is, and what is wrong with it.
     fn add_cursor(&self, words: &mut Vec<u8>, alloc: Global, name: Name) -> Result<(), AllocError> {
         let Some(index) = self.cursors.get(&name) else {
             return Ok(());
@@ -173,7 +175,7 @@ impl<'t, 's> Module<'t, 's> {
         }
     }
 
-    /// Adds where the table at a token is declared, if that is so with an error.
+    /// Adds the place at which the table at a token is declared, if that is so with an error.
     fn add_table(
         &self,
         words: &mut Vec<u8>,
@@ -223,13 +225,18 @@ impl<'t, 's> Module<'t, 's> {
         let near = match subject.kind {
             NameKind::Table => self.schemas.nearest_table(subject.name),
             NameKind::Column => self.schemas.nearest_column(subject.name),
-            NameKind::Cursor => nearest_of(
+            NameKind::Cursor => nearest_declared(
                 alloc,
                 NameKind::Cursor,
                 self.source.tokens.as_slice(),
                 subject.name,
             )?,
-            NameKind::Parameter => nearest_of(alloc, NameKind::Parameter, part, subject.name)?,
+            NameKind::Parameter => nearest_declared(
+                alloc,
+                NameKind::Parameter,
+                part,
+                subject.name,
+            )?,
         };
         if let Some(near) = near {
             words.extend_from_slice(b"the nearest name is ")?;
@@ -238,7 +245,7 @@ impl<'t, 's> Module<'t, 's> {
         Ok(words)
     }
 
-    /// An advice at the token of a number that says what stands there, and what to do.
+    /// Makes an advice at the token of a number, with the token there and a hint.
     fn at_token(
         &self,
         alloc: Global,
@@ -277,7 +284,7 @@ fn add_cursor(
     if !begins_at(TextKind::Module, tokens, index) || !is_word(tokens, index, Word::Declare) {
         return Ok(());
     }
-    let Some(name) = name_at(tokens, behind(index)) else {
+    let Some(name) = name_at(tokens, index_after(index)) else {
         return Ok(());
     };
     if cursors.get(&name).is_none() {
@@ -286,7 +293,7 @@ fn add_cursor(
     Ok(())
 }
 
-/// What a fault is about.
+/// Finds the name that a fault is about.
 fn subject_of(rule: BindingFault, name: Name) -> Subject {
     Subject {
         kind: kind_of(rule),
@@ -314,7 +321,7 @@ fn kind_of(rule: BindingFault) -> NameKind {
 
 /// The number of the token with which a name begins, the name before its dot included.
 fn start_of_name(part: &[Token], at: usize) -> usize {
-    if is_symbol(part, before(at), Symbol::Dot) {
+    if is_symbol(part, index_before(at), Symbol::Dot) {
         at.saturating_sub(2)
     } else {
         at
@@ -324,25 +331,25 @@ fn start_of_name(part: &[Token], at: usize) -> usize {
 /// Whether a part declares a parameter of this name.
 fn declares(part: &[Token], name: Name) -> bool {
     (0..part.len()).any(|index| {
-        is_name(part, index, name) && is_parameter(part, index) && is_type(part, behind(index))
+        is_name(part, index, name) && is_parameter(part, index) && is_type(part, index_after(index))
     })
 }
 
 /// The name of a kind that tokens declare which is nearest to one that they do not.
-fn nearest_of(
+fn nearest_declared(
     alloc: Global,
     kind: NameKind,
     tokens: &[Token],
     name: Name,
 ) -> Result<Option<Name>, AllocError> {
-    let names = declared(alloc, kind, tokens)?;
-    let near = nearest(names.as_slice(), name);
+    let names = list_declared(alloc, kind, tokens)?;
+    let near = find_nearest(names.as_slice(), name);
     drop(names);
     Ok(near)
 }
 
-/// The number of the token of a part that a fault is about: the first use of the name there, or the last where it stands twice; else
-/// the part's first token.
+/// Finds the token of a part that a fault is about: the first use of the name there, or the last if the name
+/// occurs twice. If there is none, it answers the part's first token.
 fn place_in(part: &[Token], subject: &Subject) -> usize {
     let found = if subject.is_twice {
         (0..part.len())
@@ -351,7 +358,7 @@ fn place_in(part: &[Token], subject: &Subject) -> usize {
     } else {
         (0..part.len()).find(|index| is_use(part, *index, subject))
     };
-    found.or(behind_user(part, subject)).unwrap_or(0)
+    found.or(table_after_user(part, subject)).unwrap_or(0)
 }
 
 /// Whether a name is used, and not declared, at the token of this number of a part.
@@ -359,17 +366,21 @@ fn is_use(part: &[Token], index: usize, subject: &Subject) -> bool {
     let is_here = is_name(part, index, subject.name) && index > 1;
     match subject.kind {
         NameKind::Parameter => {
-            is_here && is_parameter(part, index) && !is_type(part, behind(index))
+            is_here && is_parameter(part, index) && !is_type(part, index_after(index))
         }
         NameKind::Column => {
-            is_here && !is_parameter(part, index) && !is_symbol(part, behind(index), Symbol::Dot)
+            is_here
+                && !is_parameter(part, index)
+                && !is_symbol(part, index_after(index), Symbol::Dot)
         }
-        _ => is_here && !is_parameter(part, index) && !is_symbol(part, before(index), Symbol::Dot),
+        _ => is_here
+            && !is_parameter(part, index)
+            && !is_symbol(part, index_before(index), Symbol::Dot),
     }
 }
 
-/// The number of the first token of a part that is the name of a table behind that of its user.
-fn behind_user(part: &[Token], subject: &Subject) -> Option<usize> {
+/// Finds the first token of a part that is the name of a table after its user's.
+fn table_after_user(part: &[Token], subject: &Subject) -> Option<usize> {
     if subject.kind == NameKind::Table {
         (0..part.len()).find(|index| is_name(part, *index, subject.name))
     } else {
@@ -377,10 +388,10 @@ fn behind_user(part: &[Token], subject: &Subject) -> Option<usize> {
     }
 }
 
-/// The first byte and the length of a token; of none, those of the text's first byte.
+/// Gives the first byte and the length of a token, or of the text's first byte if there is none.
 pub(crate) fn place_of(text: &[u8], token: Option<&Token>) -> (usize, usize) {
     match token {
-        Some(token) => (token.start, spelled(text, token).len()),
+        Some(token) => (token.start, spelling_of(text, token).len()),
         None => (0, 1),
     }
 }

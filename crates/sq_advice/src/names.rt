@@ -12,7 +12,7 @@ pub enum NameKind {
     Cursor,
 }
 
-/// The tokens of a text; none where it is refused.
+/// Reads the tokens of a text; none if it is refused.
 pub(crate) fn read(alloc: Global, text: &[u8]) -> Result<Vec<Token>, AllocError> {
     match lex(alloc, text) {
         Ok(tokens) => Ok(tokens),
@@ -22,7 +22,7 @@ pub(crate) fn read(alloc: Global, text: &[u8]) -> Result<Vec<Token>, AllocError>
 }
 
 /// The names of a kind that a text declares.
-pub(crate) fn declared(
+pub(crate) fn list_declared(
     alloc: Global,
     kind: NameKind,
     tokens: &[Token],
@@ -39,7 +39,7 @@ pub(crate) fn add_declared(
     tokens: &[Token],
 ) -> Result<(), AllocError> {
     for index in 0..tokens.len() {
-        if let Some(name) = declared_at(kind, tokens, index) {
+        if let Some(name) = declared_name_at(kind, tokens, index) {
             names.push(name)?;
         }
     }
@@ -47,49 +47,49 @@ pub(crate) fn add_declared(
 }
 
 /// The name of a kind that is declared at the token of this number, if one is.
-fn declared_at(kind: NameKind, tokens: &[Token], index: usize) -> Option<Name> {
+fn declared_name_at(kind: NameKind, tokens: &[Token], index: usize) -> Option<Name> {
     let name = name_at(tokens, index)?;
     let stands = match kind {
         NameKind::Table => is_new_table(tokens, index),
         NameKind::Column => is_new_column(tokens, index),
-        NameKind::Parameter => is_parameter(tokens, index) && is_type(tokens, behind(index)),
-        NameKind::Cursor => is_word(tokens, before(index), Word::Declare),
+        NameKind::Parameter => is_parameter(tokens, index) && is_type(tokens, index_after(index)),
+        NameKind::Cursor => is_word(tokens, index_before(index), Word::Declare),
     };
     if stands { Some(name) } else { None }
 }
 
-/// Whether a name stands behind CREATE TABLE or CREATE VIEW, and perhaps a user.
+/// Whether a name is after CREATE TABLE or CREATE VIEW, and perhaps a user.
 fn is_new_table(tokens: &[Token], index: usize) -> bool {
-    let first = if is_symbol(tokens, before(index), Symbol::Dot) {
+    let first = if is_symbol(tokens, index_before(index), Symbol::Dot) {
         index.saturating_sub(2)
     } else {
         index
     };
-    is_new(tokens, before(first)) && !is_symbol(tokens, behind(index), Symbol::Dot)
+    is_new(tokens, index_before(first)) && !is_symbol(tokens, index_after(index), Symbol::Dot)
 }
 
-/// Whether TABLE or VIEW behind CREATE is the token of this number.
+/// Whether the token of this number is TABLE or VIEW after CREATE.
 fn is_new(tokens: &[Token], index: usize) -> bool {
     (is_word(tokens, index, Word::Table) || is_word(tokens, index, Word::View))
-        && is_word(tokens, before(index), Word::Create)
+        && is_word(tokens, index_before(index), Word::Create)
 }
 
-/// Whether a name stands before a type, or alone in a list in brackets, in which schemas have columns.
+/// Whether a name is before a type, or alone in a list in brackets, in which schemas have columns.
 fn is_new_column(tokens: &[Token], index: usize) -> bool {
-    is_type(tokens, behind(index)) || is_listed(tokens, index)
+    is_type(tokens, index_after(index)) || is_listed(tokens, index)
 }
 
 fn is_listed(tokens: &[Token], index: usize) -> bool {
-    let begins = is_symbol(tokens, before(index), Symbol::Open)
-        || is_symbol(tokens, before(index), Symbol::Comma);
-    let ends = is_symbol(tokens, behind(index), Symbol::Close)
-        || is_symbol(tokens, behind(index), Symbol::Comma);
+    let begins = is_symbol(tokens, index_before(index), Symbol::Open)
+        || is_symbol(tokens, index_before(index), Symbol::Comma);
+    let ends = is_symbol(tokens, index_after(index), Symbol::Close)
+        || is_symbol(tokens, index_after(index), Symbol::Comma);
     begins && ends
 }
 
-/// Whether the token of this number is behind a colon.
+/// Whether the token of this number is after a colon.
 pub(crate) fn is_parameter(tokens: &[Token], index: usize) -> bool {
-    is_symbol(tokens, before(index), Symbol::Colon)
+    is_symbol(tokens, index_before(index), Symbol::Colon)
 }
 
 /// Whether a type begins at the token of this number.
@@ -118,12 +118,12 @@ fn is_type_word(lexeme: &Lexeme) -> bool {
 }
 
 /// The number before this one; before 0 there is none, and a number that no token has is answered.
-pub(crate) fn before(index: usize) -> usize {
+pub(crate) fn index_before(index: usize) -> usize {
     index.wrapping_sub(1)
 }
 
-/// The number behind this one.
-pub(crate) fn behind(index: usize) -> usize {
+/// The number after this one.
+pub(crate) fn index_after(index: usize) -> usize {
     index.saturating_add(1)
 }
 
@@ -135,6 +135,7 @@ pub(crate) fn name_at(tokens: &[Token], index: usize) -> Option<Name> {
     }
 }
 
+/// Whether the token of this number is this name.
 pub(crate) fn is_name(tokens: &[Token], index: usize, name: Name) -> bool {
     match name_at(tokens, index) {
         Some(other) => other == name,
@@ -142,6 +143,7 @@ pub(crate) fn is_name(tokens: &[Token], index: usize, name: Name) -> bool {
     }
 }
 
+/// Whether the token of this number is this reserved word.
 pub(crate) fn is_word(tokens: &[Token], index: usize, word: Word) -> bool {
     match tokens.get(index) {
         Some(token) => match &token.lexeme {
@@ -152,6 +154,7 @@ pub(crate) fn is_word(tokens: &[Token], index: usize, word: Word) -> bool {
     }
 }
 
+/// Whether the token of this number is this symbol.
 pub(crate) fn is_symbol(tokens: &[Token], index: usize, symbol: Symbol) -> bool {
     match tokens.get(index) {
         Some(token) => match &token.lexeme {

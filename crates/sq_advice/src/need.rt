@@ -1,6 +1,6 @@
 //! Which privileges a statement or an element of a schema needs.
 
-use crate::names::{before, behind, is_name, is_symbol, is_word, name_at};
+use crate::names::{index_after, index_before, is_name, is_symbol, is_word, name_at};
 use crate::table::{TableName, table_name_at};
 use sq_lex::{Lexeme, Name, Symbol, Token, Word};
 
@@ -15,7 +15,7 @@ pub(crate) struct Need {
     pub(crate) at: usize,
 }
 
-/// What a privilege is needed for.
+/// The use for which a privilege is needed.
 #[derive(Clone, Copy)]
 pub(crate) enum Use {
     /// To do to a table what a statement does.
@@ -35,7 +35,8 @@ pub(crate) fn need_for(tokens: &[Token], index: usize, user: Name, how: Use) -> 
     }
 }
 
-/// The privilege that is needed for the table whose name begins at the token of a number, where no other user is written for this user.
+/// Finds the privilege that is needed for the table whose name begins at the token of a number. The table is
+/// this user's if no other user is written.
 pub(crate) fn need_at(tokens: &[Token], index: usize, user: Name) -> Option<Need> {
     let action = action_at(tokens, index)?;
     let written = table_name_at(tokens, index)?;
@@ -52,14 +53,16 @@ fn need_of(action: Word, written: &TableName, at: usize, user: Name, column: Opt
     }
 }
 
-/// What is done to the table whose name begins at the token of a number.
+/// Finds what a statement does to the table whose name begins at the token of a number.
 fn action_at(tokens: &[Token], index: usize) -> Option<Word> {
-    let last = before(index);
-    if is_word(tokens, last, Word::Into) && is_word(tokens, before(last), Word::Insert) {
+    let last = index_before(index);
+    if is_word(tokens, last, Word::Into) && is_word(tokens, index_before(last), Word::Insert) {
         Some(Word::Insert)
     } else if is_word(tokens, last, Word::Update) {
         Some(Word::Update)
-    } else if is_word(tokens, last, Word::From) && is_word(tokens, before(last), Word::Delete) {
+    } else if is_word(tokens, last, Word::From)
+        && is_word(tokens, index_before(last), Word::Delete)
+    {
         Some(Word::Delete)
     } else if is_word(tokens, last, Word::References) {
         Some(Word::References)
@@ -78,13 +81,17 @@ fn is_source(tokens: &[Token], index: usize) -> bool {
         .rev()
         .take_while(|token| is_of_sources(token))
         .count();
-    let is_first = count == 0 || is_symbol(tokens, before(index), Symbol::Comma);
+    let is_first = count == 0 || is_symbol(tokens, index_before(index), Symbol::Comma);
     is_first
-        && is_word(tokens, before(index.saturating_sub(count)), Word::From)
-        && !is_word(tokens, behind(index), Word::Into)
+        && is_word(
+            tokens,
+            index_before(index.saturating_sub(count)),
+            Word::From,
+        )
+        && !is_word(tokens, index_after(index), Word::Into)
 }
 
-/// Whether a token may stand among the tables of a FROM clause.
+/// Whether a token may be among the tables of a FROM clause.
 fn is_of_sources(token: &Token) -> bool {
     matches!(
         token.lexeme,
@@ -95,19 +102,26 @@ fn is_of_sources(token: &Token) -> bool {
 /// The privilege that is needed for the column that an UPDATE sets at the token of a number.
 fn need_of_set(tokens: &[Token], index: usize, user: Name) -> Option<Need> {
     let column = name_at(tokens, index)?;
-    let is_first = is_word(tokens, before(index), Word::Set)
-        || is_symbol(tokens, before(index), Symbol::Comma);
-    if !is_first || !is_symbol(tokens, behind(index), Symbol::Equal) {
+    let is_first = is_word(tokens, index_before(index), Word::Set)
+        || is_symbol(tokens, index_before(index), Symbol::Comma);
+    if !is_first || !is_symbol(tokens, index_after(index), Symbol::Equal) {
         return None;
     }
     let update = (0..index)
         .rev()
         .find(|at| is_word(tokens, *at, Word::Update))?;
-    let written = table_name_at(tokens, behind(update))?;
-    Some(need_of(Word::Update, &written, behind(update), user, Some(column)))
+    let written = table_name_at(tokens, index_after(update))?;
+    Some(need_of(
+        Word::Update,
+        &written,
+        index_after(update),
+        user,
+        Some(column),
+    ))
 }
 
-/// The privilege that is needed where an UPDATE or a DELETE reads the table whose name begins at the token of a number.
+/// Finds the privilege that is needed if an UPDATE or a DELETE reads the table whose name begins at the token
+/// of a number.
 fn need_to_read(tokens: &[Token], index: usize, user: Name) -> Option<Need> {
     match action_at(tokens, index)? {
         Word::Update | Word::Delete => {
@@ -118,7 +132,7 @@ fn need_to_read(tokens: &[Token], index: usize, user: Name) -> Option<Need> {
     }
 }
 
-/// What is granted on a table to whom, by the tokens of a grant.
+/// A grant by its tokens: the privileges on a table, and who gets them.
 #[derive(Clone, Copy)]
 pub(crate) struct Grant<'t> {
     pub(crate) tokens: &'t [Token],
@@ -141,10 +155,10 @@ impl<'t> Grant<'t> {
 
     /// The number of the token with which the table's name begins.
     pub(crate) fn table(&self) -> usize {
-        if is_word(self.tokens, behind(self.on), Word::Table) {
+        if is_word(self.tokens, index_after(self.on), Word::Table) {
             self.on.saturating_add(2)
         } else {
-            behind(self.on)
+            index_after(self.on)
         }
     }
 
@@ -173,18 +187,18 @@ impl<'t> Grant<'t> {
 
     /// Whether the privilege at the token of a number is one on a column, or on all.
     fn has_column(&self, index: usize, column: Option<Name>) -> bool {
-        if !is_symbol(self.tokens, behind(index), Symbol::Open) {
+        if !is_symbol(self.tokens, index_after(index), Symbol::Open) {
             return true;
         }
         match column {
-            Some(column) => self.lists(behind(index), column),
+            Some(column) => self.lists(index_after(index), column),
             None => true,
         }
     }
 
-    /// Whether a name stands in the list that a bracket opens.
+    /// Whether a name is in the list that a bracket opens.
     fn lists(&self, open: usize, name: Name) -> bool {
-        let rest = self.tokens.iter().skip(behind(open));
+        let rest = self.tokens.iter().skip(index_after(open));
         rest.take_while(|token| !is_close(token))
             .any(|token| is_this(token, name))
     }

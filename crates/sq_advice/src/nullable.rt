@@ -1,7 +1,7 @@
 //! Targets without an indicator into which a null may come.
 
 use crate::meaning::Module;
-use crate::names::{before, behind, is_symbol, is_word, name_at};
+use crate::names::{index_after, index_before, is_symbol, is_word, name_at};
 use crate::need::need_at;
 use crate::schemas::Schemas;
 use crate::table::{column_named, definition_at, is_not_null};
@@ -14,14 +14,14 @@ struct Query<'m> {
     user: Name,
 }
 
-/// The numbers of the tokens of a procedure among which its targets stand, from its INTO on.
+/// Finds the numbers of the tokens of a procedure between which its targets are, from its INTO on.
 pub(crate) fn targets_of(part: &[Token]) -> (usize, usize) {
     let into = (0..part.len()).find(|index| is_word(part, *index, Word::Into)
-        && !is_word(part, before(*index), Word::Insert));
+        && !is_word(part, index_before(*index), Word::Insert));
     let start = into.unwrap_or(part.len());
-    let rest = part.iter().skip(behind(start));
+    let rest = part.iter().skip(index_after(start));
     let count = rest.take_while(|token| is_of_targets(token)).count();
-    (start, behind(start).saturating_add(count))
+    (start, index_after(start).saturating_add(count))
 }
 
 fn is_of_targets(token: &Token) -> bool {
@@ -33,8 +33,8 @@ fn is_of_targets(token: &Token) -> bool {
     )
 }
 
-/// Whether the token of a number is the name of a target without an indicator, behind the INTO of a procedure, and what comes into
-/// it may be null.
+/// Whether the token of a number is a target without an indicator, after the INTO of a procedure, and may get
+/// a null.
 pub(crate) fn lacks_indicator(
     module: &Module<'_, '_>,
     part: &[Token],
@@ -53,30 +53,32 @@ pub(crate) fn lacks_indicator(
     }
 }
 
-/// Whether a target's name is the token of a number: it stands behind a colon that begins a target.
+/// Whether a target's name is the token of a number: it is after a colon that begins a target.
 fn is_target(part: &[Token], index: usize) -> bool {
-    let colon = before(index);
-    let begins = is_word(part, before(colon), Word::Into)
-        || is_symbol(part, before(colon), Symbol::Comma);
+    let colon = index_before(index);
+    let begins = is_word(part, index_before(colon), Word::Into)
+        || is_symbol(part, index_before(colon), Symbol::Comma);
     name_at(part, index).is_some() && is_symbol(part, colon, Symbol::Colon) && begins
 }
 
 fn has_indicator(part: &[Token], index: usize) -> bool {
-    is_word(part, behind(index), Word::Indicator) || is_symbol(part, behind(index), Symbol::Colon)
+    is_word(part, index_after(index), Word::Indicator)
+        || is_symbol(part, index_after(index), Symbol::Colon)
 }
 
-/// How many commas stand between two tokens.
+/// Counts the commas between two tokens.
 fn commas_between(part: &[Token], from: usize, to: usize) -> usize {
     (from..to)
         .filter(|index| is_symbol(part, *index, Symbol::Comma))
         .count()
 }
 
-/// The query whose row comes into the targets behind an INTO: that of the procedure, or of the cursor that it fetches from.
+/// Finds the query whose row comes into the targets after an INTO: the procedure's, or the cursor's that it
+/// fetches from.
 fn query_of<'m>(module: &'m Module<'_, '_>, part: &'m [Token], into: usize) -> Option<Query<'m>> {
     let user = module.user?;
-    match name_at(part, before(into)) {
-        Some(cursor) if is_fetch(part, before(into)) => Some(Query {
+    match name_at(part, index_before(into)) {
+        Some(cursor) if is_fetch(part, index_before(into)) => Some(Query {
             tokens: from_select(module.declaration_of(cursor)),
             user,
         }),
@@ -89,7 +91,8 @@ fn query_of<'m>(module: &'m Module<'_, '_>, part: &'m [Token], into: usize) -> O
 
 /// Whether a FETCH names its cursor at the token of a number.
 fn is_fetch(part: &[Token], index: usize) -> bool {
-    is_word(part, before(index), Word::From) || is_word(part, before(index), Word::Fetch)
+    is_word(part, index_before(index), Word::From)
+        || is_word(part, index_before(index), Word::Fetch)
 }
 
 /// The tokens from the first SELECT on.
@@ -98,12 +101,12 @@ fn from_select(tokens: &[Token]) -> &[Token] {
     &tokens[start.unwrap_or(tokens.len()).min(tokens.len())..]
 }
 
-/// The item behind so many others in the list of a query that begins with SELECT.
+/// Finds the item after so many others in the list of a query that begins with SELECT.
 fn nth_item(query: &[Token], place: usize) -> &[Token] {
     let list = &query[list_start(query).min(query.len())..];
     let mut rest = list;
     for _ in 0..place {
-        rest = behind_item(rest);
+        rest = tail_after_item(rest);
     }
     &rest[..item_length(rest).min(rest.len())]
 }
@@ -117,9 +120,9 @@ fn list_start(query: &[Token]) -> usize {
     }
 }
 
-/// What stands behind the first item and its comma.
-fn behind_item(list: &[Token]) -> &[Token] {
-    &list[behind(item_length(list)).min(list.len())..]
+/// Gives the tokens after the first item and its comma.
+fn tail_after_item(list: &[Token]) -> &[Token] {
+    &list[index_after(item_length(list)).min(list.len())..]
 }
 
 /// How many tokens the first item of a list has.
@@ -149,13 +152,14 @@ fn open_behind(open: usize, token: &Token) -> usize {
     }
 }
 
-/// Whether an item of a query is a column that is not declared NOT NULL, or a set function that has no value where there is no row.
+/// Whether an item of a query may be null: a column that is not declared NOT NULL, or a set function without
+/// a value if there is no row.
 fn may_be_null(schemas: &Schemas<'_>, query: &Query<'_>, item: &[Token]) -> bool {
-    if is_of_no_rows(item) && is_symbol(item, before(item.len()), Symbol::Close) {
+    if is_of_no_rows(item) && is_symbol(item, index_before(item.len()), Symbol::Close) {
         return !has_groups(query.tokens);
     }
     let is_column = item.len() == 1 || item.len() == 3 && is_symbol(item, 1, Symbol::Dot);
-    match name_at(item, before(item.len())) {
+    match name_at(item, index_before(item.len())) {
         Some(column) if is_column => (0..query.tokens.len()).any(|index| is_nullable_in(
             schemas, query, index, column,
         )),
@@ -163,7 +167,7 @@ fn may_be_null(schemas: &Schemas<'_>, query: &Query<'_>, item: &[Token]) -> bool
     }
 }
 
-/// Whether a set function that is null where there is no row stands at the start of an item.
+/// Whether a set function that is null if there is no row begins an item.
 fn is_of_no_rows(item: &[Token]) -> bool {
     match item.first() {
         Some(token) => matches!(

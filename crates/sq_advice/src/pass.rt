@@ -1,21 +1,21 @@
-//! The errors of a text, one after the other: behind each, reading goes on at the next element.
+//! The errors of a text, one after the other: after each, reading goes on at the next element.
 
 ghost use Rattle.std.specs.Prelude.{◌≤◌, length};
 
 use crate::advice::{Advice, Trouble, What};
 use crate::element::{last_comma, last_start, next_comma, next_start, open_in_table};
-use crate::expected::{called, expected, is_name, stands_for_names, tried};
+use crate::expected::{describe, find_expected, is_name, stands_for_names, tokens_to_try};
 use crate::hint::{Spot, hint_of};
 use crate::kind::{TextKind, refusal_of};
 use crate::lexical::{MOST, tokens_of};
 use crate::meaning::place_of;
 use crate::names::read;
-use crate::stands::found_at;
+use crate::stands::describe_spot;
 use sq_lex::Token;
 use sq_parse::ParseError;
 use std::alloc::{AllocError, Global};
 
-/// What stands before a comma of a table.
+/// The tokens before a comma of a table.
 const TABLE: &[u8] = b"CREATE SCHEMA AUTHORIZATION U CREATE TABLE T (A INTEGER";
 
 /// Why a text is refused for its tokens and its grammar, and what more would be if each error were mended: first the pieces that
@@ -35,8 +35,8 @@ pub fn troubles_of(alloc: Global, kind: TextKind, text: &[u8]) -> Result<Vec<Tro
     Ok(troubles)
 }
 
-/// Adds a refusal, unless its element has one of the pieces that are no tokens, of which there are so many, and gives the tokens of a
-/// text that goes on behind it.
+/// Adds a refusal, unless its element has one of the pieces that are no tokens, of which there are so many.
+/// It gives the tokens of a text that goes on after it.
 fn pass(
     alloc: Global,
     kind: TextKind,
@@ -62,19 +62,20 @@ fn pass(
     drop(before);
     let after = rest.split_off(way.next.min(rest.len()))?;
     drop(rest);
-    behind_head(alloc, way.head, after)
+    prepend_head(alloc, way.head, after)
 }
 
-/// Where reading goes on behind an error.
+/// The way in which reading goes on after an error.
 #[derive(Clone, Copy)]
 struct Way {
     /// How many tokens are passed over.
     next: usize,
-    /// What stands for all before.
+    /// The text in the place of all before.
     head: &'static [u8],
 }
 
-/// The way on from the token that is refused, behind those before it: to the next element of the same table, or of the text.
+/// Finds the way on from the token that is refused, after those before it: to the next element of the same
+/// table, or of the text.
 fn way_on(kind: TextKind, before: &[Token], rest: &[Token]) -> Way {
     let comma = match kind {
         TextKind::Schema => next_comma(open_in_table(before), rest),
@@ -89,7 +90,7 @@ fn way_on(kind: TextKind, before: &[Token], rest: &[Token]) -> Way {
     }
 }
 
-/// The number of the token that is refused; that of a text which ends too early is behind the last one.
+/// Gives the number of the token that is refused. If a text ends too early, it is after the last one.
 fn index_of(refusal: ParseError, count: usize) -> usize
     ensures { result ≤ count }
 {
@@ -107,7 +108,7 @@ fn what_of(refusal: ParseError) -> What {
     }
 }
 
-/// Whether one of the first so many troubles stands between two bytes.
+/// Whether one of the first so many troubles is between two bytes.
 fn has_piece(troubles: &[Trouble], pieces: usize, from: usize, to: usize) -> bool {
     troubles.iter().take(pieces).any(|trouble| from <= trouble.advice.start
         && trouble.advice.start < to)
@@ -125,8 +126,8 @@ fn start_of_element(kind: TextKind, tokens: &[Token]) -> usize {
     }
 }
 
-/// Tokens behind the head of a text.
-fn behind_head(alloc: Global, head: &[u8], tokens: Vec<Token>) -> Result<Vec<Token>, AllocError> {
+/// Puts the tokens of a head before others.
+fn prepend_head(alloc: Global, head: &[u8], tokens: Vec<Token>) -> Result<Vec<Token>, AllocError> {
     let mut all = read(alloc, head)?;
     for token in tokens {
         all.push(token)?;
@@ -152,8 +153,8 @@ fn trouble_at(
     at: Option<&Token>,
     refusal: ParseError,
 ) -> Result<Trouble, AllocError> {
-    let tried = tried(alloc)?;
-    let fit = expected(alloc, kind, before, tried.as_slice())?;
+    let tried = tokens_to_try(alloc)?;
+    let fit = find_expected(alloc, kind, before, tried.as_slice())?;
     drop(tried);
     let spot = Spot {
         kind,
@@ -163,7 +164,7 @@ fn trouble_at(
         expected: fit.as_slice(),
     };
     let advice = match refusal {
-        ParseError::TooDeep(_) => too_deep(alloc, &spot),
+        ParseError::TooDeep(_) => advice_on_depth(alloc, &spot),
         _ => advice_at(alloc, &spot),
     };
     drop(fit);
@@ -176,10 +177,10 @@ fn trouble_at(
     }
 }
 
-/// What is said where a token is unexpected or missing.
+/// Makes the advice on a token that is unexpected or missing.
 fn advice_at(alloc: Global, spot: &Spot<'_>) -> Result<Advice, AllocError> {
     let hint = hint_of(spot);
-    let found = found_at(alloc, spot, hint)?;
+    let found = describe_spot(alloc, spot, hint)?;
     let says = match hint {
         Some(hint) => Vec::from_slice(alloc, hint.says.as_bytes())?,
         None => Vec::new(alloc),
@@ -195,7 +196,7 @@ fn advice_at(alloc: Global, spot: &Spot<'_>) -> Result<Advice, AllocError> {
     })
 }
 
-fn too_deep(alloc: Global, spot: &Spot<'_>) -> Result<Advice, AllocError> {
+fn advice_on_depth(alloc: Global, spot: &Spot<'_>) -> Result<Advice, AllocError> {
     let (start, length) = place_of(spot.text, spot.at.or(spot.before));
     Ok(Advice {
         start,
@@ -206,13 +207,13 @@ fn too_deep(alloc: Global, spot: &Spot<'_>) -> Result<Advice, AllocError> {
     })
 }
 
-/// What tokens are called, in their order; CALL is left out where any name may stand.
+/// Describes tokens, in their order; CALL is left out if any name may be there.
 fn names_of(alloc: Global, tokens: &[Token]) -> Result<Vec<&'static [u8]>, AllocError> {
     let mut names = Vec::new(alloc);
     let has_name = tokens.iter().any(|token| stands_for_names(token));
     for token in tokens {
         if !has_name || stands_for_names(token) || !is_name(token) {
-            names.push(called(token))?;
+            names.push(describe(token))?;
         }
     }
     Ok(names)

@@ -8,15 +8,15 @@ use crate::element::begins_at;
 use crate::kind::TextKind;
 use crate::lexical::{is_in_comment, tokens_of};
 use crate::line::first_line;
-use crate::names::{behind, is_word};
-use crate::spelled::{behind as bytes_behind, length_of_word, spelled};
+use crate::names::{index_after, is_word};
+use crate::spelled::{bytes_from as bytes_behind, length_of_word, spelling_of};
 use sq_lex::{Token, Word};
 use std::alloc::{AllocError, Global};
 
-/// What is refused at a byte of a text.
+/// The thing that is refused at a byte of a text.
 #[derive(Clone, Copy, Debug, PartialEq, Eq)]
 pub enum Why {
-    /// The element in which it stands.
+    /// The element that holds it.
     Element,
     /// The token that begins there, which cannot follow those before it.
     Token,
@@ -24,17 +24,17 @@ pub enum Why {
     NoToken,
 }
 
-/// A piece of a text, by its first byte and the byte behind it.
+/// A piece of a text, by its first byte and the byte after it.
 #[derive(Clone, Copy, Debug, PartialEq, Eq)]
 pub struct Piece {
     pub start: usize,
     pub end: usize,
 }
 
-/// A text in which what is refused at a byte is passed over: its element; in the head of a text, or of a schema, the token or the piece
-/// alone. Nothing where the head can't be mended so.
+/// Passes over the element that is refused at a byte of a text. In the head of a text, or of a schema, it
+/// passes over the token or the piece alone. It answers nothing if the head can't be mended so.
 #[tactic(auto, using(crate::proofs::Left::one_left))]
-pub fn passed_over(
+pub fn pass_over(
     alloc: Global,
     kind: TextKind,
     text: &[u8],
@@ -49,19 +49,19 @@ pub fn passed_over(
         piece_around(alloc, kind, text, at, why)?
     };
     match piece {
-        Some(piece) => Ok(Some(with_blanks(alloc, text, piece)?)),
+        Some(piece) => Ok(Some(blank_out(alloc, text, piece)?)),
         None => Ok(None),
     }
 }
 
-/// What stands from a byte on in its line.
+/// Finds the bytes from one on in its line.
 fn rest_of_line(text: &[u8], at: usize) -> Option<Piece>
     ensures { IfSome result (IsPieceOf text.now) }
 {
     piece_of(text, at, first_line(bytes_behind(text, at)).len())
 }
 
-/// The piece of a text to be passed over for what is refused at a byte that stands in no comment.
+/// Finds the piece of a text to be passed over for a refusal at a byte in no comment.
 fn piece_around(
     alloc: Global,
     kind: TextKind,
@@ -87,7 +87,7 @@ fn piece_at(kind: TextKind, text: &[u8], tokens: &[Token], at: usize, why: Why) 
     ensures { IfSome result (IsPieceOf text.now) }
 {
     match element_at(kind, tokens, at, why) {
-        Some(index) if !is_word(tokens, behind(index), Word::Schema) => element_from(
+        Some(index) if !is_word(tokens, index_after(index), Word::Schema) => element_from(
             kind, text, tokens, index,
         ),
         Some(index) if why == Why::Element => schema_from(text, tokens, index),
@@ -95,13 +95,14 @@ fn piece_at(kind: TextKind, text: &[u8], tokens: &[Token], at: usize, why: Why) 
     }
 }
 
-/// The number of the token with which the element begins that is refused at a byte: before the byte, where a token is refused.
+/// Finds the token with which the element begins that is refused at a byte. If a token is refused, it begins
+/// before the byte.
 fn element_at(kind: TextKind, tokens: &[Token], at: usize, why: Why) -> Option<usize> {
     (0..tokens.len()).rev().find(|index| begins_at(kind, tokens, *index)
         && is_up_to(tokens, *index, at, why))
 }
 
-/// Whether a token begins before a byte, or at it where no token is refused there.
+/// Whether a token begins before a byte, or at it if no token is refused there.
 fn is_up_to(tokens: &[Token], index: usize, at: usize, why: Why) -> bool {
     match tokens.get(index) {
         Some(token) => token.start < at || token.start == at && why != Why::Token,
@@ -113,24 +114,24 @@ fn is_up_to(tokens: &[Token], index: usize, at: usize, why: Why) -> bool {
 fn element_from(kind: TextKind, text: &[u8], tokens: &[Token], first: usize) -> Option<Piece>
     ensures { IfSome result (IsPieceOf text.now) }
 {
-    let next = (behind(first)..tokens.len()).find(|index| begins_at(kind, tokens, *index));
-    up_to(text, tokens, first, next)
+    let next = (index_after(first)..tokens.len()).find(|index| begins_at(kind, tokens, *index));
+    piece_up_to(text, tokens, first, next)
 }
 
 /// The schema that begins at the token of a number.
 fn schema_from(text: &[u8], tokens: &[Token], first: usize) -> Option<Piece>
     ensures { IfSome result (IsPieceOf text.now) }
 {
-    let next = (behind(first)..tokens.len()).find(|index| begins_schema(tokens, *index));
-    up_to(text, tokens, first, next)
+    let next = (index_after(first)..tokens.len()).find(|index| begins_schema(tokens, *index));
+    piece_up_to(text, tokens, first, next)
 }
 
 fn begins_schema(tokens: &[Token], index: usize) -> bool {
-    is_word(tokens, index, Word::Create) && is_word(tokens, behind(index), Word::Schema)
+    is_word(tokens, index, Word::Create) && is_word(tokens, index_after(index), Word::Schema)
 }
 
 /// The piece of a text from one token up to another, or to the end.
-fn up_to(text: &[u8], tokens: &[Token], first: usize, next: Option<usize>) -> Option<Piece>
+fn piece_up_to(text: &[u8], tokens: &[Token], first: usize, next: Option<usize>) -> Option<Piece>
     ensures { IfSome result (IsPieceOf text.now) }
 {
     let start = tokens.get(first)?.start;
@@ -159,7 +160,7 @@ fn piece_of_head(
             if begins_at(kind, tokens, index) {
                 return None;
             }
-            piece_of(text, at, spelled(text, tokens.get(index)?).len())
+            piece_of(text, at, spelling_of(text, tokens.get(index)?).len())
         }
     }
 }
@@ -177,7 +178,7 @@ fn piece_of(text: &[u8], start: usize, length: usize) -> Option<Piece>
 }
 
 /// The text with blanks for a piece of it.
-fn with_blanks(alloc: Global, text: &[u8], piece: Piece) -> Result<Vec<u8>, AllocError>
+fn blank_out(alloc: Global, text: &[u8], piece: Piece) -> Result<Vec<u8>, AllocError>
     requires { IsPieceOf text.now piece }
     ensures { IfOk result (λ left. left.items ≡ spec.passed text.now piece) }
 {

@@ -10,13 +10,13 @@ use sq_lex::{Name, Token, Word};
 use std::alloc::{AllocError, Global};
 
 /// A privilege that is needed and that no grant gives: on a table, on a column that is set, or to read what is changed.
-pub(crate) fn lacking(schemas: &Schemas<'_>, part: &[Token], user: Name) -> Option<Need> {
-    first_lacking(schemas, part, user, Use::Table)
-        .or(first_lacking(schemas, part, user, Use::Column))
-        .or(first_lacking(schemas, part, user, Use::Reading))
+pub(crate) fn find_lacking(schemas: &Schemas<'_>, part: &[Token], user: Name) -> Option<Need> {
+    find_lacking_for(schemas, part, user, Use::Table)
+        .or(find_lacking_for(schemas, part, user, Use::Column))
+        .or(find_lacking_for(schemas, part, user, Use::Reading))
 }
 
-fn first_lacking(schemas: &Schemas<'_>, part: &[Token], user: Name, how: Use) -> Option<Need> {
+fn find_lacking_for(schemas: &Schemas<'_>, part: &[Token], user: Name, how: Use) -> Option<Need> {
     for index in 0..part.len() {
         if let Some(need) = need_for(part, index, user, how) {
             if need.owner != user && !is_granted(schemas, &need, user) {

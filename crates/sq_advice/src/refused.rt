@@ -1,6 +1,6 @@
 //! The name that a refusal of a schema's element is about.
 
-use crate::names::{before, behind, is_name, is_symbol, is_type, is_word, name_at};
+use crate::names::{index_after, index_before, is_name, is_symbol, is_type, is_word, name_at};
 use crate::need::need_at;
 use crate::schemas::Schemas;
 use crate::table::{
@@ -20,7 +20,7 @@ pub(crate) struct Element<'t> {
     pub(crate) place: (usize, usize),
 }
 
-/// The number of the token of an element that a refusal is about, where one is found.
+/// Finds the token of an element that a refusal is about, if one is found.
 pub(crate) fn token_of_refusal(
     schemas: &Schemas<'_>,
     element: &Element<'_>,
@@ -28,7 +28,7 @@ pub(crate) fn token_of_refusal(
 ) -> Option<usize> {
     let tokens = element.tokens;
     match fault {
-        SchemaFault::NameTwice => name_twice(schemas, element),
+        SchemaFault::NameTwice => repeated_name(schemas, element),
         SchemaFault::UnknownName => {
             (0..tokens.len()).find(|index| is_unknown(schemas, element, *index))
         }
@@ -50,20 +50,23 @@ pub(crate) fn token_of_refusal(
     }
 }
 
-/// The name of a user's second schema, of a table that is there, or of a column that stands twice.
-fn name_twice(schemas: &Schemas<'_>, element: &Element<'_>) -> Option<usize> {
+/// Finds the name of a user's second schema, of a table that exists, or of a column that occurs twice.
+fn repeated_name(schemas: &Schemas<'_>, element: &Element<'_>) -> Option<usize> {
     let tokens = element.tokens;
     if is_word(tokens, 1, Word::Schema) {
         return Some(3);
     }
-    match earlier(schemas, element) {
+    match find_earlier(schemas, element) {
         Some(_) => Some(2),
         None => (0..tokens.len()).find(|index| is_column_twice(tokens, *index)),
     }
 }
 
 /// An earlier table or view with the name of an element's table or view.
-pub(crate) fn earlier<'s>(schemas: &'s Schemas<'_>, element: &Element<'_>) -> Option<&'s Table> {
+pub(crate) fn find_earlier<'s>(
+    schemas: &'s Schemas<'_>,
+    element: &Element<'_>,
+) -> Option<&'s Table> {
     let written = table_name_at(element.tokens, 2)?;
     let table = schemas.table(written.owner.unwrap_or(element.user), written.name)?;
     if (table.text, table.first) == element.place {
@@ -73,7 +76,8 @@ pub(crate) fn earlier<'s>(schemas: &'s Schemas<'_>, element: &Element<'_>) -> Op
     }
 }
 
-/// Whether a column stands at the token of a number that stands before, in a table, or in a view's list or select list.
+/// Whether a column at the token of a number has occurred before, in a table, or in a view's list or select
+/// list.
 fn is_column_twice(tokens: &[Token], index: usize) -> bool {
     match name_at(tokens, index) {
         Some(name) => {
@@ -89,17 +93,17 @@ fn is_new_column(tokens: &[Token], index: usize) -> bool {
     if is_word(tokens, 1, Word::Table) {
         return column_at(tokens, index).is_some();
     }
-    let ends = is_symbol(tokens, behind(index), Symbol::Comma)
-        || is_symbol(tokens, behind(index), Symbol::Close)
-        || is_word(tokens, behind(index), Word::From);
+    let ends = is_symbol(tokens, index_after(index), Symbol::Comma)
+        || is_symbol(tokens, index_after(index), Symbol::Close)
+        || is_word(tokens, index_after(index), Word::From);
     index > 2 && ends
 }
 
-/// Whether a table or a column that is not there is named at the token of a number by a key, a reference or a grant.
+/// Whether a key, a reference or a grant names an unknown table or column at the token of a number.
 fn is_unknown(schemas: &Schemas<'_>, element: &Element<'_>, index: usize) -> bool {
     let tokens = element.tokens;
     if is_table_named(tokens, index) {
-        return is_missing(schemas, table_written(schemas, element, index));
+        return is_missing(schemas, written_table(schemas, element, index));
     }
     match (name_at(tokens, index), list_of(tokens, index)) {
         (Some(name), Some(open)) => !is_listed_column(schemas, element, open, name),
@@ -117,15 +121,15 @@ fn is_missing(schemas: &Schemas<'_>, table: Option<&Table>) -> bool {
 
 /// Whether a reference or a grant names a table at the token of a number.
 pub(crate) fn is_table_named(tokens: &[Token], index: usize) -> bool {
-    let last = before(index);
+    let last = index_before(index);
     name_at(tokens, index).is_some()
         && (is_word(tokens, last, Word::References)
             || is_word(tokens, last, Word::On)
-            || is_word(tokens, last, Word::Table) && is_word(tokens, before(last), Word::On))
+            || is_word(tokens, last, Word::Table) && is_word(tokens, index_before(last), Word::On))
 }
 
 /// The table whose name begins at the token of a number of an element.
-fn table_written<'s>(
+fn written_table<'s>(
     schemas: &'s Schemas<'_>,
     element: &Element<'_>,
     index: usize,
@@ -137,7 +141,7 @@ fn table_written<'s>(
 /// Whether a list that a bracket opens is none of columns, or its table may have a column of this name.
 fn is_listed_column(schemas: &Schemas<'_>, element: &Element<'_>, open: usize, name: Name) -> bool {
     let tokens = element.tokens;
-    let last = before(open);
+    let last = index_before(open);
     if is_word(tokens, last, Word::Key) || is_word(tokens, last, Word::Unique) {
         return column_named(tokens, name).is_some();
     }
@@ -147,7 +151,7 @@ fn is_listed_column(schemas: &Schemas<'_>, element: &Element<'_>, open: usize, n
     }
 }
 
-/// The table of whose columns a list is: the one behind REFERENCES, or that of a grant.
+/// Finds the table whose columns a list has: the one after REFERENCES, or a grant's.
 fn table_of_list<'s>(
     schemas: &'s Schemas<'_>,
     element: &Element<'_>,
@@ -156,14 +160,14 @@ fn table_of_list<'s>(
     let tokens = element.tokens;
     if is_word(tokens, 0, Word::Grant) {
         let at = (0..tokens.len()).find(|index| is_table_named(tokens, *index))?;
-        return table_written(schemas, element, at);
+        return written_table(schemas, element, at);
     }
     let from = open.saturating_sub(3);
     let at = (from..open).find(|index| is_table_named(tokens, *index))?;
-    table_written(schemas, element, at)
+    written_table(schemas, element, at)
 }
 
-/// Whether a column of a key stands at the token of a number that is not declared NOT NULL.
+/// Whether a column of a key is at the token of a number, and is not declared NOT NULL.
 fn is_nullable(tokens: &[Token], index: usize) -> bool {
     if column_at(tokens, index).is_some() {
         let definition = definition_at(tokens, index);
@@ -182,9 +186,9 @@ fn is_key(definition: &[Token]) -> bool {
 
 /// Whether a bracket opens the list of a key.
 fn is_of_key(tokens: &[Token], open: usize) -> bool {
-    let last = before(open);
+    let last = index_before(open);
     is_word(tokens, last, Word::Unique)
-        || is_word(tokens, last, Word::Key) && is_word(tokens, before(last), Word::Primary)
+        || is_word(tokens, last, Word::Key) && is_word(tokens, index_before(last), Word::Primary)
 }
 
 /// Whether a column is declared NOT NULL.
@@ -216,13 +220,14 @@ fn is_bad_in_list(tokens: &[Token], index: usize) -> bool {
 
 /// Whether a bracket opens the list of a key or a reference.
 fn is_of_columns(tokens: &[Token], open: usize) -> bool {
-    let last = before(open);
+    let last = index_before(open);
     is_word(tokens, last, Word::Unique)
         || is_word(tokens, last, Word::Key)
         || (open.saturating_sub(3)..open).any(|index| is_table_named(tokens, index))
 }
 
-/// The name of the table of a reference that fits no key of it; of the first reference, where all seem to fit.
+/// Finds the name of the table of a reference that fits no key of it; of the first reference if all seem to
+/// fit.
 fn bad_reference(schemas: &Schemas<'_>, element: &Element<'_>) -> Option<usize> {
     let tokens = element.tokens;
     let bad = (0..tokens.len()).find(|index| is_table_named(tokens, *index)
@@ -230,10 +235,10 @@ fn bad_reference(schemas: &Schemas<'_>, element: &Element<'_>) -> Option<usize> 
     bad.or((0..tokens.len()).find(|index| is_table_named(tokens, *index)))
 }
 
-/// Whether the columns of the reference to the table that is named at a token are those of a key of it.
+/// Whether the reference to the table that is named at a token has the columns of a key of that table.
 fn fits_key(schemas: &Schemas<'_>, element: &Element<'_>, index: usize) -> bool {
     match (
-        table_written(schemas, element, index),
+        written_table(schemas, element, index),
         table_name_at(element.tokens, index),
     ) {
         (Some(table), Some(written)) => {
@@ -244,10 +249,10 @@ fn fits_key(schemas: &Schemas<'_>, element: &Element<'_>, index: usize) -> bool 
     }
 }
 
-/// The tokens in the brackets that open at the token of a number; none where no bracket opens there.
+/// Gives the tokens in the brackets that open at the token of a number; none if no bracket opens there.
 fn names_from(tokens: &[Token], open: usize) -> &[Token] {
     if is_symbol(tokens, open, Symbol::Open) {
-        let rest = &tokens[behind(open).min(tokens.len())..];
+        let rest = &tokens[index_after(open).min(tokens.len())..];
         let count = (0..rest.len()).find(|index| is_symbol(rest, *index, Symbol::Close));
         &rest[..count.unwrap_or(rest.len()).min(rest.len())]
     } else {
@@ -255,7 +260,7 @@ fn names_from(tokens: &[Token], open: usize) -> &[Token] {
     }
 }
 
-/// Whether a table has a key of these columns; a primary one, where there are none.
+/// Whether a table has a key of these columns; a primary one if there are none.
 fn has_key(table: &[Token], columns: &[Token]) -> bool {
     (0..table.len()).any(|index| is_key_of(table, index, columns))
 }
@@ -272,7 +277,7 @@ fn is_key_of(table: &[Token], index: usize, columns: &[Token]) -> bool {
     let open = if is_primary {
         index.saturating_add(2)
     } else {
-        behind(index)
+        index_after(index)
     };
     if is_symbol(table, open, Symbol::Open) {
         return are_same(names_from(table, open), columns);
@@ -291,18 +296,20 @@ fn are_same(key: &[Token], columns: &[Token]) -> bool {
 /// Whether the last column that is declared before the token of a number is the first of these.
 fn is_of_column(table: &[Token], index: usize, columns: &[Token]) -> bool {
     let declared = (0..index).rev().find(|at| name_at(table, *at).is_some()
-        && is_type(table, behind(*at)));
+        && is_type(table, index_after(*at)));
     match (declared, name_at(columns, 0)) {
         (Some(at), Some(name)) => is_name(table, at, name),
         _ => false,
     }
 }
 
-/// Whether a name that is no column of the table, a subquery, a set function or USER stands in a CHECK at the token of a number.
+/// Whether a CHECK may not have the token of a number: a name that is no column of the table, a subquery, a
+/// set function or USER.
 fn is_bad_in_check(tokens: &[Token], index: usize) -> bool {
     let is_wrong = match name_at(tokens, index) {
         Some(name) => {
-            column_named(tokens, name).is_none() && !is_symbol(tokens, behind(index), Symbol::Dot)
+            column_named(tokens, name).is_none()
+                && !is_symbol(tokens, index_after(index), Symbol::Dot)
         }
         None => is_no_check(tokens, index),
     };
@@ -319,10 +326,10 @@ fn is_no_check(tokens: &[Token], index: usize) -> bool {
         || is_word(tokens, index, Word::Max)
 }
 
-/// Whether the token of a number stands in the brackets of a CHECK.
+/// Whether the token of a number is in the brackets of a CHECK.
 fn is_in_check(tokens: &[Token], index: usize) -> bool {
     (0..index).rev().any(|check| is_word(tokens, check, Word::Check)
-        && is_inside(tokens, behind(check), index))
+        && is_inside(tokens, index_after(check), index))
 }
 
 /// Whether a bracket is open from one token to another.
@@ -355,7 +362,7 @@ fn is_unknown_source(schemas: &Schemas<'_>, element: &Element<'_>, index: usize)
     }
 }
 
-/// The number of the token with which the column behind so many others begins.
+/// Finds the token with which the column after so many others begins.
 fn nth_column(tokens: &[Token], count: usize) -> Option<usize> {
     (0..tokens.len())
         .filter(|index| column_at(tokens, *index).is_some())

@@ -1,11 +1,11 @@
-//! What is said beside a refusal of a module for what it means: which name it is about.
+//! The advice beside a refusal of a module for its meaning: which name it is about.
 
 use crate::advice::Advice;
 use crate::element::{begins_at, element_of, token_at};
 use crate::kind::TextKind;
 use crate::meaning::Module;
-use crate::names::{before, behind, is_name, is_parameter, is_type, is_word, name_at};
-use crate::spelled::spelled;
+use crate::names::{index_after, index_before, is_name, is_parameter, is_type, is_word, name_at};
+use crate::spelled::spelling_of;
 use crate::table::definition_at;
 use crate::typed::has_bad_type;
 use sq_lex::{Name, Token, Word};
@@ -13,8 +13,8 @@ use sq_meaning::ModuleFault;
 use std::alloc::{AllocError, Global};
 
 impl Module<'_, '_> {
-    /// What is said of the part that begins at a line and column, where the module is refused.
-    pub fn refused(
+    /// Makes the advice on the refused part of a module, which begins at a line and column.
+    pub fn advice_on_refusal(
         &self,
         alloc: Global,
         line: usize,
@@ -33,7 +33,7 @@ impl Module<'_, '_> {
         self.add_words(&mut found, alloc, part, first, token, fault)?;
         Ok(Some(Advice {
             start: token.start,
-            length: spelled(self.source.text.bytes, token).len(),
+            length: spelling_of(self.source.text.bytes, token).len(),
             found,
             expected: Vec::new(alloc),
             hint: Vec::new(alloc),
@@ -57,11 +57,11 @@ impl Module<'_, '_> {
             }
             _ => {}
         }
-        words.extend_from_slice(spelled(self.source.text.bytes, token))?;
+        words.extend_from_slice(spelling_of(self.source.text.bytes, token))?;
         words.extend_from_slice(says_of(self.source.text.bytes, part, fault))
     }
 
-    /// Adds where the earlier part with the name of this one is declared.
+    /// Adds the place at which the earlier part with the name of this one is declared.
     fn add_earlier(
         &self,
         words: &mut Vec<u8>,
@@ -85,7 +85,7 @@ impl Module<'_, '_> {
         Ok(())
     }
 
-    /// Adds where a cursor is opened, as far as it is.
+    /// Adds the places at which a cursor is opened, or that it never is.
     fn add_openings(
         &self,
         words: &mut Vec<u8>,
@@ -108,7 +108,7 @@ impl Module<'_, '_> {
         Ok(())
     }
 
-    /// Adds where a cursor is opened, behind the places before.
+    /// Adds a place at which a cursor is opened, after the places before.
     fn add_opening(
         &self,
         words: &mut Vec<u8>,
@@ -131,14 +131,14 @@ impl Module<'_, '_> {
     }
 }
 
-/// What a refusal says of the name that it is about.
+/// Says what a refusal finds wrong with the name that it is about.
 fn says_of(text: &[u8], part: &[Token], fault: ModuleFault) -> &'static [u8] {
     match fault {
         ModuleFault::TwoModules => b" is an earlier module's name",
         ModuleFault::StatusParameter if second_status(part).is_some() => b" stands twice",
         ModuleFault::StatusParameter => b" has neither SQLCODE nor SQLSTATE",
-        _ if twice(part).is_some() => b" stands twice",
-        _ if ill_typed(text, part).is_some() => {
+        _ if find_repeated(part).is_some() => b" stands twice",
+        _ if find_ill_typed(text, part).is_some() => {
             b" has a type whose length, precision or scale is out of range"
         }
         _ => b" is the 65th parameter",
@@ -149,12 +149,12 @@ fn says_of(text: &[u8], part: &[Token], fault: ModuleFault) -> &'static [u8] {
 fn is_same(tokens: &[Token], index: usize, part: &[Token], name: Name) -> bool {
     begins_at(TextKind::Module, tokens, index)
         && is_word(tokens, index, Word::Declare) == is_word(part, 0, Word::Declare)
-        && is_name(tokens, behind(index), name)
+        && is_name(tokens, index_after(index), name)
 }
 
 /// Whether a cursor is opened at the token of a number.
 fn is_opening(tokens: &[Token], index: usize, name: Name) -> bool {
-    is_name(tokens, index, name) && is_word(tokens, before(index), Word::Open)
+    is_name(tokens, index, name) && is_word(tokens, index_before(index), Word::Open)
 }
 
 /// The number of the token of a part that a refusal is about.
@@ -168,10 +168,10 @@ fn place_in(text: &[u8], part: &[Token], fault: ModuleFault) -> usize {
 
 /// The second SQLCODE, or the second SQLSTATE.
 fn second_status(part: &[Token]) -> Option<usize> {
-    second(part, Word::Sqlcode).or(second(part, Word::Sqlstate))
+    find_second(part, Word::Sqlcode).or(find_second(part, Word::Sqlstate))
 }
 
-fn second(part: &[Token], word: Word) -> Option<usize> {
+fn find_second(part: &[Token], word: Word) -> Option<usize> {
     (0..part.len())
         .filter(|index| is_word(part, *index, word))
         .nth(1)
@@ -179,7 +179,7 @@ fn second(part: &[Token], word: Word) -> Option<usize> {
 
 /// A parameter that is declared before, or of a bad type, or the 65th.
 fn bad_parameter(text: &[u8], part: &[Token]) -> Option<usize> {
-    twice(part).or(ill_typed(text, part)).or(
+    find_repeated(part).or(find_ill_typed(text, part)).or(
         (0..part.len())
             .filter(|index| is_declared(part, *index))
             .nth(64),
@@ -187,19 +187,19 @@ fn bad_parameter(text: &[u8], part: &[Token]) -> Option<usize> {
 }
 
 /// A parameter that is declared before.
-fn twice(part: &[Token]) -> Option<usize> {
+fn find_repeated(part: &[Token]) -> Option<usize> {
     (0..part.len()).find(|index| is_declared(part, *index) && is_earlier(part, *index))
 }
 
 /// A parameter of a bad type.
-fn ill_typed(text: &[u8], part: &[Token]) -> Option<usize> {
+fn find_ill_typed(text: &[u8], part: &[Token]) -> Option<usize> {
     (0..part.len()).find(|index| is_declared(part, *index)
         && has_bad_type(text, definition_at(part, *index)))
 }
 
 /// Whether a parameter is declared at the token of a number.
 fn is_declared(part: &[Token], index: usize) -> bool {
-    is_parameter(part, index) && is_type(part, behind(index))
+    is_parameter(part, index) && is_type(part, index_after(index))
 }
 
 /// Whether a parameter is declared before, too.

@@ -3,7 +3,7 @@
 use crate::element::element_of;
 use crate::kind::TextKind;
 use crate::names::{NameKind, add_declared};
-use crate::near::nearest;
+use crate::near::find_nearest;
 use crate::source::Source;
 use crate::table::{Table, add_tables};
 use sq_lex::{Name, Token};
@@ -53,15 +53,16 @@ impl<'t> Schemas<'t> {
 
     /// The table or view nearest to a name that none has.
     pub(crate) fn nearest_table(&self, name: Name) -> Option<Name> {
-        nearest(self.names.as_slice(), name)
+        find_nearest(self.names.as_slice(), name)
     }
 
     /// The column nearest to a name that none has.
     pub(crate) fn nearest_column(&self, name: Name) -> Option<Name> {
-        nearest(self.columns.as_slice(), name)
+        find_nearest(self.columns.as_slice(), name)
     }
 
-    /// Adds that a table is declared, and where, as it is said in a file; also that its declaration has an error, if it has.
+    /// Adds the place at which a table is declared, as it is said in a file. If its declaration has an error,
+    /// it adds that, too.
     pub(crate) fn add_declared(
         &self,
         words: &mut Vec<u8>,

@@ -1,4 +1,4 @@
-//! What a module may not mean as it is written: a parameter that no statement uses, a cursor that is never fetched, and a target
+//! Doubts about a module: a parameter that no statement uses, a cursor that is never fetched, and a target
 //! without an indicator for a column that may be null.
 
 use crate::advice::Advice;
@@ -6,7 +6,9 @@ use crate::element::{begins_at, element_of};
 use crate::item::Part;
 use crate::kind::TextKind;
 use crate::meaning::{Module, place_of};
-use crate::names::{before, behind, is_name, is_parameter, is_symbol, is_type, is_word, name_at};
+use crate::names::{
+    index_after, index_before, is_name, is_parameter, is_symbol, is_type, is_word, name_at,
+};
 use crate::nullable::{lacks_indicator, targets_of};
 use crate::text::Text;
 use indexmap::IndexSet;
@@ -20,7 +22,7 @@ pub enum Doubt {
     UnusedParameter,
     /// No procedure fetches from the cursor.
     NeverFetched,
-    /// What comes into the target may be null, and no indicator is given.
+    /// A null may come into the target, and no indicator is given.
     NoIndicator,
 }
 
@@ -43,7 +45,7 @@ pub fn slips_of(alloc: Global, module: &Module<'_, '_>) -> Result<Vec<Slip>, All
     let Some(owner) = name_at(tokens, 1) else {
         return Ok(slips);
     };
-    let fetched = fetched_in(alloc, tokens)?;
+    let fetched = list_fetched(alloc, tokens)?;
     for index in 0..tokens.len() {
         if is_part(module, index) {
             add_slips(alloc, module, owner, index, &fetched, &mut slips)?;
@@ -65,10 +67,10 @@ fn is_part(module: &Module<'_, '_>, index: usize) -> bool {
 }
 
 /// The cursors that some procedure fetches from.
-fn fetched_in(alloc: Global, tokens: &[Token]) -> Result<IndexSet<Name>, AllocError> {
+fn list_fetched(alloc: Global, tokens: &[Token]) -> Result<IndexSet<Name>, AllocError> {
     let mut fetched = IndexSet::new(alloc);
     for index in 0..tokens.len() {
-        if let Some(name) = fetched_at(tokens, index) {
+        if let Some(name) = fetched_cursor_at(tokens, index) {
             fetched.insert(name)?;
         }
     }
@@ -76,10 +78,10 @@ fn fetched_in(alloc: Global, tokens: &[Token]) -> Result<IndexSet<Name>, AllocEr
 }
 
 /// The cursor whose name in a FETCH is the token of this number.
-fn fetched_at(tokens: &[Token], index: usize) -> Option<Name> {
-    let is_behind = is_word(tokens, before(index), Word::From)
-        || is_word(tokens, before(index), Word::Fetch);
-    if is_behind && is_word(tokens, behind(index), Word::Into) {
+fn fetched_cursor_at(tokens: &[Token], index: usize) -> Option<Name> {
+    let is_behind = is_word(tokens, index_before(index), Word::From)
+        || is_word(tokens, index_before(index), Word::Fetch);
+    if is_behind && is_word(tokens, index_after(index), Word::Into) {
         name_at(tokens, index)
     } else {
         None
@@ -118,7 +120,7 @@ fn add_unused(
     part: &[Token],
     slips: &mut Vec<Slip>,
 ) -> Result<(), AllocError> {
-    let opened = opened_by(module, part);
+    let opened = find_opened(module, part);
     for index in 0..part.len() {
         add_if_unused(alloc, module, named, part, opened, index, slips)?;
     }
@@ -170,7 +172,7 @@ fn is_unused(part: &[Token], opened: &[Token], index: usize) -> bool {
 
 /// Whether a parameter is declared at the token of this number.
 fn is_declared(part: &[Token], index: usize) -> bool {
-    is_parameter(part, index) && is_type(part, behind(index))
+    is_parameter(part, index) && is_type(part, index_after(index))
 }
 
 /// Whether these tokens have a parameter of this name that they do not declare there.
@@ -178,20 +180,20 @@ fn uses(tokens: &[Token], name: Name) -> bool {
     (0..tokens.len()).any(|index| {
         is_name(tokens, index, name)
             && is_parameter(tokens, index)
-            && !is_type(tokens, behind(index))
+            && !is_type(tokens, index_after(index))
     })
 }
 
-/// The declaration of the cursor that a procedure opens; no tokens where it opens none.
-fn opened_by<'m>(module: &'m Module<'_, '_>, part: &[Token]) -> &'m [Token] {
+/// Finds the declaration of the cursor that a procedure opens; no tokens if it opens none.
+fn find_opened<'m>(module: &'m Module<'_, '_>, part: &[Token]) -> &'m [Token] {
     let open = (0..part.len()).find(|index| is_word(part, *index, Word::Open));
-    match name_at(part, behind(open.unwrap_or(part.len()))) {
+    match name_at(part, index_after(open.unwrap_or(part.len()))) {
         Some(cursor) => module.declaration_of(cursor),
         None => &[],
     }
 }
 
-/// What may be wrong at a name of a part.
+/// Makes the warning at a name of a part.
 fn slip_at(
     alloc: Global,
     module: &Module<'_, '_>,
@@ -218,7 +220,8 @@ fn slip_at(
     })
 }
 
-/// What to look at: the name without a colon in the procedure, or in the cursor that it opens; or how to fetch.
+/// Makes the hint on a doubt: the name without a colon in the procedure, or in the cursor that it opens; or
+/// how to fetch.
 fn hint_on(
     alloc: Global,
     module: &Module<'_, '_>,
@@ -240,14 +243,14 @@ fn hint_on(
             return Ok(words);
         }
     }
-    let opened = opened_by(module, part);
-    if let Some(token) = bare_in(part, name).or(bare_in(opened, name)) {
+    let opened = find_opened(module, part);
+    if let Some(token) = find_bare(part, name).or(find_bare(opened, name)) {
         add_bare(&mut words, alloc, &module.source.text, token, name)?;
     }
     Ok(words)
 }
 
-/// Adds that a name stands without a colon.
+/// Adds that a name without a colon is a column.
 fn add_bare(
     words: &mut Vec<u8>,
     alloc: Global,
@@ -265,8 +268,8 @@ fn add_bare(
     words.extend_from_slice(name.codes())
 }
 
-/// The first token that is a name without a colon, behind the name of the part.
-fn bare_in(tokens: &[Token], name: Name) -> Option<&Token> {
+/// Finds the first token that is a name without a colon, after the name of the part.
+fn find_bare(tokens: &[Token], name: Name) -> Option<&Token> {
     let found = (0..tokens.len()).find(|index| is_bare(tokens, *index, name));
     tokens.get(found?)
 }
@@ -274,17 +277,18 @@ fn bare_in(tokens: &[Token], name: Name) -> Option<&Token> {
 fn is_bare(tokens: &[Token], index: usize, name: Name) -> bool {
     index > 1
         && is_name(tokens, index, name)
-        && !is_symbol(tokens, before(index), Symbol::Colon)
-        && !is_symbol(tokens, before(index), Symbol::Dot)
+        && !is_symbol(tokens, index_before(index), Symbol::Colon)
+        && !is_symbol(tokens, index_before(index), Symbol::Dot)
         && !is_set(tokens, index)
 }
 
 /// Whether a column is set at the token of this number, which a parameter cannot be.
 fn is_set(tokens: &[Token], index: usize) -> bool {
-    is_symbol(tokens, behind(index), Symbol::Equal) && !is_compared(tokens, index)
+    is_symbol(tokens, index_after(index), Symbol::Equal) && !is_compared(tokens, index)
 }
 
-/// Whether a comparison may begin at the token of this number: it is not behind SET or a comma.
+/// Whether a comparison may begin at the token of this number: it is not after SET or a comma.
 fn is_compared(tokens: &[Token], index: usize) -> bool {
-    !is_word(tokens, before(index), Word::Set) && !is_symbol(tokens, before(index), Symbol::Comma)
+    !is_word(tokens, index_before(index), Word::Set)
+        && !is_symbol(tokens, index_before(index), Symbol::Comma)
 }

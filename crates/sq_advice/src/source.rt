@@ -6,7 +6,7 @@ use crate::text::Text;
 use sq_lex::Token;
 use std::alloc::{AllocError, Global};
 
-/// A text and its tokens, and what is left of it where elements with an error are passed over.
+/// A text and its tokens, and the rest of it after elements with an error are passed over.
 #[derive(Drop)]
 pub struct Source<'t> {
     pub file: &'t str,
@@ -41,12 +41,12 @@ impl<'t> Source<'t> {
         }
     }
 
-    /// Whether the element in which a byte stands is passed over.
+    /// Whether the element that holds a byte is passed over.
     pub(crate) fn is_passed(&self, byte: usize) -> bool {
         self.text.bytes.get(byte) != self.left.get(byte)
     }
 
-    /// Adds where a token stands in this text, as it is said in this or another file.
+    /// Adds the place of a token in this text, as it is said in this or another file.
     pub(crate) fn add_place(
         &self,
         words: &mut Vec<u8>,
@@ -65,7 +65,7 @@ impl<'t> Source<'t> {
     }
 }
 
-/// The tokens of a text, where each piece that is none counts as blanks.
+/// Reads the tokens of a text, in which each piece that is none counts as blanks.
 fn read_all(
     alloc: Global,
     text: &[u8],

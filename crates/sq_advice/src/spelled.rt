@@ -3,13 +3,13 @@
 use sq_lex::{Lexeme, Symbol, Token};
 
 /// The bytes of a token.
-pub(crate) fn spelled<'t>(text: &'t [u8], token: &Token) -> &'t [u8] {
-    let rest = behind(text, token.start);
+pub(crate) fn spelling_of<'t>(text: &'t [u8], token: &Token) -> &'t [u8] {
+    let rest = bytes_from(text, token.start);
     &rest[..length_of(rest, &token.lexeme).min(rest.len())]
 }
 
-/// What stands from a byte on; past the text's end that is nothing.
-pub(crate) fn behind(text: &[u8], start: usize) -> &[u8] {
+/// Gives the bytes from one on; past the text's end there are none.
+pub(crate) fn bytes_from(text: &[u8], start: usize) -> &[u8] {
     if start <= text.len() {
         &text[start..]
     } else {
@@ -33,6 +33,7 @@ pub(crate) fn length_of_word(text: &[u8]) -> usize {
     text.iter().take_while(|byte| is_of_word(**byte)).count()
 }
 
+/// Whether a byte may be in a word: a letter, a digit or an underscore.
 pub(crate) fn is_of_word(byte: u8) -> bool {
     byte.is_ascii_alphanumeric() || byte == b'_'
 }
@@ -56,7 +57,7 @@ pub(crate) fn length_of_literal(text: &[u8]) -> usize {
 
 /// Whether a token is of a pattern: a spelling, or `a name`, `a number` or `a text`.
 pub(crate) fn is_of(pattern: &str, text: &[u8], token: &Token) -> bool {
-    spelled(text, token).eq_ignore_ascii_case(pattern.as_bytes())
+    spelling_of(text, token).eq_ignore_ascii_case(pattern.as_bytes())
         || pattern == class_of(&token.lexeme)
 }
 

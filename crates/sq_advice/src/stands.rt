@@ -1,12 +1,12 @@
-//! What stands where a text is refused for its grammar.
+//! Words on the token at which a text is refused for its grammar.
 
 use crate::hint::{Hint, Spot};
-use crate::spelled::spelled;
+use crate::spelled::spelling_of;
 use sq_lex::{Lexeme, Token};
 use std::alloc::{AllocError, Global};
 
-/// What stands at a spot, in words; empty where its line says all.
-pub(crate) fn found_at(
+/// Describes the token at a spot; empty if its line says all.
+pub(crate) fn describe_spot(
     alloc: Global,
     spot: &Spot<'_>,
     hint: Option<&Hint>,
@@ -19,7 +19,8 @@ pub(crate) fn found_at(
     Ok(words)
 }
 
-/// Adds that a feature is not there; or, where nothing else is said, that a word is reserved where a name may stand.
+/// Adds the feature that a hint says is missing. Without a hint, it adds that a word is reserved, if a name
+/// may be there.
 fn add_found(
     words: &mut Vec<u8>,
     spot: &Spot<'_>,
@@ -32,12 +33,12 @@ fn add_found(
     }
 }
 
-/// Adds that a word is reserved, where a name may stand.
+/// Adds that a word is reserved, if a name may be there.
 fn add_reserved(words: &mut Vec<u8>, spot: &Spot<'_>, token: &Token) -> Result<(), AllocError> {
     if !is_word(token) || !spot.takes_names() {
         return Ok(());
     }
-    add_upper(words, spelled(spot.text, token))?;
+    add_upper(words, spelling_of(spot.text, token))?;
     words.extend_from_slice(b" is a reserved word")
 }
 

@@ -1,6 +1,6 @@
 //! The tables and views that schemas declare.
 
-use crate::names::{before, behind, is_name, is_symbol, is_type, is_word, name_at};
+use crate::names::{index_after, index_before, is_name, is_symbol, is_type, is_word, name_at};
 use sq_lex::{Lexeme, Name, Symbol, Token, Word};
 use std::alloc::AllocError;
 
@@ -20,18 +20,18 @@ pub(crate) struct Table {
 pub(crate) struct TableName {
     pub(crate) owner: Option<Name>,
     pub(crate) name: Name,
-    /// The number of the token behind it.
+    /// The number of the token after it.
     pub(crate) end: usize,
 }
 
 /// The name of a table that begins at the token of a number.
 pub(crate) fn table_name_at(tokens: &[Token], index: usize) -> Option<TableName> {
     let first = name_at(tokens, index)?;
-    if !is_symbol(tokens, behind(index), Symbol::Dot) {
+    if !is_symbol(tokens, index_after(index), Symbol::Dot) {
         return Some(TableName {
             owner: None,
             name: first,
-            end: behind(index),
+            end: index_after(index),
         });
     }
     let name = name_at(tokens, index.saturating_add(2))?;
@@ -80,7 +80,7 @@ fn note_user(user: &mut Option<Name>, tokens: &[Token], index: usize) {
 /// The user whose schema or module begins at the token of a number.
 fn user_at(tokens: &[Token], index: usize) -> Option<Name> {
     if is_word(tokens, index, Word::Authorization) {
-        name_at(tokens, behind(index))
+        name_at(tokens, index_after(index))
     } else {
         None
     }
@@ -95,8 +95,8 @@ pub(crate) fn user_before(tokens: &[Token], index: usize) -> Option<Name> {
 
 /// The table or view whose declaration begins at the token of a number.
 fn table_at(tokens: &[Token], index: usize, user: Option<Name>, text: usize) -> Option<Table> {
-    let is_new = is_word(tokens, behind(index), Word::Table)
-        || is_word(tokens, behind(index), Word::View);
+    let is_new = is_word(tokens, index_after(index), Word::Table)
+        || is_word(tokens, index_after(index), Word::View);
     if !is_new || !is_word(tokens, index, Word::Create) {
         return None;
     }
@@ -111,7 +111,7 @@ fn table_at(tokens: &[Token], index: usize, user: Option<Name>, text: usize) -> 
 
 /// The name of the column of a table that is declared at the token of a number.
 pub(crate) fn column_at(tokens: &[Token], index: usize) -> Option<Name> {
-    if is_type(tokens, behind(index)) {
+    if is_type(tokens, index_after(index)) {
         name_at(tokens, index)
     } else {
         None
@@ -120,10 +120,12 @@ pub(crate) fn column_at(tokens: &[Token], index: usize) -> Option<Name> {
 
 /// The number of the token at which a table declares a column.
 pub(crate) fn column_named(table: &[Token], name: Name) -> Option<usize> {
-    (0..table.len()).find(|index| is_name(table, *index, name) && is_type(table, behind(*index)))
+    (0..table.len()).find(|index| is_name(table, *index, name)
+        && is_type(table, index_after(*index)))
 }
 
-/// Whether a table or a view may have a column of this name: a view, where its text has the name, or selects all columns.
+/// Whether a table or a view may have a column of this name: a view if its text has the name, or selects all
+/// columns.
 pub(crate) fn may_have(table: &[Token], name: Name) -> bool {
     if is_word(table, 1, Word::Table) {
         return column_named(table, name).is_some();
@@ -132,7 +134,8 @@ pub(crate) fn may_have(table: &[Token], name: Name) -> bool {
         || is_symbol(table, index, Symbol::Star))
 }
 
-/// The tokens from one on that belong to a column's definition: up to the comma or the bracket behind it.
+/// Gives the tokens from one on that belong to a column's definition: up to the comma or the bracket after
+/// it.
 pub(crate) fn definition_at(table: &[Token], index: usize) -> &[Token] {
     let rest = &table[index.min(table.len())..];
     let mut open: usize = 0;
@@ -160,11 +163,11 @@ fn depth_behind(open: usize, token: &Token) -> usize {
 /// Whether a column's definition says NOT NULL.
 pub(crate) fn is_not_null(definition: &[Token]) -> bool {
     (0..definition.len()).any(|index| is_word(definition, index, Word::Not)
-        && is_word(definition, behind(index), Word::Null)
-        && !is_word(definition, before(index), Word::Is))
+        && is_word(definition, index_after(index), Word::Null)
+        && !is_word(definition, index_before(index), Word::Is))
 }
 
-/// The number of the bracket that opens the list of names in which the token of a number stands.
+/// Finds the bracket that opens the list of names that holds the token of a number.
 pub(crate) fn list_of(tokens: &[Token], index: usize) -> Option<usize> {
     let count = tokens
         .iter()
@@ -172,7 +175,7 @@ pub(crate) fn list_of(tokens: &[Token], index: usize) -> Option<usize> {
         .rev()
         .take_while(|token| is_of_list(token))
         .count();
-    let open = before(index.saturating_sub(count));
+    let open = index_before(index.saturating_sub(count));
     if is_symbol(tokens, open, Symbol::Open) {
         Some(open)
     } else {

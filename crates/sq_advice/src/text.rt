@@ -1,4 +1,4 @@
-//! Texts, and where their lines begin.
+//! Texts, and the places at which their lines begin.
 
 use sq_lex::Position;
 use std::alloc::{AllocError, Global};
@@ -11,7 +11,7 @@ pub struct Text<'t> {
 }
 
 impl<'t> Text<'t> {
-    /// A text, read once for where its lines begin.
+    /// Reads a text once, to find where its lines begin.
     pub fn new(alloc: Global, bytes: &'t [u8]) -> Result<Text<'t>, AllocError> {
         let mut starts = Vec::new(alloc);
         starts.push(0)?;
@@ -23,7 +23,7 @@ impl<'t> Text<'t> {
         Ok(Text { bytes, starts })
     }
 
-    /// The line and column of a byte, both from 1; past the text's end those of its end.
+    /// Gives the line and column of a byte, both from 1; past the text's end, of its end.
     pub fn place(&self, byte: usize) -> Position {
         let byte = byte.min(self.bytes.len());
         let line = self

@@ -1,7 +1,7 @@
 //! Types and defaults of columns.
 
-use crate::names::{behind, is_symbol, is_word};
-use crate::spelled::{length_of_literal, spelled};
+use crate::names::{index_after, is_symbol, is_word};
+use crate::spelled::{length_of_literal, spelling_of};
 use sq_lex::{Lexeme, Symbol, Token, Word};
 
 /// Whether the type in a column's definition has a number that is out of range, or written with a point.
@@ -9,7 +9,7 @@ pub(crate) fn has_bad_type(text: &[u8], definition: &[Token]) -> bool {
     let Some(open) = length_open(definition) else {
         return false;
     };
-    let first = number_at(text, definition, behind(open));
+    let first = number_at(text, definition, index_after(open));
     let second = if is_symbol(definition, open.saturating_add(2), Symbol::Comma) {
         number_at(text, definition, open.saturating_add(3))
     } else {
@@ -24,7 +24,7 @@ pub(crate) fn has_bad_type(text: &[u8], definition: &[Token]) -> bool {
     }
 }
 
-/// The number of the bracket behind a type.
+/// Finds the bracket after a type.
 fn length_open(definition: &[Token]) -> Option<usize> {
     let open = (1..definition.len().min(4)).find(|index| is_symbol(
         definition,
@@ -47,7 +47,7 @@ fn is_text(definition: &[Token]) -> bool {
 /// The number at a token, if it is a whole one without a point.
 fn number_at(text: &[u8], tokens: &[Token], index: usize) -> Option<usize> {
     let mut value: usize = 0;
-    for byte in spelled(text, tokens.get(index)?) {
+    for byte in spelling_of(text, tokens.get(index)?) {
         if !byte.is_ascii_digit() {
             return None;
         }
@@ -64,23 +64,23 @@ pub(crate) fn has_bad_default(text: &[u8], definition: &[Token]) -> bool {
     else {
         return false;
     };
-    let Some(token) = definition.get(behind(at)) else {
+    let Some(token) = definition.get(index_after(at)) else {
         return false;
     };
     match &token.lexeme {
         Lexeme::Word(Word::User) => !is_text(definition) || length_of(text, definition) < 18,
         Lexeme::Word(_) => false,
         Lexeme::Text(_) => {
-            !is_text(definition) || length_of(text, definition) < letters(spelled(text, token))
+            !is_text(definition) || length_of(text, definition) < letters(spelling_of(text, token))
         }
-        _ => is_text(definition) || is_large(text, definition, behind(at)),
+        _ => is_text(definition) || is_large(text, definition, index_after(at)),
     }
 }
 
 /// How many characters the text of a type has at most.
 fn length_of(text: &[u8], definition: &[Token]) -> usize {
     match length_open(definition) {
-        Some(open) => number_at(text, definition, behind(open)).unwrap_or(0),
+        Some(open) => number_at(text, definition, index_after(open)).unwrap_or(0),
         None => 1,
     }
 }
@@ -98,14 +98,14 @@ fn is_large(text: &[u8], definition: &[Token], at: usize) -> bool {
     let number = if is_symbol(definition, at, Symbol::Minus)
         || is_symbol(definition, at, Symbol::Plus)
     {
-        behind(at)
+        index_after(at)
     } else {
         at
     };
     let Some(token) = definition.get(number) else {
         return false;
     };
-    let digits = spelled(text, token)
+    let digits = spelling_of(text, token)
         .iter()
         .skip_while(|byte| **byte == b'0')
         .take_while(|byte| byte.is_ascii_digit())
@@ -125,7 +125,7 @@ fn digits_of(text: &[u8], definition: &[Token]) -> usize {
             18
         };
     };
-    let precision = number_at(text, definition, behind(open)).unwrap_or(18);
+    let precision = number_at(text, definition, index_after(open)).unwrap_or(18);
     let scale = if is_symbol(definition, open.saturating_add(2), Symbol::Comma) {
         number_at(text, definition, open.saturating_add(3)).unwrap_or(0)
     } else {

@@ -6,7 +6,7 @@ use Rattle.sq_bindings.specs.Binding.{filling_of}
 use Rattle.sq_bindings.specs.Template.{Text, filled}
 use Rattle.sq_bindings.specs.declared.language.Naming.{Naming}
 
--- what the first template of C makes of the mark that its guard has
+-- the mark that the guard of a module has in the first template of C
 abbrev pub guard : Naming → ModuleText → Text
 guard n t = filled (filling_of n t) (codes "SQMOD_BOUND_~")
 

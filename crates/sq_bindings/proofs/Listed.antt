@@ -1,4 +1,4 @@
--- Words behind references are the words.
+-- A test of borrowed words is a test of the words.
 use Rattle.std.proofs.Common.{◌≡◌, Bool, ◌||◌, List, [], ◌∷◌, ap, refl}
 use Rattle.std.specs.Borrow.{Bor}
 use Rattle.std.specs.List.{list_any}

@@ -13,7 +13,7 @@ use Rattle.sq_bindings.specs.declared.names.TheConstants.{C_ESCAPE, COBOL_ESCAPE
 use Rattle.sq_bindings.specs.declared.c_words.TheConstants.{FROM_ALIGNAS, FROM_ERRNO, FROM_NOEXCEPT, FROM_THIS}
 use Rattle.sq_bindings.specs.declared.cobol_words.TheConstants as cobol
 
--- a text ends with what stands at its end
+-- a text with an escape after it ends with the escape
 ends_so : (text escape : Text) → ends_with nat_eq (text ++ escape) escape ≡ true
 ends_so text escape =
     let long : length (text ++ escape) - length escape ≡ length text = rw length-append (omega arith) in
@@ -24,7 +24,7 @@ ends_so text escape =
 abbrev none_ends : Text → List Text → Bool
 none_ends escape words = list_all (λ word. not (ends_with nat_eq word escape)) words
 
--- where no word ends so, none is a text that does
+-- if no word ends so, none is a text that does
 none_is : (words : List Text) (text escape : Text) → none_ends escape words ≡ true → is_among words (text ++ escape) ≡ false
 none_is [] text escape none = refl
 none_is (w ∷ ws) text escape none =
@@ -49,7 +49,7 @@ left_false : (a b : Bool) → (a || b) ≡ false → a ≡ false
 left_false true b e = absurd (true≢false e)
 left_false false b e = refl
 
--- the words of C and C++, and those of COBOL
+-- the words of C and C++, and the words of COBOL
 abbrev pub c_words : List Text
 c_words = map (λ word. word.now) (FROM_ALIGNAS ++ FROM_ERRNO ++ FROM_NOEXCEPT ++ FROM_THIS)
 
@@ -65,7 +65,7 @@ no_word_ends_so = refl
 no_cobol_word_ends_so : none_ends COBOL_ESCAPE.now cobol_words ≡ true
 no_cobol_word_ends_so = refl
 
--- What a parameter is called in C is in no use there.
+-- The name of a parameter in C is in no use there.
 pub c_parameter-free : (name : Name) → is_among c_words (c_parameter c_words name) ≡ false
 c_parameter-free name =
     let text : Text = lower name in
@@ -78,7 +78,7 @@ c_function-free owner procedure =
     let text : Text = lower owner ++ 95 ∷ lower procedure in
     escaped_is_free c_words text C_ESCAPE.now (is_used_in_c c_words text) no_word_ends_so (λ e. left_false _ _ e)
 
--- What a name is called in COBOL is no reserved word.
+-- A name in COBOL is no reserved word.
 pub cobol_name-free : (name : Name) → is_among cobol_words (cobol_name cobol_words name) ≡ false
 cobol_name-free name =
     let text : Text = map cobol_code name in

@@ -73,7 +73,7 @@ item_text h m parts «module» (item.Procedure procedure) = procedure_text h m p
 abbrev pub items_text : Naming → Filling → List Part → ModuleText → Text
 items_text h m parts t = flat_map (item_text h m parts t.name) t.items
 
--- what a pass makes of a module: its start, and what it makes of the procedures in their order
+-- a pass makes of a module its start, and the texts of the procedures in their order
 abbrev pub pass_text : Naming → Filling → ModuleText → Pass → Text
 pass_text h m t p = filled m p.start.now ++ items_text h m p.parts.now t
 

@@ -1,4 +1,4 @@
--- What names are called in a host's language.
+-- Names in a host's language.
 use Rattle.sq_lex.specs.declared.name.Name.{Name}
 use Rattle.sq_bindings.specs.Names.{c_function, c_parameter, cobol_name, listed}
 use Rattle.sq_bindings.specs.Template.{Text}

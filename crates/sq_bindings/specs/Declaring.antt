@@ -1,4 +1,4 @@
--- What is declared.
+-- Kinds of declarations.
 use Rattle.std.specs.Prelude.{Bool, true, false}
 use Rattle.sq_tree.specs.declared.module.Declaration.{Declaration}
 use Rattle.sq_tree.specs.declared.module.Declaration.TheVariants.{Parameter, Sqlcode, Sqlstate}

@@ -21,7 +21,7 @@ found_with s other = s.found
 abbrev pub searched : Search → Lexeme → Search
 searched s token = record s { after_colon = is_colon token; found = found_with s token }
 
--- Tokens have this name behind a colon.
+-- Tokens have this name after a colon.
 abbrev pub mentions : Name → Tokens → Bool
 mentions name tokens =
     (fold searched (record { name = name; after_colon = false; found = false }) tokens).found

@@ -1,4 +1,4 @@
--- What modules, procedures and parameters are called in C and in COBOL.
+-- The names of modules, procedures and parameters in C and in COBOL.
 use Rattle.std.specs.Prelude.{ℕ, Bool, ◌||◌, List, [], ◌∷◌, ◌++◌, map, ◌==◌, nat_eq, if◌then◌else◌}
 use Rattle.std.specs.List.{list_any, starts_with, ends_with}
 use Rattle.std.specs.Char.{to_ascii_lowercase}
@@ -38,13 +38,15 @@ escaped name is_used escape = name ++ (if is_used then escape else [])
 abbrev pub lower : Text → Text
 lower codes = map to_ascii_lowercase codes
 
--- A parameter in C is its name in lower case, with `_` behind one that is in use or ends as a part of one does.
+-- A parameter in C is its name in lower case. One that is in use, or ends as a part of one does, has `_`
+-- after it.
 abbrev pub c_parameter : List Text → Name → Text
 c_parameter words name =
     let text = lower name in
     escaped text (is_used_in_c words text || ends_with_any c_ends text) C_ESCAPE.now
 
--- A procedure in C is a function: the module's name, `_` and its own, in lower case, with `_` behind one that is in use.
+-- A procedure in C is a function: the module's name, `_` and its own, in lower case, with `_` after one that
+-- is in use.
 abbrev pub c_function : List Text → Name → Name → Text
 c_function words owner procedure =
     let text = lower owner ++ 95 ∷ lower procedure in
@@ -53,7 +55,7 @@ c_function words owner procedure =
 abbrev pub cobol_code : ℕ → ℕ
 cobol_code code = if code == 95 then 45 else code
 
--- A name in COBOL has `-` in the place of `_`, with `-SQL` behind one that is in use.
+-- A name in COBOL has `-` in the place of `_`, with `-SQL` after one that is in use.
 abbrev pub cobol_name : List Text → Name → Text
 cobol_name words name =
     let text = map cobol_code name in

@@ -68,7 +68,8 @@ role_of true true = Both
 
 -- how a statement uses the parameter of this name
 abbrev pub role_in : Statement → Name → Role
-role_in (statement.Fetch f) name = role_of (is_target name f.targets) (mentions name (optional fetch_from_tokens f.from))
+role_in (statement.Fetch f) name = role_of (is_target name f.targets)
+    (mentions name (optional fetch_from_tokens f.from))
 role_in (statement.Select s) name = role_of (is_target name s.targets)
     (mentions name (select_list_tokens s.list) || mentions name (table_expression_tokens s.table))
 role_in other name = Reads

@@ -1,4 +1,4 @@
--- Templates, and what stands for their marks.
+-- Templates, and the texts of their marks.
 use Rattle.std.specs.Prelude.{ℕ, List, [], ◌∷◌, Option, Some, None, ◌==◌, if◌then◌else◌}
 use Rattle.std.specs.List.{flat_map}
 use Rattle.std.specs.Option.{option_map_or}
@@ -7,7 +7,7 @@ use Rattle.sq_bindings.specs.declared.template.Marks.{Marks}
 abbrev pub Text : Type 0
 Text = List ℕ
 
--- What stands for the marks of a template.
+-- The texts in place of the marks of a template.
 pub record Filling : Type 0 where
   pub owner : Text
   pub procedure : Text
@@ -32,7 +32,7 @@ filling m = record {
   scale = m.scale.now;
 }
 
--- what stands for a byte, if it is one of ~ % ^ ! @ $ ? ` |
+-- the text in place of a byte, if it is one of ~ % ^ ! @ $ ? ` |
 abbrev pub marked : Filling → ℕ → Option Text
 marked m byte =
     if byte == 126 then Some m.owner else
@@ -45,7 +45,7 @@ marked m byte =
     (if byte == 96 then Some m.size else
     (if byte == 124 then Some m.scale else None))))))))
 
--- what a byte of a template becomes: itself, if it is no mark
+-- a byte of a template becomes the text of its mark, or itself if it is none
 abbrev pub put : Filling → ℕ → Text
 put m byte = option_map_or (λ text. text) (marked m byte) (byte ∷ [])
 

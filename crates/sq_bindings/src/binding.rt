@@ -100,7 +100,8 @@ fn add_items(
     tree: &ModuleText,
 ) -> Result<(), AllocError>
     ensures { OnOk result
-        (text.new.items ≡ text.old.items ++ spec.items_text naming.now (filling marks.now) parts.now tree.now) }
+        (text.new.items ≡ text.old.items
+        ++ spec.items_text naming.now (filling marks.now) parts.now tree.now) }
 {
     for item in tree.items.as_slice() {
         add_item(alloc, text, naming, parts, marks, tree.name, item)?;
@@ -119,7 +120,8 @@ fn add_item(
     item: &ModuleItem,
 ) -> Result<(), AllocError>
     ensures { OnOk result
-        (text.new.items ≡ text.old.items ++ spec.item_text naming.now (filling marks.now) parts.now owner item.now) }
+        (text.new.items ≡ text.old.items
+        ++ spec.item_text naming.now (filling marks.now) parts.now owner item.now) }
 {
     match item {
         ModuleItem::Cursor(_) => Ok(()),
@@ -140,10 +142,11 @@ fn add_procedure(
     procedure: &Procedure,
 ) -> Result<(), AllocError>
     ensures { OnOk result
-        (text.new.items ≡ text.old.items ++ spec.procedure_text naming.now (filling marks.now) parts.now owner procedure.now) }
+        (text.new.items ≡ text.old.items
+        ++ spec.procedure_text naming.now (filling marks.now) parts.now owner procedure.now) }
 {
     let name = procedure_in(alloc, naming, owner, procedure.name)?;
-    let declarations = declared(alloc, &procedure.declarations)?;
+    let declarations = list_declarations(alloc, &procedure.declarations)?;
     let own = Marks {
         procedure: procedure.name.codes(),
         procedure_name: name.as_slice(),
@@ -172,7 +175,8 @@ fn add_parts(
 ) -> Result<(), AllocError>
     ensures { OnOk result
         (text.new.items ≡ text.old.items
-        ++ flat_map (spec.part_text naming.now (filling marks.now) statement.now declarations.now) parts.now) }
+        ++ flat_map (spec.part_text naming.now (filling marks.now) statement.now declarations.now)
+        parts.now) }
 {
     for part in parts {
         add_part(alloc, text, naming, part, marks, statement, declarations)?;
@@ -181,7 +185,10 @@ fn add_parts(
 }
 
 /// The declarations of a procedure, in their order.
-fn declared(alloc: Global, declarations: &Declarations) -> Result<Vec<Declaration>, AllocError>
+fn list_declarations(
+    alloc: Global,
+    declarations: &Declarations,
+) -> Result<Vec<Declaration>, AllocError>
     ensures { IfOk result (λ list. list.items ≡ spec.declared_in declarations.now) }
 {
     match declarations {
@@ -191,12 +198,12 @@ fn declared(alloc: Global, declarations: &Declarations) -> Result<Vec<Declaratio
             list.extend_from_slice(declarations.rest.as_slice())?;
             Ok(list)
         }
-        Declarations::Bare(first, rest) => bare_declared(alloc, *first, rest.as_slice()),
+        Declarations::Bare(first, rest) => list_bare(alloc, *first, rest.as_slice()),
     }
 }
 
 #[tactic(auto, using(std::proofs::lemmas::Grind::common_steps))]
-fn bare_declared(
+fn list_bare(
     alloc: Global,
     first: Declaration,
     rest: &[BareDeclaration],
@@ -249,7 +256,8 @@ fn add_declarations(
 ) -> Result<(), AllocError>
     ensures { OnOk result
         (text.new.items ≡ text.old.items
-        ++ flat_map (spec.declaration_text naming.now (filling marks.now) statement.now part.now) declarations.now) }
+        ++ flat_map (spec.declaration_text naming.now (filling marks.now) statement.now part.now)
+        declarations.now) }
 {
     for declaration in declarations {
         add_declaration(alloc, text, naming, part, marks, statement, declaration)?;
@@ -292,7 +300,8 @@ fn add_parameter(
     template: &str,
 ) -> Result<(), AllocError>
     ensures { OnOk result
-        (text.new.items ≡ text.old.items ++ spec.parameter_text naming.now (filling marks.now) name kind template.now) }
+        (text.new.items ≡ text.old.items
+        ++ spec.parameter_text naming.now (filling marks.now) name kind template.now) }
 {
     let host_name = name_in(alloc, naming, name)?;
     let picture = picture_of(alloc, kind)?;

@@ -3,7 +3,7 @@
 use crate::language::{NOTHING, Part, Pass, Uses};
 use std::alloc::{AllocError, Global};
 
-/// What stands once at the start of a header.
+/// The text at the start of a header, once.
 const START: &str = "/* Made by `sqmod bind-c`: one function for each procedure.
 
    A null that comes out leaves its target as it is; its indicator is -1. Of several answers the first that isn't
@@ -135,7 +135,7 @@ const DECLARED: Part<'static> = Part {
     ..NOTHING
 };
 
-/// Where the status goes.
+/// The place of the status.
 const STATUS: Part<'static> = Part {
     sqlstate: "    char *state = sqlstate;
 ",
@@ -253,7 +253,7 @@ const TEXT_SET: Uses<'static> = Uses {
     both: SET_TEXT,
 };
 
-/// What comes out.
+/// The values that come out.
 const SET: Part<'static> = Part {
     small: Uses {
         reads: "",
@@ -294,6 +294,7 @@ fn header() -> &'static [Part<'static>] {
     HEADER.as_slice()
 }
 
+/// Gives the start of a header.
 pub(crate) fn start_in_c() -> &'static str {
     START
 }

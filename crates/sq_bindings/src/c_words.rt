@@ -2,8 +2,9 @@
 
 use std::alloc::{AllocError, Global};
 
-/// The reserved words of C (C99, C11, C23, and what GNU adds) and of C++ (up to C++26), names of their headers that are macros or
-/// types, and the names that a function of the header has in use.
+/// Lists the reserved words of C (C99, C11, C23, and those that GNU adds) and of C++ (up to C++26). With them
+/// go names of their headers that are macros or types, and the names that a function of the header has in
+/// use.
 pub(crate) fn words_in_use_in_c(alloc: Global) -> Result<Vec<&'static [u8]>, AllocError> {
     let mut words = Vec::new(alloc);
     for part in [from_alignas(), from_errno(), from_noexcept(), from_this()] {

@@ -1,10 +1,11 @@
-//! The templates of a copybook for COBOL. Each line stands within columns 8 to 72, so that it is read in the fixed and in the free
-//! format. The copybook is copied twice: the first time it gives the storage, the second time the paragraphs.
+//! The templates of a copybook for COBOL. Each line is within columns 8 to 72, so that it is read in the
+//! fixed and in the free format. The copybook is copied twice: the first time it gives the storage, the
+//! second time the paragraphs.
 
 use crate::language::{NOTHING, Part, Pass, Uses};
 use std::alloc::{AllocError, Global};
 
-/// What stands before the storage of a module: the storage that all modules share, unless it is there.
+/// The text before the storage of a module: the storage that all modules share, unless it exists already.
 const STORAGE_START: &str = "      *> Made by sqmod bind-cobol. Copy it in WORKING-STORAGE,
       *> where it is the storage, and once more at the end of the
       *> PROCEDURE DIVISION, where it is a paragraph for each procedure.
@@ -119,7 +120,7 @@ const STORED: Part<'static> = Part {
     ..NOTHING
 };
 
-/// What stands before the paragraphs of a module: those that all modules share, unless they are there.
+/// The text before the paragraphs of a module: those that all modules share, unless they exist already.
 const PARAGRAPHS_START: &str = "       >>ELSE
        >>IF SQMOD-PARAGRAPHS IS NOT DEFINED
        >>DEFINE SQMOD-PARAGRAPHS AS 1
@@ -428,7 +429,7 @@ const EXACT_GOT: Uses<'static> = Uses {
     both: GOT_EXACT,
 };
 
-/// What comes out.
+/// The values that come out.
 const GOT: Part<'static> = Part {
     sqlstate: "           IF SQMOD-DONE
                MOVE SQMOD-STATE TO

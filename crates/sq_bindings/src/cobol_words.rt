@@ -2,7 +2,8 @@
 
 use std::alloc::{AllocError, Global};
 
-/// The reserved words of COBOL (1985 to 2023, and those of GnuCOBOL and of other compilers) that are reserved in any context.
+/// Lists the words of COBOL (1985 to 2023), of GnuCOBOL and of other compilers that are reserved in any
+/// context.
 pub(crate) fn words_in_use_in_cobol(alloc: Global) -> Result<Vec<&'static [u8]>, AllocError> {
     let mut words = Vec::new(alloc);
     for part in [

@@ -1,4 +1,4 @@
-//! What a host's language calls things, and its templates.
+//! The names of a host's language, and its templates.
 ghost use Rattle.std.specs.Prelude.{◌≡◌, IfOk};
 ghost use Rattle.std.specs.List.{list_any};
 ghost use Rattle.sq_bindings.specs.Declaring as declaring;
@@ -53,7 +53,7 @@ pub struct Part<'a> {
 impl<'a> Part<'a> {
     ghost use Rattle.sq_bindings.specs.Language as spec;
 
-    /// What stands where no SQLSTATE is declared.
+    /// The text for a procedure that declares no SQLSTATE.
     pub(crate) fn missing_sqlstate(&self, declarations: &[Declaration]) -> &'a str
         ensures { result.now ≡ spec.missing_sqlstate self.now declarations.now }
     {
@@ -64,7 +64,7 @@ impl<'a> Part<'a> {
         }
     }
 
-    /// What stands where no SQLCODE is declared.
+    /// The text for a procedure that declares no SQLCODE.
     pub(crate) fn missing_sqlcode(&self, declarations: &[Declaration]) -> &'a str
         ensures { result.now ≡ spec.missing_sqlcode self.now declarations.now }
     {
@@ -145,14 +145,14 @@ pub(crate) const NOTHING: Part<'static> = Part {
     end: "",
 };
 
-/// A pass over the procedures of a module: what stands before them, and the parts of each.
+/// A pass over the procedures of a module: the text before them, and the parts of each.
 #[derive(Clone, Copy)]
 pub struct Pass<'a> {
     pub(crate) start: &'a str,
     pub(crate) parts: &'a [Part<'a>],
 }
 
-/// The templates of a host's language: what stands at the start of a text, the passes over each module, and what ends each.
+/// The templates of a host's language: the start of a text, the passes over each module, and the end of each.
 #[derive(Clone, Copy)]
 pub struct Language<'a> {
     pub(crate) naming: Naming<'a>,
@@ -161,7 +161,7 @@ pub struct Language<'a> {
     pub(crate) end: &'a str,
 }
 
-/// What a name is called in a host's language.
+/// Makes the name in a host's language.
 pub(crate) fn name_in(alloc: Global, naming: &Naming<'_>, name: Name) -> Result<Vec<u8>, AllocError>
     ensures { IfOk result (λ text. text.items ≡ called.name_in naming.now name) }
 {
@@ -171,7 +171,7 @@ pub(crate) fn name_in(alloc: Global, naming: &Naming<'_>, name: Name) -> Result<
     }
 }
 
-/// What a procedure is called in a host's language.
+/// Makes the name of a procedure in a host's language.
 pub(crate) fn procedure_in(
     alloc: Global,
     naming: &Naming<'_>,

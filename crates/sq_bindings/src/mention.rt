@@ -12,7 +12,7 @@ pub(crate) struct Search {
     pub(crate) name: Name,
     /// Whether the last token was a colon.
     pub(crate) after_colon: bool,
-    /// Whether the name stood behind a colon.
+    /// Whether the name came after a colon.
     pub(crate) found: bool,
 }
 

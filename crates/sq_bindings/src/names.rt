@@ -1,4 +1,4 @@
-//! What modules, procedures and parameters are called in C and in COBOL.
+//! The names of modules, procedures and parameters in C and in COBOL.
 ghost use Rattle.std.specs.Prelude.{◌≡◌, IfOk, bytes_eq, map, nat_eq};
 ghost use Rattle.std.specs.List.{ends_with, list_any};
 ghost use Rattle.sq_bindings.specs.Names as spec;
@@ -32,10 +32,11 @@ fn has_end(words: &[&[u8]], text: &[u8]) -> bool
     words.iter().any(|word| text.ends_with(word))
 }
 
-/// The ends of the names that the parts of a parameter have in C, and that of a name that was in use.
+/// The ends of the names that the parts of a parameter have in C, and the end of a name that was in use.
 const C_ENDS: [&[u8]; 3] = [b"_", b"_length", b"_size"];
 
-/// The ends of the names that the parts of a parameter and the group of a module have in COBOL, and those of a name that was in use.
+/// The ends of the names in COBOL of the parts of a parameter and the group of a module, and of a name that
+/// was in use.
 const COBOL_ENDS: [&[u8]; 5] = [b"-", b"-SQL", b"-LENGTH", b"-DIGITS", b"-MODULE"];
 
 /// How the names of sqmod.h begin, and of the copybook.
@@ -43,7 +44,7 @@ const C_START: &[u8] = b"sqmod_";
 
 const COBOL_START: &[u8] = b"SQMOD-";
 
-/// What stands behind a name that is in use.
+/// The end of a name that is in use.
 const C_ESCAPE: &[u8] = b"_";
 
 const COBOL_ESCAPE: &[u8] = b"-SQL";
@@ -60,8 +61,8 @@ fn is_used_in_cobol(words: &[&[u8]], text: &[u8]) -> bool
     is_among(words, text) || text.starts_with(COBOL_START) || ends_with_any(&COBOL_ENDS, text)
 }
 
-/// A name with what stands behind one that is in use.
-fn escaped(mut name: Vec<u8>, is_used: bool, escape: &[u8]) -> Result<Vec<u8>, AllocError>
+/// Puts an escape after a name that is in use.
+fn escape_if_used(mut name: Vec<u8>, is_used: bool, escape: &[u8]) -> Result<Vec<u8>, AllocError>
     ensures { IfOk result (λ text. text.items ≡ spec.escaped name.items is_used escape.now) }
 {
     if is_used {
@@ -79,16 +80,16 @@ fn lower(alloc: Global, codes: &[u8]) -> Result<Vec<u8>, AllocError>
         .collect(alloc)
 }
 
-/// What a parameter is called in C.
+/// Makes the name of a parameter in C.
 pub(crate) fn c_parameter(alloc: Global, words: &[&[u8]], name: Name) -> Result<Vec<u8>, AllocError>
     ensures { IfOk result (λ text. text.items ≡ spec.c_parameter (spec.listed words.now) name) }
 {
     let text = lower(alloc, name.codes())?;
     let is_used = is_used_in_c(words, text.as_slice()) || ends_with_any(&C_ENDS, text.as_slice());
-    escaped(text, is_used, C_ESCAPE)
+    escape_if_used(text, is_used, C_ESCAPE)
 }
 
-/// The function of a procedure in C.
+/// Makes the name of the function of a procedure in C.
 #[tactic(auto, using(std::proofs::lemmas::Grind::common_steps))]
 pub(crate) fn c_function(
     alloc: Global,
@@ -103,7 +104,7 @@ pub(crate) fn c_function(
     text.push(b'_')?;
     text.extend_from_slice(rest.as_slice())?;
     let is_used = is_used_in_c(words, text.as_slice());
-    escaped(text, is_used, C_ESCAPE)
+    escape_if_used(text, is_used, C_ESCAPE)
 }
 
 /// A letter of a name in COBOL.
@@ -113,17 +114,17 @@ fn cobol_code(code: u8) -> u8
     if code == b'_' { b'-' } else { code }
 }
 
-fn hyphened(alloc: Global, codes: &[u8]) -> Result<Vec<u8>, AllocError>
+fn hyphenate(alloc: Global, codes: &[u8]) -> Result<Vec<u8>, AllocError>
     ensures { IfOk result (λ text. text.items ≡ map spec.cobol_code codes.now) }
 {
     codes.iter().map(|code| cobol_code(*code)).collect(alloc)
 }
 
-/// What a name is called in COBOL.
+/// Makes a name in COBOL.
 pub(crate) fn cobol_name(alloc: Global, words: &[&[u8]], name: Name) -> Result<Vec<u8>, AllocError>
     ensures { IfOk result (λ text. text.items ≡ spec.cobol_name (spec.listed words.now) name) }
 {
-    let text = hyphened(alloc, name.codes())?;
+    let text = hyphenate(alloc, name.codes())?;
     let is_used = is_used_in_cobol(words, text.as_slice());
-    escaped(text, is_used, COBOL_ESCAPE)
+    escape_if_used(text, is_used, COBOL_ESCAPE)
 }

@@ -31,7 +31,7 @@ pub(crate) enum Kind {
     Varying(u8),
 }
 
-/// The precision of NUMERIC and DECIMAL where it is left out.
+/// The precision of NUMERIC and DECIMAL if it is left out.
 const USUAL_DIGITS: u8 = 18;
 
 /// The number that digits say, up to 255.
@@ -55,7 +55,7 @@ fn scale_of(precision: &Precision) -> u8
     }
 }
 
-fn exact(word: ExactWord, digits: u8, scale: u8) -> Kind
+fn exact_kind(word: ExactWord, digits: u8, scale: u8) -> Kind
     ensures { result ≡ spec.exact word digits scale }
 {
     match word {
@@ -64,16 +64,16 @@ fn exact(word: ExactWord, digits: u8, scale: u8) -> Kind
     }
 }
 
-/// What a data type is for a host.
+/// Finds how a host declares a data type.
 pub(crate) fn kind_of(data_type: &DataType) -> Kind
     ensures { result ≡ spec.kind_of data_type.now }
 {
     match data_type {
         DataType::Smallint => Kind::Small,
         DataType::Integer | DataType::Int => Kind::Integer,
-        DataType::Exact(word, None) => exact(*word, USUAL_DIGITS, 0),
+        DataType::Exact(word, None) => exact_kind(*word, USUAL_DIGITS, 0),
         DataType::Exact(word, Some(precision)) => {
-            exact(*word, number_of(precision.precision), scale_of(precision))
+            exact_kind(*word, number_of(precision.precision), scale_of(precision))
         }
         DataType::Character(_, None) => Kind::Fixed(1),
         DataType::Character(_, Some(length)) => Kind::Fixed(number_of(*length)),

@@ -21,7 +21,7 @@ pub(crate) fn size_of(kind: Kind) -> u8
     }
 }
 
-/// How many digits stand after the point.
+/// How many digits are after the point.
 pub(crate) fn scale_of(kind: Kind) -> u8
     ensures { result ≡ spec.scale_of kind }
 {

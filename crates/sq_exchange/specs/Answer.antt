@@ -1,4 +1,4 @@
--- What a call answers, as numbers and in words.
+-- The answers of a call, as numbers and in words.
 use Rattle.std.specs.Prelude.{◌≡◌, ℕ, ℤ, pos, List, codes, Result, Err, Option, Some, None, if◌then◌else◌}
 use Rattle.std.specs.Ordering.{int_eq}
 use Rattle.sq_exchange.specs.declared.answer.Answer.{Answer}
@@ -55,7 +55,7 @@ answer_of c =
     if int_eq c (pos 11) then Some IsNull else
     if int_eq c (pos 12) then Some NoRow else None
 
--- what a number means, whether it is a code or not
+-- a number has a meaning, whether it is a code or not
 abbrev pub text_of : Option Answer → List ℕ
 text_of (Some answer) = meaning answer
 text_of None = codes "no code of sqmod"

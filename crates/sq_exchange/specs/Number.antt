@@ -10,7 +10,7 @@ use Rattle.sq_value.specs.declared.fault.ReadFault.{ReadFault}
 use Rattle.sq_exchange.specs.declared.answer.Answer.{Answer}
 use Rattle.sq_exchange.specs.declared.answer.Answer.TheVariants.{BadValue}
 
--- a number is one of at most 18 digits, of which at most 18 stand after its point
+-- a number is one of at most 18 digits, of which at most 18 are after its point
 abbrev pub number_value : ℤ → ℕ → Result Value Answer
 number_value unscaled scale =
     if nat_lt (unsigned_abs unscaled) (10 ^ 18) && nat_le scale 18

@@ -1,4 +1,4 @@
--- Rooms: memory of the caller's, in which a text is put with a zero behind it.
+-- Rooms: memory of the caller's, into which a text is put with a zero after it.
 use Rattle.std.specs.Prelude.{ℕ, suc, nat_lt, List, ◌∷◌, ◌++◌, length, drop, if◌then◌else◌}
 use Rattle.sq_exchange.specs.declared.answer.Answer.{Answer}
 use Rattle.sq_exchange.specs.declared.answer.Answer.TheVariants.{Done, NoRoom}
@@ -7,7 +7,7 @@ use Rattle.sq_exchange.specs.declared.answer.Answer.TheVariants.{Done, NoRoom}
 abbrev pub room_answer : List ℕ → List ℕ → Answer
 room_answer text room = if nat_lt (length text) (length room) then Done else NoRoom
 
--- what a room has after a text was put there
+-- a room after a text was put there
 abbrev pub with_text : List ℕ → List ℕ → List ℕ
 with_text text room =
     if nat_lt (length text) (length room) then text ++ 0 ∷ drop (suc (length text)) room else room

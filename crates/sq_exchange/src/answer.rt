@@ -1,9 +1,9 @@
-//! What a call answers.
+//! Answers of calls.
 
 ghost use Rattle.std.specs.Prelude.{◌≡◌};
 ghost use Rattle.sq_exchange.specs.Answer as spec;
 
-/// What a call answers. C reads it as its code; `host/sqmod.h` has the same numbers.
+/// The answer of a call. C reads it as its code; `host/sqmod.h` has the same numbers.
 #[derive(Clone, Copy, Debug, PartialEq, Eq)]
 pub enum Answer {
     Done,
@@ -17,7 +17,7 @@ pub enum Answer {
     /// No procedure or table has this name, or no value this place; or nothing was called before.
     Unknown,
     /// No value: a number of more than 18 digits or places, or a text that is too long or has other
-    /// characters; or a number of rows that is out of bounds.
+    /// characters. Also a number of rows that is out of bounds.
     BadValue,
     /// No procedure has this number, or the values don't fit its parameters.
     BadArguments,
@@ -25,7 +25,7 @@ pub enum Answer {
     OtherKind,
     /// A pointer is null. C finds that, so nothing here answers it.
     NullPointer,
-    /// The room is too small for a text and the zero behind it.
+    /// The room is too small for a text and the zero after it.
     NoRoom,
     /// The value is null.
     IsNull,
@@ -34,6 +34,7 @@ pub enum Answer {
 }
 
 impl Answer {
+    /// Gives the answer's code.
     pub fn code(self) -> i32
         ensures { result ≡ spec.code self }
     {
@@ -54,7 +55,7 @@ impl Answer {
         }
     }
 
-    /// What the answer means.
+    /// Says what the answer means.
     fn text(self) -> &'static [u8]
         ensures { result.now ≡ spec.meaning self }
     {
@@ -76,7 +77,7 @@ impl Answer {
     }
 }
 
-/// The answer of a code, if it is one.
+/// Finds the answer of a code, if it is one.
 fn answer_of(code: i32) -> Option<Answer>
     ensures { result ≡ spec.answer_of code }
 {
@@ -98,7 +99,7 @@ fn answer_of(code: i32) -> Option<Answer>
     }
 }
 
-/// What a code means.
+/// Says what a code means.
 pub fn answer_text(code: i32) -> &'static [u8]
     ensures { result.now ≡ spec.answer_text code }
 {

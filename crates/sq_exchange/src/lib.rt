@@ -1,4 +1,5 @@
-//! What a program in another language hands in and gets back: answers as codes, values, names, and texts in rooms of its own.
+//! Answers as codes, values, names and texts in rooms, as programs in other languages hand them in and get
+//! them back.
 #![tactic(auto)]
 
 mod answer;

@@ -9,7 +9,7 @@ use sq_value::{Decimal, Value};
 /// The least that has more than 18 digits.
 const NO_NUMBER: u64 = 1_000_000_000_000_000_000;
 
-/// The number with these digits, of which so many stand after the point.
+/// Makes the number with these digits, of which so many are after the point.
 pub fn number_value(unscaled: i64, scale: u32) -> Result<Value, Answer>
     ensures { result ≡ spec.number_value unscaled scale }
 {
@@ -19,7 +19,8 @@ pub fn number_value(unscaled: i64, scale: u32) -> Result<Value, Answer>
     Ok(Value::Num(Decimal::new(unscaled, scale as u8)))
 }
 
-/// The number that a text spells: a sign, or none, and digits with at most one point; white space may stand around them.
+/// Reads the number that a text spells. It has a sign or none, and digits with at most one point. White space
+/// around it is left out.
 pub fn spelled_value(text: &[u8]) -> Result<Value, Answer>
     ensures { spec.IsSpelled text.now result }
 {

@@ -54,12 +54,12 @@ pub fn digits_of(alloc: Global, value: &Value) -> Result<Vec<u8>, Answer>
 {
     match value {
         Value::Null => Err(Answer::IsNull),
-        Value::Num(number) => written(alloc, *number),
+        Value::Num(number) => write_digits(alloc, *number),
         Value::Chars(_) => Err(Answer::OtherKind),
     }
 }
 
-fn written(alloc: Global, number: Decimal) -> Result<Vec<u8>, Answer>
+fn write_digits(alloc: Global, number: Decimal) -> Result<Vec<u8>, Answer>
     ensures digits { IfOk result (λ digits. digits.items ≡ written number) }
     ensures refused { IfErr result (λ answer. answer ≡ NoMemory) }
 {

@@ -1,4 +1,4 @@
--- What opening a processor of a host's texts answers.
+-- The answers of opening a processor of a host's texts.
 use Rattle.std.proofs.Common.{◌≡◌, ℕ, List, Vec, Result, Ok, Err, refl, subst, sym}
 use Rattle.std.specs.Prelude.{IsErr}
 use Rattle.std.specs.declared.alloc.Global.{Global}

@@ -12,7 +12,7 @@ use Rattle.sq_meaning.specs.Tables.{Declared}
 use Rattle.sq_run.specs.Processor.{Machine, procedure_at, takes}
 use Rattle.sq_host.specs.Unfit.{are_as_many, parameters_at, unfit, unfit_at, unfit_from}
 
--- nulls fit where they are as many as the parameters
+-- nulls fit if they are as many as the parameters
 nulls_fit : (ds : List Declared) (values : List Value) → fit ds (replicate (length values) Null) ≡ are_as_many ds values
 nulls_fit [] [] = refl
 nulls_fit [] (v ∷ values) = refl
@@ -46,7 +46,7 @@ none_unfit (d ∷ ds) (v ∷ vs) h =
     ap (λ b. if b then option_map (λ place. place + 1) (unfit_from ds vs) else Some 0) (and_left (fits_in d.domain v) (fit ds vs) h)
     ∙ ap (option_map (λ place. place + 1)) (none_unfit ds vs (and_right (fits_in d.domain v) (fit ds vs) h))
 
--- with this value in the place of what stands there, the values no longer fit
+-- with this value in its place, the values no longer fit
 first_place : (ds : List Declared) (tried values : List Value) (i : ℕ) (v : Value) → fit ds tried ≡ true → fit ds (set tried i v) ≡ false → take i tried ≡ take i values
     → i < length values → v ≡ get_or values i v → unfit_from ds values ≡ Some i
 first_place [] [] values i v fits fails same lt at = cc
@@ -67,7 +67,7 @@ first_place (d ∷ ds) (t ∷ ts) (w ∷ ws) (suc j) v fits fails same lt at =
     ap (λ b. if b then option_map (λ place. place + 1) (unfit_from ds ws) else Some 0) (ap (λ x. fits_in d.domain x) (sym here) ∙ good)
     ∙ ap (option_map (λ place. place + 1)) found ∙ ap Some (omega arith)
 
--- ---- of a procedure that is there or is not
+-- ---- of a procedure that exists or not
 
 abbrev accepts : Option (List Declared) → List Value → Bool
 accepts o values = option_map_or (λ ds. fit ds values) o false

@@ -1,4 +1,4 @@
--- What is told is put into a room.
+-- Laws of words that are put into a room.
 use Rattle.std.proofs.Common.{◌≡◌, ◌∙◌, ℕ, ℤ, List, Option, None, Some, Result, Ok, Err, Vec, refl, ap, subst, sym, of_z, to_z, w32}
 use Rattle.std.specs.Prelude.{IfErr, IfOk}
 use Rattle.std.specs.declared.alloc.Global.{Global}

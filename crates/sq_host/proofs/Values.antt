@@ -46,7 +46,7 @@ module _ (R Z : RattleType) (L : Laws Z) (g : Ghosts Z.Denot) where
   parts_fit b o h fits = (and_tt (has_ty (layout Z) h) fits.0, (fits.1, (tt, tt)))
 
   module _ {M : Type 1} {𝓤 : Ura M} {𝓛 : Logic 𝓤} {K : Type 0} {Γ : List (Item 𝓤)} {G : Goal 𝓤 𝓛.H} where
-    -- what a pair owns is what its handle does
+    -- a pair owns the same as its handle
     pub pair_out : K → (r : Ptr × Z.Denot) (a : Z.Denot) (b o : ℕ) (u : Val) → r.1 ≡ a → r.0 ≡ block_ptr b o
         → ((h : Val) → u ≡ both (vptr b o) h → Good (layout Z) h → Seq K 𝓛 (‵ (Z.own_val a (h ∷ [])) ∷ Γ) G)
         → Seq K 𝓛 (‵ ((Tuple (RawPtr ∷ Z ∷ [])).own_val r (u ∷ [])) ∷ Γ) G

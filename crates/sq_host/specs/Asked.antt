@@ -1,25 +1,25 @@
--- What is asked of a handle, what is answered, and what is set.
+-- Questions to a handle, their answers, and the values that they set.
 use Rattle.std.specs.Prelude.{ℕ, List, length, Option, Some, None, Result, Ok, Err}
 use Rattle.sq_exchange.specs.Room.{room_answer, with_text}
 use Rattle.sq_exchange.specs.declared.answer.Answer.{Answer}
 use Rattle.sq_exchange.specs.declared.answer.Answer.TheVariants.{Done, NotOpen, Unknown}
 
--- What is asked of that to which a handle leads. It has no answer where the handle leads to nothing.
+-- A question to the host that a handle leads to. It has no answer if the handle leads to nothing.
 abbrev pub asked : {H A : Type 0} → Option H → (H → Result A Answer) → Result A Answer
 asked None ask = Err NotOpen
 asked (Some h) ask = ask h
 
--- what is looked up, if it is there
+-- the result of a search, if it has one
 abbrev pub found : {A : Type 0} → Option A → Result A Answer
 found None = Err Unknown
 found (Some x) = Ok x
 
--- what is asked of that which is there
+-- a question to an answer, if it has a value
 abbrev pub and_then : {A B : Type 0} → (A → Result B Answer) → Result A Answer → Result B Answer
 and_then ask (Ok x) = ask x
 and_then ask (Err why) = Err why
 
--- ---- a value that is set, and nothing where there is none
+-- ---- a value that is set, if it exists
 
 abbrev pub set_answer : {A : Type 0} → Result A Answer → Answer
 set_answer (Ok value) = Done
@@ -29,7 +29,7 @@ abbrev pub set_value : {A : Type 0} → Result A Answer → A → A
 set_value (Ok value) old = value
 set_value (Err why) old = old
 
--- ---- a text that is put into a room with a zero behind it, and nothing where there is none
+-- ---- a text that is put into a room with a zero after it, if it exists
 
 abbrev pub put_answer : Result (List ℕ) Answer → List ℕ → Answer
 put_answer (Ok text) room = room_answer text room

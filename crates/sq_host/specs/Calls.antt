@@ -1,4 +1,4 @@
--- What a host's processor is, what is asked of it, and how a call of a handle changes it (own rules).
+-- A host's processor, the questions to it, and its changes by a call of a handle (own rules).
 use Rattle.std.specs.Prelude.{◌≡◌, ◌<◌, ◌⊎◌, ℕ, Bool, List, [], ◌∷◌, map, Option, Some, None, option_map, Result, Ok, Err, IsErr, if◌then◌else◌, ⊤}
 use Rattle.sq_lex.specs.declared.name.Name.{Name}
 use Rattle.sq_value.specs.declared.value.Value.{Value}
@@ -67,7 +67,8 @@ opened (Some m) = Ok m
 abbrev pub IsOf : ℕ → List Bytes → List Bytes → Option Machine → Type 0
 IsOf row_numbers schemas modules None = ⊥
 IsOf row_numbers schemas modules (Some m) =
-    (run.accepted_program schemas modules row_numbers ≡ Ok m.program) × (m.state ≡ first_state m.program) × AllHold m
+    (run.accepted_program schemas modules row_numbers ≡ Ok m.program)
+    × (m.state ≡ first_state m.program) × AllHold m
 
 -- the texts are refused, as `run` refuses them
 abbrev pub AreRefused : ℕ → List Bytes → List Bytes → Type 0
@@ -76,7 +77,7 @@ AreRefused row_numbers schemas modules = IsErr (run.accepted_program schemas mod
 abbrev pub IsOutOfBounds : ℕ → Type 0
 IsOutOfBounds row_numbers = (row_numbers ≡ 0) ⊎ (MOST_ROW_NUMBERS < row_numbers)
 
--- what opening answers
+-- opening has one of these answers
 abbrev pub MayOpen : Answer → Type 0
 MayOpen Done = ⊤
 MayOpen AlreadyOpen = ⊤
@@ -104,11 +105,11 @@ procedure_named in_module name m = and_then (number_named name m) (name_read in_
 
 -- ---- calls
 
--- whether the procedure with this number is there and takes these values
+-- whether the procedure with this number exists and takes these values
 abbrev pub taken : ℕ → List Value → Machine → Result ⊤ Answer
 taken number values m = if takes m.program number values then Ok tt else Err BadArguments
 
--- what a place that is found says of that: with none the values are taken
+-- the answer by the place of a value that doesn't fit: without one the values are taken
 abbrev pub place_for : Option ℕ → Result ⊤ Answer
 place_for None = Ok tt
 place_for (Some place) = Err BadArguments
@@ -121,7 +122,8 @@ abbrev pub is_faulty : ℕ → Option Machine → Result Bool Answer
 is_faulty number m = and_then (fault_in number) (opened m)
 
 -- The call of the procedure with this number is the machine's step, and the reply the machine's.
-pub record IsCall (m : Machine) (number : ℕ) (values : List Value) (reply : Reply) (after : Machine) : Type 0 where
+pub record IsCall (m : Machine) (number : ℕ) (values : List Value) (reply : Reply) (after : Machine)
+    : Type 0 where
   pub step : IsStep m number values reply after
   pub constraints : AllHold after
   pub failures : FailsWithoutChange m reply after

@@ -1,4 +1,4 @@
--- What changes that to which a handle leads.
+-- Changes of the host to which a handle leads.
 use Rattle.std.specs.Prelude.{◌≡◌, List, [], ◌∷◌, ◌++◌, Option, Some, None, Result, Ok, Err}
 use Rattle.sq_value.specs.declared.value.Value.{Value}
 use Rattle.sq_exchange.specs.declared.answer.Answer.{Answer}

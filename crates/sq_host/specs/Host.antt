@@ -1,4 +1,4 @@
--- What a handle leads to.
+-- The host to which a handle leads.
 use Rattle.std.specs.Prelude.{◌==◌, Option, None, if◌then◌else◌}
 use Rattle.sq_host.specs.declared.handle.Handle.{Handle}
 use Rattle.sq_host.specs.declared.host.Host.{Host}

@@ -1,4 +1,4 @@
--- What a kept address owns: at null nothing, else what a box of the value would.
+-- A kept address owns nothing at null, and else the same as a box of the value.
 use base.Fml.{Fml, ftrue}
 use denote.RattleType.{RattleType}
 use denote.RawPtr.{Ptr}

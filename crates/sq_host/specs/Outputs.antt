@@ -1,4 +1,4 @@
--- What the last call set, or the values of the row that is read.
+-- The values that the last call set, or the values of the row that is read.
 use Rattle.std.specs.Prelude.{ℕ, ℤ, List, [], ◌∷◌, ◌++◌, length, slice_get, position, Option, Some, None, option_map, Result, Ok, Err}
 use Rattle.sq_lex.specs.declared.name.Name.{Name}
 use Rattle.sq_value.specs.Number.{Number}
@@ -24,7 +24,7 @@ status_in (Some call) = Ok call.reply.status
 abbrev pub status_of : Host → Result Status Answer
 status_of h = status_in h.last
 
--- SQLSTATE with a zero behind it
+-- SQLSTATE with a zero after it
 abbrev pub ended_state : Status → List ℕ
 ended_state s = status.sqlstate s ++ 0 ∷ []
 

@@ -1,4 +1,4 @@
--- What is told in words: why a procedure answers 42000, and why the last call did not end with 00000.
+-- The words that tell why a procedure answers 42000, and why the last call did not end with 00000.
 use Rattle.std.specs.Prelude.{◌≡◌, ℕ, ℤ, List, [], ◌++◌, codes, is_some, Option, None, Some, Result, Ok, Err, Vec, ⊤}
 use Rattle.std.specs.declared.alloc.Global.{Global}
 use Rattle.sq_lex.specs.declared.name.Name.{Name}
@@ -38,7 +38,7 @@ rule_name rule.UnknownCursor = codes "UnknownCursor"
 rule_name rule.BadOrientation = codes "BadOrientation"
 rule_name rule.PrivilegeMissing = codes "PrivilegeMissing"
 
--- behind a blank
+-- after a blank
 abbrev pub about_codes : Option Name → Bytes
 about_codes None = []
 about_codes (Some name) = codes " " ++ name
@@ -73,13 +73,13 @@ abbrev pub IsCauseIn : Option Machine → Option LastCall → Bytes → Type 0
 IsCauseIn (Some m) (Some call) words = IsCauseOf m call words
 IsCauseIn _ _ words = ⊥
 
--- a cause is told from when a processor is there and a call was made
+-- a cause is told if a processor exists and a call was made
 abbrev pub caused : Option Machine → Option LastCall → Result ⊤ Answer
 caused None last = Err NotOpen
 caused (Some m) None = Err Unknown
 caused (Some m) (Some call) = Ok tt
 
--- ---- what is told, or why nothing is
+-- ---- the words, or why none are told
 
 abbrev pub FaultTold : ℕ → Option Machine → Result Bytes Answer → Type 0
 FaultTold number m (Ok words) = IsFaultIn number m words
@@ -94,8 +94,9 @@ abbrev pub bytes_of : Result (Vec ℕ Global) Answer → Result Bytes Answer
 bytes_of (Ok words) = Ok words.items
 bytes_of (Err why) = Err why
 
--- What is told is put into a room.
-pub record Puts (Told : Result Bytes Answer → Type 0) (before after : Bytes) (old new : ℕ) (answer : Answer) : Type 0 where
+-- Told words are put into a room.
+pub record Puts (Told : Result Bytes Answer → Type 0) (before after : Bytes) (old new : ℕ) (answer : Answer)
+    : Type 0 where
   pub words : Result Bytes Answer
   pub told : Told words
   pub answered : answer ≡ put_answer words before
@@ -103,7 +104,8 @@ pub record Puts (Told : Result Bytes Answer → Type 0) (before after : Bytes) (
   pub counted : new ≡ put_length words old
 
 -- the same for C, which is given the code of the answer
-pub record PutsCode (Told : Result Bytes Answer → Type 0) (before after : Bytes) (old new : ℕ) (number : ℤ) : Type 0 where
+pub record PutsCode (Told : Result Bytes Answer → Type 0) (before after : Bytes) (old new : ℕ) (number : ℤ)
+    : Type 0 where
   pub answer : Answer
   pub puts : Puts Told before after old new answer
   pub code_is : number ≡ code answer

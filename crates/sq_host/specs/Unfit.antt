@@ -22,7 +22,7 @@ are_as_many [] (v ∷ values) = false
 are_as_many (d ∷ ds) [] = false
 are_as_many (d ∷ ds) (v ∷ values) = are_as_many ds values
 
--- where there are more or fewer values than parameters, how many values there are
+-- if the values are more or fewer than the parameters, how many values they are
 abbrev pub unfit : List Declared → List Value → Option ℕ
 unfit ds values = if are_as_many ds values then unfit_from ds values else Some (length values)
 
@@ -30,14 +30,15 @@ unfit ds values = if are_as_many ds values then unfit_from ds values else Some (
 abbrev pub parameters_at : Program → ℕ → Option (List Declared)
 parameters_at p number = option_map (λ e. declared_parameters e.1) (procedure_at p number)
 
--- where there is no such procedure, how many values there are
+-- if no such procedure exists, how many values they are
 abbrev pub unfit_at : Program → ℕ → List Value → Option ℕ
-unfit_at p number values = option_map_or (λ ds. unfit ds values) (parameters_at p number) (Some (length values))
+unfit_at p number values =
+    option_map_or (λ ds. unfit ds values) (parameters_at p number) (Some (length values))
 
 abbrev pub unfit_in : ℕ → List Value → Machine → Result (Option ℕ) Answer
 unfit_in number values m = Ok (unfit_at m.program number values)
 
--- a place that is set to that of a value, if one does not fit
+-- a place that is set to the place of a value, if one does not fit
 abbrev pub set_place : Result (Option ℕ) Answer → ℕ → ℕ
 set_place (Ok (Some place)) old = place
 set_place (Ok None) old = old

@@ -16,13 +16,15 @@ impl<T, A: Allocator> Model for Apart<T, A> {
     ghost also_owns = { λ parts. box_owns (A.dealloc_token parts.alloc) T.row parts.at parts.value };
 }
 
-pub(crate) fn taken_apart<T: Drop, A: Allocator>(whole: Box<T, A>) -> Apart<T, A>
+/// Takes a box apart.
+pub(crate) fn take_apart<T: Drop, A: Allocator>(whole: Box<T, A>) -> Apart<T, A>
     ensures { result.value ≡ whole.value }
 {
     let (at, alloc) = Box::into_raw_with_allocator(whole);
     Apart { alloc, at }
 }
 
+/// Makes the box of its parts.
 pub(crate) fn put_together<T, A: Allocator>(parts: Apart<T, A>) -> Box<T, A>
     ensures { result.value ≡ parts.value }
 {

@@ -50,7 +50,7 @@ impl Handle {
         put_words(words, room, count)
     }
 
-    /// Puts why the last call did not end with 00000 into a room, as a trace says it; no words where it did.
+    /// Puts why the last call did not end with 00000 into a room, as a trace says it; no words if it did.
     #[tactic(auto, using(crate::proofs::Telling::puts_cause, crate::proofs::Telling::puts_no_cause))]
     pub fn cause(&mut self, alloc: Global, room: &mut [u8], count: &mut usize) -> Answer
         ensures told { Puts (CauseTold (machine_of (leads_to self.old)) (made_last (leads_to self.old)))
@@ -166,7 +166,8 @@ impl Handle {
         scale: &mut u32,
     ) -> Answer
         ensures answer { result ≡ set_answer (spec.number_behind (leads_to self.old) place) }
-        ensures unscaled { unscaled.new ≡ set_value (spec.unscaled_behind (leads_to self.old) place) unscaled.old }
+        ensures unscaled { unscaled.new
+            ≡ set_value (spec.unscaled_behind (leads_to self.old) place) unscaled.old }
         ensures scale { scale.new ≡ set_value (spec.scale_behind (leads_to self.old) place) scale.old }
         ensures same { leads_to self.new ≡ leads_to self.old }
     {

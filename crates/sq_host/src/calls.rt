@@ -1,5 +1,5 @@
-//! The calls of a handle. One that leads to nothing answers `NotOpen` to each but `start`, and where a call
-//! doesn't answer `Done` it sets nothing, but for the length of a text for which there is no room.
+//! The calls of a handle. If it leads to nothing, each but `start` answers `NotOpen`. A call that doesn't
+//! answer `Done` sets nothing but the length of a text for which the room is too small.
 
 ghost use Rattle.std.specs.Prelude.{◌≡◌, [], ◌∷◌, ◌++◌, IsSome, None, Ok, option_to_list, reverse};
 ghost use Rattle.sq_value.specs.declared.value.Value.TheVariants.{Null};
@@ -76,7 +76,8 @@ impl Handle {
     /// Opens a processor of the texts, in which a table has this many row numbers: at least one, and at most `MOST_ROW_NUMBERS`.
     pub fn open(&mut self, alloc: Global, row_numbers: u64) -> Answer
         ensures opened { result ≡ Done → IsOf row_numbers
-            (schemas_of (leads_to self.old)) (modules_of (leads_to self.old)) (machine_of (leads_to self.new)) }
+            (schemas_of (leads_to self.old)) (modules_of (leads_to self.old))
+            (machine_of (leads_to self.new)) }
         ensures refused { result ≡ Refused
             → AreRefused row_numbers (schemas_of (leads_to self.old)) (modules_of (leads_to self.old)) }
         ensures already { result ≡ AlreadyOpen → IsSome (machine_of (leads_to self.old)) }
@@ -100,9 +101,11 @@ impl Handle {
         number: &mut usize,
     ) -> Answer
         ensures answer { ¬ (result ≡ NoMemory)
-            → result ≡ set_answer (and_then (procedure_named «module».now name.now) (opened (machine_of (leads_to self.old)))) }
+            → result ≡ set_answer (and_then (procedure_named «module».now name.now)
+            (opened (machine_of (leads_to self.old)))) }
         ensures number { ¬ (result ≡ NoMemory)
-            → number.new ≡ set_value (and_then (procedure_named «module».now name.now) (opened (machine_of (leads_to self.old)))) number.old }
+            → number.new ≡ set_value (and_then (procedure_named «module».now name.now)
+            (opened (machine_of (leads_to self.old)))) number.old }
         ensures none { result ≡ NoMemory → number.new ≡ number.old }
         ensures same { leads_to self.new ≡ leads_to self.old }
     {
@@ -119,7 +122,8 @@ impl Handle {
         ensures answer { ¬ (result ≡ NoMemory)
             → result ≡ set_answer (asked (leads_to self.old) (λ _. number_value unscaled scale)) }
         ensures values { result ≡ Done
-            → values_of (leads_to self.new) ≡ with_value (values_of (leads_to self.old)) (number_value unscaled scale) }
+            → values_of (leads_to self.new)
+            ≡ with_value (values_of (leads_to self.old)) (number_value unscaled scale) }
         ensures none { ¬ (result ≡ Done) → values_of (leads_to self.new) ≡ values_of (leads_to self.old) }
     {
         self.add(alloc, number_value(unscaled, scale))
@@ -177,16 +181,18 @@ impl Handle {
     /// Sets the place of the first value that doesn't fit the procedure, and answers `BadArguments`; or `Done` if all fit.
     pub fn checked_values(&mut self, alloc: Global, procedure: usize, place: &mut usize) -> Answer
         ensures answer { ¬ (result ≡ NoMemory) → result ≡ set_answer
-            (and_then (taken procedure (values_of (leads_to self.old))) (opened (machine_of (leads_to self.old)))) }
+            (and_then (taken procedure (values_of (leads_to self.old)))
+            (opened (machine_of (leads_to self.old)))) }
         ensures place { ¬ (result ≡ NoMemory) → place.new ≡ set_place
-            (and_then (unfit_in procedure (values_of (leads_to self.old))) (opened (machine_of (leads_to self.old)))) place.old }
+            (and_then (unfit_in procedure (values_of (leads_to self.old)))
+            (opened (machine_of (leads_to self.old)))) place.old }
         ensures none { ¬ (result ≡ BadArguments) → place.new ≡ place.old }
         ensures same { leads_to self.new ≡ leads_to self.old }
     {
         let Some(host) = self.take(alloc) else {
             return Answer::NotOpen;
         };
-        let unfit = host.unfit(alloc, procedure);
+        let unfit = host.find_unfit(alloc, procedure);
         self.put(host);
         match unfit {
             Ok(None) => Answer::Done,
@@ -201,7 +207,8 @@ impl Handle {
     /// Calls the procedure of this number with the values that were added, which are then gone.
     pub fn call(&mut self, alloc: Global, procedure: usize) -> Answer
         ensures answer { ¬ (result ≡ NoMemory) → result ≡ set_answer
-            (and_then (taken procedure (values_of (leads_to self.old))) (opened (machine_of (leads_to self.old)))) }
+            (and_then (taken procedure (values_of (leads_to self.old)))
+            (opened (machine_of (leads_to self.old)))) }
         ensures called { result ≡ Done → Called (machine_of (leads_to self.old)) procedure
             (values_of (leads_to self.old)) (made_last (leads_to self.new)) (machine_of (leads_to self.new)) }
         ensures none { ¬ (result ≡ Done) → machine_of (leads_to self.new) ≡ machine_of (leads_to self.old) }
@@ -219,7 +226,8 @@ impl Handle {
     pub fn read_table(&mut self, alloc: Global, user: &[u8], name: &[u8]) -> Answer
         ensures answer { ¬ (result ≡ NoMemory) → result ≡ set_answer
             (and_then (rows_named user.now name.now) (opened (machine_of (leads_to self.old)))) }
-        ensures rows { result ≡ Done → and_then (rows_named user.now name.now) (opened (machine_of (leads_to self.old)))
+        ensures rows { result ≡ Done
+            → and_then (rows_named user.now name.now) (opened (machine_of (leads_to self.old)))
             ≡ Ok (reverse (rows_kept (leads_to self.new))) }
         ensures none { ¬ (result ≡ Done) → rows_kept (leads_to self.new) ≡ rows_kept (leads_to self.old) }
         ensures machine { machine_of (leads_to self.new) ≡ machine_of (leads_to self.old) }

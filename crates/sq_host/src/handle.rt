@@ -1,7 +1,7 @@
-//! What C holds of a host.
+//! The handle that C holds of a host.
 ghost use Rattle.std.specs.Prelude.{◌≡◌, Some, None, MatchOption, IsSome};
 
-use crate::apart::{put_together, taken_apart};
+use crate::apart::{put_together, take_apart};
 use crate::host::Host;
 use crate::kept::Kept;
 use std::alloc::Global;
@@ -24,7 +24,7 @@ impl Handle {
     ghost use Rattle.sq_host.specs.Host.{leads_to};
 
     /// A handle that leads to nothing.
-    pub fn closed() -> Handle
+    pub fn new() -> Handle
         ensures { leads_to result ≡ None }
     {
         Handle {
@@ -38,19 +38,20 @@ impl Handle {
     {
         Handle {
             word: OPEN,
-            kept: Kept::of(taken_apart(host)),
+            kept: Kept::of(take_apart(host)),
         }
     }
 
-    /// The host, to which the handle then doesn't lead any more; none where it leads to none.
+    /// Takes the host, to which the handle then doesn't lead any more; none if it leads to none.
     pub(crate) fn take(&mut self, alloc: Global) -> Option<Box<Host>>
-        ensures host { MatchOption result (leads_to self.old ≡ None) (λ host. leads_to self.old ≡ Some host.value) }
+        ensures host { MatchOption result (leads_to self.old ≡ None)
+            (λ host. leads_to self.old ≡ Some host.value) }
         ensures closed { leads_to self.new ≡ None }
     {
         if self.word != OPEN {
             return None;
         }
-        let Handle { word: _, kept } = replace(self, Handle::closed());
+        let Handle { word: _, kept } = replace(self, Handle::new());
         Some(put_together(kept.into_parts(alloc)))
     }
 

@@ -1,4 +1,4 @@
-//! What a handle leads to: texts, and the session that they open.
+//! The host that a handle leads to: texts, and the session that they open.
 ghost use Rattle.std.specs.Prelude.{◌≡◌, [], ◌∷◌, ◌++◌, Ok, Some, IfErr, IfOk, IsSome};
 ghost use Rattle.sq_exchange.specs.Answer.{IsWhy};
 ghost use Rattle.sq_exchange.specs.declared.answer.Answer.TheVariants.{AlreadyOpen, BadValue, Done, NoMemory, Refused};
@@ -19,8 +19,8 @@ use sq_value::{Row, Value};
 use std::alloc::Global;
 use std::mem::replace;
 
-/// Texts, and from when they are opened a processor; with it the values for the next call, the last call with its answer, and the
-/// rows of a table that is read.
+/// Texts, and after they are opened a processor. With it go the values for the next call, the last call with
+/// its answer, and the rows of a table that is read.
 #[derive(Drop)]
 pub struct Host {
     pub schemas: Vec<Vec<u8>>,
@@ -41,6 +41,7 @@ impl Host {
     ghost use Rattle.sq_host.specs.Calls.{AreRefused, IsOf, IsOutOfBounds, MayOpen, opened, unopened};
     ghost use Rattle.sq_host.specs.Changes.{with_value};
 
+    /// Makes a host without texts.
     pub(crate) fn new(alloc: Global) -> Host {
         Host {
             schemas: Vec::new(alloc),
@@ -54,6 +55,7 @@ impl Host {
         }
     }
 
+    /// Adds a schema text.
     pub(crate) fn add_schema(&mut self, alloc: Global, text: &[u8]) -> Answer
         ensures answer { ¬ (result ≡ NoMemory) → result ≡ set_answer (unopened self.old.processor) }
         ensures added { result ≡ Done
@@ -68,6 +70,7 @@ impl Host {
         add_text(alloc, &mut self.schemas, text)
     }
 
+    /// Adds a module text.
     pub(crate) fn add_module(&mut self, alloc: Global, text: &[u8]) -> Answer
         ensures answer { ¬ (result ≡ NoMemory) → result ≡ set_answer (unopened self.old.processor) }
         ensures added { result ≡ Done
@@ -85,7 +88,8 @@ impl Host {
     /// Opens a processor of the texts, in which a table has this many row numbers.
     pub(crate) fn open(&mut self, alloc: Global, row_numbers: u64) -> Answer
         ensures opened { result ≡ Done
-            → IsOf row_numbers (texts self.old.schemas.items) (texts self.old.modules.items) self.new.processor }
+            → IsOf row_numbers (texts self.old.schemas.items) (texts self.old.modules.items)
+            self.new.processor }
         ensures refused { result ≡ Refused
             → AreRefused row_numbers (texts self.old.schemas.items) (texts self.old.modules.items) }
         ensures already { result ≡ AlreadyOpen → IsSome self.old.processor }
@@ -137,7 +141,8 @@ impl Host {
         name: &[u8],
     ) -> Result<usize, Answer>
         ensures number { IfOk result
-            (λ number. and_then (procedure_named «module».now name.now) (opened self.now.processor) ≡ Ok number) }
+            (λ number. and_then (procedure_named «module».now name.now) (opened self.now.processor)
+            ≡ Ok number) }
         ensures refused { IfErr result
             (IsWhy (and_then (procedure_named «module».now name.now) (opened self.now.processor))) }
     {
@@ -172,7 +177,8 @@ impl Host {
     /// Calls a procedure with the values that were added since the last call, which are then gone.
     pub(crate) fn call(&mut self, alloc: Global, procedure: usize) -> Answer
         ensures answer { ¬ (result ≡ NoMemory)
-            → result ≡ set_answer (and_then (taken procedure self.old.values.items) (opened self.old.processor)) }
+            → result ≡ set_answer
+            (and_then (taken procedure self.old.values.items) (opened self.old.processor)) }
         ensures called { result ≡ Done
             → Called self.old.processor procedure self.old.values.items self.new.last self.new.processor }
         ensures none { ¬ (result ≡ Done) → self.new.processor ≡ self.old.processor }

@@ -27,12 +27,14 @@ impl Model for Kept {
 }
 
 impl Kept {
+    /// Keeps no host: null.
     pub(crate) fn none() -> Kept
         ensures { result.value ≡ None }
     {
         Kept { at: null_mut() }
     }
 
+    /// Keeps the address in the parts of a box.
     pub(crate) fn of(parts: Apart<Host, Global>) -> Kept
         ensures { result.value ≡ Some parts.value }
     {
@@ -40,6 +42,7 @@ impl Kept {
         Kept { at: at as *mut u8 }
     }
 
+    /// Gives the parts of the box whose address is kept.
     pub(crate) fn into_parts(self, alloc: Global) -> Apart<Host, Global>
         requires { IsSome self.value }
         ensures { self.value ≡ Some result.value }

@@ -1,4 +1,4 @@
-//! What the last call set, or the values of a row of a table.
+//! The values that the last call set, or the values of a row of a table.
 
 ghost use Rattle.std.specs.Prelude.{◌≡◌, Ok, Err, position, IfErr, IfOk};
 ghost use Rattle.sq_meaning.specs.Environment.{same_name};

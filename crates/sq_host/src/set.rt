@@ -6,7 +6,7 @@ ghost use Rattle.sq_host.specs.Told.{bytes_of};
 
 use sq_exchange::{Answer, put_text};
 
-/// Sets a value where there is one; where there is none, nothing.
+/// Sets a value if one is answered, else nothing.
 pub(crate) fn set<T: Copy>(asked: Result<T, Answer>, place: &mut T) -> Answer
     ensures answer { result ≡ set_answer asked }
     ensures value { place.new ≡ set_value asked place.old }
@@ -20,7 +20,7 @@ pub(crate) fn set<T: Copy>(asked: Result<T, Answer>, place: &mut T) -> Answer
     }
 }
 
-/// Puts words into a room where there are some; where there are none, nothing.
+/// Puts words into a room if some are answered, else nothing.
 pub(crate) fn put_words(
     words: Result<Vec<u8>, Answer>,
     room: &mut [u8],

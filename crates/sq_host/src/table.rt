@@ -20,7 +20,8 @@ impl Host {
         ensures answer { ¬ (result ≡ NoMemory)
             → result ≡ set_answer (and_then (rows_named user.now name.now) (opened self.old.processor)) }
         ensures rows { result ≡ Done
-            → and_then (rows_named user.now name.now) (opened self.old.processor) ≡ Ok (reverse self.new.rows.items) }
+            → and_then (rows_named user.now name.now) (opened self.old.processor)
+            ≡ Ok (reverse self.new.rows.items) }
         ensures none { ¬ (result ≡ Done) → self.new.rows ≡ self.old.rows }
         ensures processor { self.new.processor ≡ self.old.processor }
     {
@@ -74,7 +75,8 @@ fn rows_of_named(
     user: &[u8],
     name: &[u8],
 ) -> Result<Vec<Row>, Answer>
-    ensures rows { IfOk result (λ rows. rows_named user.now name.now processor.now ≡ Ok (reverse rows.items)) }
+    ensures rows { IfOk result
+        (λ rows. rows_named user.now name.now processor.now ≡ Ok (reverse rows.items)) }
     ensures refused { IfErr result (IsWhy (rows_named user.now name.now processor.now)) }
 {
     match name_of(alloc, user) {
@@ -119,13 +121,13 @@ fn rows_of_table(
 fn copy_reversed(alloc: Global, rows: TableRows<'_, HeapStore>) -> Result<Vec<Row>, AllocError>
     ensures { IfOk result (λ copies. reverse copies.items ≡ values_in rows.entry) }
 {
-    let mut copies = copied(alloc, rows)?;
+    let mut copies = copy_rows(alloc, rows)?;
     copies.as_mut_slice().reverse();
     Ok(copies)
 }
 
 /// Copies of the rows that are still to come.
-fn copied(alloc: Global, mut rows: TableRows<'_, HeapStore>) -> Result<Vec<Row>, AllocError>
+fn copy_rows(alloc: Global, mut rows: TableRows<'_, HeapStore>) -> Result<Vec<Row>, AllocError>
     ensures { IfOk result (λ copies. copies.items ≡ values_in rows.entry) }
 {
     let mut copies = Vec::new(alloc);

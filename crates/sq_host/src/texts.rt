@@ -17,14 +17,15 @@ pub(crate) fn add_text(alloc: Global, texts: &mut Vec<Vec<u8>>, text: &[u8]) -> 
     ensures added { result ≡ Done → spec.texts texts.new.items ≡ spec.texts texts.old.items ++ text.now ∷ [] }
     ensures none { ¬ (result ≡ Done) → spec.texts texts.new.items ≡ spec.texts texts.old.items }
 {
-    match added(alloc, texts, text) {
+    match push_copy(alloc, texts, text) {
         Ok(()) => Answer::Done,
         Err(_) => Answer::NoMemory,
     }
 }
 
-fn added(alloc: Global, texts: &mut Vec<Vec<u8>>, text: &[u8]) -> Result<(), AllocError>
-    ensures added { IfOk result (λ _. spec.texts texts.new.items ≡ spec.texts texts.old.items ++ text.now ∷ []) }
+fn push_copy(alloc: Global, texts: &mut Vec<Vec<u8>>, text: &[u8]) -> Result<(), AllocError>
+    ensures added { IfOk result
+        (λ _. spec.texts texts.new.items ≡ spec.texts texts.old.items ++ text.now ∷ []) }
     ensures none { OnErr result (spec.texts texts.new.items ≡ spec.texts texts.old.items) }
 {
     let text = Vec::from_slice(alloc, text)?;
@@ -53,7 +54,8 @@ fn line_with(alloc: Global, kind: &str, refusal: Refusal) -> Result<Vec<u8>, All
     Vec::from_slice(alloc, line.as_bytes())
 }
 
-/// The words of a fault: the name of its rule, and behind a blank the name that it is about, if there is one.
+/// Makes the words of a fault: the name of its rule, and after a blank the name that it is about, if there is
+/// one.
 pub(crate) fn words_of(alloc: Global, fault: Fault) -> Result<Vec<u8>, AllocError>
     ensures { IfOk result (λ words. words.items ≡ fault_words fault) }
 {

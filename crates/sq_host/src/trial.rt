@@ -1,4 +1,4 @@
-//! What can be known of a call before it is made and after.
+//! Trials of a call before it is made, and its cause after.
 
 ghost use Rattle.std.specs.Prelude.{◌≡◌, Ok, Some, false, IfErr, IfOk, replicate};
 ghost use Rattle.sq_value.specs.declared.value.Value.TheVariants.{Null};
@@ -18,7 +18,7 @@ use sq_value::Value;
 use std::alloc::{AllocError, Global};
 
 impl Host {
-    /// The fault for which a procedure answers 42000, in words; no words where it has none.
+    /// Tells the fault for which a procedure answers 42000; no words if it has none.
     pub(crate) fn why(&self, alloc: Global, procedure: usize) -> Result<Vec<u8>, Answer>
         ensures told { IfOk result (λ words. IsFaultIn procedure self.now.processor words.items) }
         ensures refused { IfErr result (IsWhy (is_faulty procedure self.now.processor)) }
@@ -32,7 +32,7 @@ impl Host {
         }
     }
 
-    /// Why the last call did not end with 00000, in words; no words where it did.
+    /// Tells why the last call did not end with 00000; no words if it did.
     pub(crate) fn cause(&self, alloc: Global) -> Result<Vec<u8>, Answer>
         ensures told { IfOk result (λ words. IsCauseIn self.now.processor self.now.last words.items) }
         ensures refused { IfErr result (IsWhy (caused self.now.processor self.now.last)) }
@@ -53,10 +53,15 @@ impl Host {
         }
     }
 
-    /// The place of the first value that doesn't fit its parameter; how many values there are if the procedure has more or
-    /// fewer parameters, or isn't there; none if the values fit.
+    /// Finds the place of the first value that doesn't fit its parameter; none if the values fit. If the
+    /// procedure doesn't exist, or has more or fewer parameters than values, it answers how many values there
+    /// are.
     #[tactic(auto, using(crate::proofs::Places::none_unfit_at))]
-    pub(crate) fn unfit(&self, alloc: Global, procedure: usize) -> Result<Option<usize>, Answer>
+    pub(crate) fn find_unfit(
+        &self,
+        alloc: Global,
+        procedure: usize,
+    ) -> Result<Option<usize>, Answer>
         ensures place { IfOk result (λ place.
             and_then (unfit_in procedure self.now.values.items) (opened self.now.processor) ≡ Ok place) }
         ensures taken { IfOk result (λ place.
@@ -73,15 +78,16 @@ impl Host {
         if processor.fits(procedure, values) {
             return Ok(None);
         }
-        match first_unfit(alloc, processor, procedure, values) {
+        match find_first_unfit(alloc, processor, procedure, values) {
             Ok(place) => Ok(Some(place)),
             Err(_) => Err(Answer::NoMemory),
         }
     }
 }
 
-/// The place of the first value that doesn't fit. Null fits each parameter, so it stands for each value behind the one that is tried.
-fn first_unfit(
+/// Finds the place of the first value that doesn't fit. Each place after the one that is tried has a null,
+/// since null fits each parameter.
+fn find_first_unfit(
     alloc: Global,
     processor: &Processor<HeapStore>,
     procedure: usize,

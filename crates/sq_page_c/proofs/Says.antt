@@ -1,4 +1,4 @@
--- What the answer to a run says.
+-- The answer to a run says how it ended.
 use Rattle.std.proofs.Common.{◌≡◌, List, [], Option, Some, Result, Ok, Err, refl, subst, sym}
 use Rattle.std.specs.Prelude.{IsErr}
 use Rattle.sq_exchange.specs.declared.answer.Answer.{Answer}

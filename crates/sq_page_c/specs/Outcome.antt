@@ -1,4 +1,4 @@
--- What a run comes to.
+-- The outcome of a run.
 use Rattle.std.specs.Prelude.{◌≡◌, IsErr, Ok, Result, ⊤}
 use Rattle.sq_exchange.specs.declared.answer.Answer.{Answer}
 use Rattle.sq_exchange.specs.declared.answer.Answer.TheVariants.{Done, Refused}
@@ -11,14 +11,14 @@ use Rattle.sq_run.specs.declared.RunFault.{RunFault}
 use Rattle.sq_show.specs.Page.{StepsThrough}
 use Rattle.sq_page_c.specs.declared.outcome.Outcome.{Outcome}
 
--- how a run that stops for this fault is answered: as refused only where a text is
+-- how a run that stops for this fault is answered: as refused only if a text is
 abbrev pub IsOfStop : RunFault → Answer → Type 0
 IsOfStop fault Refused = IsOfTexts fault
 IsOfStop fault answer.NoMemory = ⊤
 IsOfStop fault _ = ⊥
 
--- What an answer says of what texts come to, and of the text that comes with it: that this is their report; or that one of them is refused. Where
--- memory ran out, or the number of rows is out of bounds, it says no more.
+-- An answer says of the text that comes with it that this is the report, or that a text is refused. If memory
+-- ran out, or the number of rows is out of bounds, it says no more.
 abbrev pub Says : Result Task RunFault → Bytes → Answer → Type 0
 Says task text Done = reported task ≡ Ok text
 Says task text Refused = IsErr task
@@ -30,7 +30,7 @@ pub record ShowsSteps (task : Result Task RunFault) (page : Bytes) : Type 0 wher
   pub is : reported task ≡ Ok report
   pub steps : StepsThrough page report
 
--- the same, where the text is a page
+-- the same, if the text is a page
 abbrev pub SaysSteps : Result Task RunFault → Bytes → Answer → Type 0
 SaysSteps task text Done = ShowsSteps task text
 SaysSteps task text Refused = IsErr task

@@ -1,4 +1,4 @@
--- What a page is shown.
+-- The result that a page is shown.
 use Rattle.std.specs.Prelude.{◌≡◌, ℕ, ℤ, List, length}
 use Rattle.sq_exchange.specs.Answer.{code}
 use Rattle.sq_exchange.specs.Room.{room_answer, with_text}
@@ -7,7 +7,7 @@ use Rattle.sq_exchange.specs.declared.answer.Answer.TheVariants.{Done}
 use Rattle.sq_meaning.specs.Report.{Bytes}
 use Rattle.sq_page_c.specs.declared.outcome.Outcome.{Outcome}
 
--- the answer behind a text that was put in a room
+-- the answer after a text was put into a room
 abbrev pub answer_of : Answer → Answer → Answer
 answer_of Done answer = answer
 answer_of other answer = other
@@ -16,7 +16,7 @@ answer_of other answer = other
 abbrev pub answer_in : Outcome → Bytes → Answer
 answer_in o room = answer_of (room_answer o.text.items room) o.answer
 
--- Such an outcome is in the room that was there before, if there is room for it; with its answer, and the length of its text.
+-- Such an outcome is put into the room, if there is room for it, with its answer and the length of its text.
 pub record IsShown (Is : Outcome → Type 0) (before after : Bytes) (count : ℕ) (answer : ℤ) : Type 0 where
   pub outcome : Outcome
   pub is : Is outcome

@@ -1,10 +1,10 @@
--- Texts that come one behind the other.
+-- Texts that come one after the other.
 use Rattle.std.specs.Prelude.{◌≡◌, ℕ, List, [], ◌∷◌, take, drop}
 use Rattle.sq_meaning.specs.Report.{Bytes}
 use Rattle.sq_run.specs.Texts.{texts}
 use Rattle.sq_page_c.specs.declared.texts.RunTexts.{RunTexts}
 
--- The texts of these lengths that stand one behind the other. Where bytes are lacking, a text is shorter.
+-- The texts of these lengths, one after the other. If bytes are lacking, a text is shorter.
 abbrev pub pieces : List ℕ → Bytes → List Bytes
 pieces [] bytes = []
 pieces (n ∷ lengths) bytes = take n bytes ∷ pieces lengths (drop n bytes)

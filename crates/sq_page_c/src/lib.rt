@@ -22,8 +22,9 @@ use texts::run_texts;
 
 /// Runs a script on schemas and modules, and puts the report, or the line of a refusal, in a room.
 ///
-/// It answers 0 with the report, 3 with the line of a refusal, 4 if memory ran out, 6 if the number of rows is out of
-/// bounds, and 10 if the room is too small for the text and a zero. `count` is the length of the text in any case.
+/// It answers 0 with the report, 3 with the line of a refusal, and 4 if memory ran out. It answers 6 if the
+/// number of rows is out of bounds. It answers 10 if the room is too small for the text and a zero. `count`
+/// is the length of the text in any case.
 #[unsafe(no_mangle)]
 pub extern "C" fn sq_page_run(
     alloc: Global,
@@ -44,8 +45,8 @@ pub extern "C" fn sq_page_run(
     put(&outcome, room, count).code()
 }
 
-/// Puts a page that steps through the same run in a room, as `trace_page` of sq_show makes it: without their notes the lines of its steps
-/// are the report. It answers as `sq_page_run` does.
+/// Puts a page that steps through the same run in a room, as `trace_page` of sq_show makes it. Without their
+/// notes the lines of its steps are the report. It answers as `sq_page_run` does.
 #[unsafe(no_mangle)]
 pub extern "C" fn sq_page_steps(
     alloc: Global,

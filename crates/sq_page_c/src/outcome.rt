@@ -1,4 +1,4 @@
-//! What a run comes to, and how it is put in a room.
+//! The outcome of a run, and how it is put in a room.
 
 ghost use Rattle.std.specs.Prelude.{◌≡◌, length, OnOk};
 ghost use Rattle.sq_exchange.specs.Room.{with_text};
@@ -10,7 +10,7 @@ use sq_exchange::{Answer, put_text};
 use sq_run::{Refusal, RunFault};
 use std::alloc::{AllocError, Global};
 
-/// The answer to a page, and the text that it is about: what was asked for, or the line of a refusal.
+/// The answer to a page, and the text that it is about: the report or the page, or the line of a refusal.
 #[derive(Drop)]
 pub(crate) struct Outcome {
     pub(crate) answer: Answer,
@@ -27,8 +27,8 @@ pub(crate) fn without_text(alloc: Global, answer: Answer) -> Outcome
     }
 }
 
-/// The outcome of a run that stopped: the line of the refusal, or that memory ran out.
-pub(crate) fn stopped(alloc: Global, fault: RunFault) -> Outcome
+/// Makes the outcome of a run that stopped: the line of the refusal, or that memory ran out.
+pub(crate) fn outcome_of_stop(alloc: Global, fault: RunFault) -> Outcome
     ensures { IsOfStop fault result.answer }
 {
     match line_of(alloc, fault) {

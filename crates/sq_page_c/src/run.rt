@@ -7,7 +7,7 @@ ghost use Rattle.sq_page_c.specs.Texts.{AreTexts};
 ghost use Rattle.sq_run.specs.Answer.{answered};
 ghost use Rattle.sq_run.specs.Texts.{texts};
 
-use crate::outcome::{Outcome, stopped, without_text};
+use crate::outcome::{Outcome, outcome_of_stop, without_text};
 use crate::texts::RunTexts;
 use sq_exchange::Answer;
 use sq_heap::HeapStore;
@@ -15,7 +15,7 @@ use sq_run::{Limits, OutOf, run};
 use sq_store::MOST_ROW_NUMBERS;
 use std::alloc::Global;
 
-/// What a run of these texts comes to.
+/// Runs the script on these texts, and makes the outcome.
 pub(crate) fn outcome_of_run(
     alloc: Global,
     given: &Option<RunTexts>,
@@ -46,7 +46,8 @@ fn report_of(
     limits: Limits,
 ) -> Outcome
     requires { limits.row_numbers ≤ MOST_ROW_NUMBERS }
-    ensures { IsOutcome (answered (texts schemas.now) (texts modules.now) script.now limits.row_numbers) result }
+    ensures { IsOutcome
+        (answered (texts schemas.now) (texts modules.now) script.now limits.row_numbers) result }
 {
     let mut out = OutOf::new(Vec::new(alloc));
     let ended = run::<HeapStore, OutOf<Vec<u8>>>(alloc, schemas, modules, script, limits, &mut out);
@@ -58,7 +59,7 @@ fn report_of(
         },
         Err(fault) => {
             drop(report);
-            stopped(alloc, fault)
+            outcome_of_stop(alloc, fault)
         }
     }
 }

@@ -7,7 +7,7 @@ ghost use Rattle.sq_page_c.specs.Texts.{AreTexts};
 ghost use Rattle.sq_run.specs.Answer.{answered};
 ghost use Rattle.sq_run.specs.Texts.{texts};
 
-use crate::outcome::{Outcome, stopped, without_text};
+use crate::outcome::{Outcome, outcome_of_stop, without_text};
 use crate::texts::RunTexts;
 use sq_exchange::Answer;
 use sq_heap::HeapStore;
@@ -46,7 +46,8 @@ fn page_of(
     limits: Limits,
 ) -> Outcome
     requires { limits.row_numbers ≤ MOST_ROW_NUMBERS }
-    ensures { IsSteps (answered (texts schemas.now) (texts modules.now) script.now limits.row_numbers) result }
+    ensures { IsSteps
+        (answered (texts schemas.now) (texts modules.now) script.now limits.row_numbers) result }
 {
     let options = TraceOptions {
         tables: false,
@@ -54,7 +55,7 @@ fn page_of(
     };
     let mut session = match open_session::<HeapStore>(alloc, schemas, modules, limits) {
         Ok(session) => session,
-        Err(fault) => return stopped(alloc, fault),
+        Err(fault) => return outcome_of_stop(alloc, fault),
     };
     match read_script(alloc, &session, script) {
         Ok(actions) => match trace_page(alloc, &mut session, actions.as_slice(), options) {
@@ -64,6 +65,6 @@ fn page_of(
             },
             Err(_) => without_text(alloc, Answer::NoMemory),
         },
-        Err(fault) => stopped(alloc, fault),
+        Err(fault) => outcome_of_stop(alloc, fault),
     }
 }

@@ -1,4 +1,4 @@
-//! Texts that come one behind the other.
+//! Texts that come one after the other.
 
 ghost use Rattle.std.specs.Prelude.{◌≡◌, ◌++◌, ◌∷◌, [], IfOk, IfSome, OnOk};
 ghost use Rattle.sq_page_c.specs.Texts.{AreTexts, pieces};
@@ -36,7 +36,7 @@ pub(crate) fn run_texts(
     }
 }
 
-/// The texts of these lengths that stand one behind the other.
+/// Cuts bytes into the texts of these lengths, one after the other.
 #[tactic(auto, using(std::proofs::lemmas::List::take_min, std::proofs::lemmas::List::drop_min))]
 pub(crate) fn texts_of(
     alloc: Global,

@@ -1,4 +1,4 @@
--- Bytes that stand in other words.
+-- Bytes that are written in other words.
 use Rattle.std.specs.Prelude.{ℕ, Bool, ◌==◌, ◌+◌, ◌-◌, ◌/◌, ◌%◌, ◌&&◌, ◌||◌, true, ◌++◌, List, [], ◌∷◌, codes, if◌then◌else◌, nat_lt, nat_le}
 
 abbrev pub one : ℕ → List ℕ
@@ -16,7 +16,7 @@ escaped byte =
 abbrev pub digit : ℕ → ℕ
 digit value = if nat_lt value 10 then 48 + value else 65 + (value - 10)
 
--- A byte of a name in TAP: `#` and the backslash stand behind a backslash, and a control character is `?`.
+-- A byte of a name in TAP: `#` and the backslash come after a backslash, and a control character is `?`.
 abbrev pub named : ℕ → List ℕ
 named byte =
     if byte == 35 || byte == 92 then 92 ∷ one byte
@@ -28,7 +28,7 @@ abbrev pub indented : Bool → List ℕ → List ℕ
 indented starts [] = []
 indented starts (byte ∷ bytes) = (if starts then codes "  " else []) ++ (byte ∷ indented (byte == 10) bytes)
 
--- A byte of a line: printable ones stand as they are, but a backslash is doubled.
+-- A byte of a line: printable ones are as they are, but a backslash is doubled.
 abbrev pub shown : ℕ → List ℕ
 shown byte =
     if byte == 92 then codes "\\\\"

@@ -1,4 +1,4 @@
--- What a case wants.
+-- The outcomes that a case wants.
 use Rattle.std.specs.Prelude.{◌≡◌, ℕ, Bool, true, false, [], Option, Some, None, Result, Ok, Err, Vec, IsSomeAnd, IsOkAnd}
 use Rattle.std.specs.declared.alloc.Global.{Global}
 use Rattle.sq_suite.specs.declared.outcome.Outcome.{Outcome}
@@ -20,7 +20,7 @@ Reports report outcome = (outcome.report ≡ report) × (outcome.errors.items �
 abbrev pub Refuses : Bytes → Outcome → Type 0
 Refuses errors outcome = (outcome.report.items ≡ []) × (outcome.errors ≡ errors) × (outcome.status ≡ 2)
 
--- What a folder with or without a script wants, by its report and its refusal.
+-- A folder with or without a script wants this, by its report and its refusal.
 abbrev pub Wants : Bool → Option Bytes → Option Bytes → Result (Option Outcome) Unclear → Type 0
 Wants true (Some report) None result = IsOkAnd result (λ wanted. IsSomeAnd wanted (Reports report))
 Wants true None (Some refusal) result = IsOkAnd result (λ wanted. IsSomeAnd wanted (Refuses refusal))

@@ -26,7 +26,8 @@ fn push_escaped_byte(out: &mut Vec<u8>, byte: u8) -> Result<(), AllocError>
     }
 }
 
-/// Adds a line without its end, in printable bytes: a backslash is doubled, and any other byte stands as `\x` with two digits.
+/// Adds a line without its end, in printable bytes. A backslash is doubled, and any other byte becomes `\x`
+/// with two digits.
 pub(crate) fn push_shown(out: &mut Vec<u8>, line: &[u8]) -> Result<(), AllocError>
     ensures { OnOk result (out.new.items ≡ out.old.items ++ flat_map spec.shown line.now) }
 {
@@ -65,7 +66,8 @@ fn push(out: &mut Vec<u8>, byte: u8) -> Result<(), AllocError>
     Ok(())
 }
 
-/// Adds a name as TAP has it: `#` and the backslash stand behind a backslash, and in place of a control character a `?`.
+/// Adds a name as TAP has it: with a backslash before `#` and the backslash, and a `?` in place of a control
+/// character.
 pub(crate) fn push_named(out: &mut Vec<u8>, name: &[u8]) -> Result<(), AllocError>
     ensures { OnOk result (out.new.items ≡ out.old.items ++ flat_map spec.named name.now) }
 {

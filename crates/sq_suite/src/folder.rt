@@ -1,8 +1,8 @@
-//! What the name of a file in a case's folder says of it.
+//! The meaning of a file's name in a case's folder.
 ghost use Rattle.std.specs.Prelude.{◌≡◌};
 ghost use Rattle.sq_suite.specs.Folder as spec;
 
-/// What a file holds.
+/// The content of a file.
 #[derive(Clone, Copy, Debug, PartialEq, Eq)]
 pub enum Kind {
     /// A schema text: `schema*.sql`, in any letter case.
@@ -13,7 +13,7 @@ pub enum Kind {
     Other,
 }
 
-/// What a file of this name holds.
+/// Finds what a file of this name holds.
 pub fn kind_of(name: &str) -> Kind
     ensures { result ≡ spec.kind_of name.now }
 {

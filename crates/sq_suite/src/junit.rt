@@ -16,7 +16,7 @@ pub fn write_start(
     out.extend_from_slice(start.as_bytes())
 }
 
-/// Adds a case; where it is wrong, with what is to be said.
+/// Adds a case; if it is wrong, with the words on it.
 pub fn write_case(
     out: &mut Vec<u8>,
     name: &str,

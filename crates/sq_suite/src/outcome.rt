@@ -1,4 +1,4 @@
-//! What a case wants, what it comes to, and how the two differ.
+//! The outcome that a case wants, the one that it has, and how the two differ.
 ghost use Rattle.std.specs.Prelude.{◌≡◌, ◌↔◌, IsTrue};
 ghost use Rattle.sq_suite.specs.Outcome as spec;
 
@@ -7,12 +7,12 @@ use crate::difference::write_difference;
 use std::alloc::{AllocError, Global};
 use std::fmt;
 
-/// What a program writes to standard output and to standard error, and its status.
+/// The bytes that a program writes to standard output and to standard error, and its status.
 #[derive(Debug, Drop)]
 pub struct Outcome {
-    /// What it writes to standard output.
+    /// The bytes on standard output.
     pub report: Vec<u8>,
-    /// What it writes to standard error.
+    /// The bytes on standard error.
     pub errors: Vec<u8>,
     /// The status that it ends with.
     pub status: u8,
@@ -39,8 +39,9 @@ impl fmt::Display for Unclear {
     }
 }
 
-/// What a folder wants of its script, if it has one, by the texts of its `report.txt` and its `refusal.txt`.
-pub fn wanted(
+/// Makes the outcome that a folder wants of its script, if it has one, by its `report.txt` and its
+/// `refusal.txt`.
+pub fn wanted_outcome(
     alloc: Global,
     has_script: bool,
     report: Option<Vec<u8>>,

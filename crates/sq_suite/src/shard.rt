@@ -11,7 +11,7 @@ pub struct Shard {
 
 impl Shard {
     /// All cases.
-    pub fn whole() -> Shard {
+    pub fn all() -> Shard {
         Shard {
             number: 1,
             count: 1,
@@ -30,7 +30,7 @@ impl Shard {
         }
     }
 
-    /// Whether the part has the case behind `index` others.
+    /// Whether the part has the case after `index` others.
     pub fn has(self, index: usize) -> bool
         ensures { result ≡ (index % self.count + 1 == self.number) }
     {

@@ -1,5 +1,5 @@
--- Command lines, by the definitions: what is refused, by which kind, and what is read
--- of those that are taken.
+-- Command lines, by the definitions: the kinds of those that are refused, and the values read of those that
+-- are taken.
 use Rattle.std.proofs.Common.{◌≡◌, ℕ, refl, List, [], ◌∷◌, Option, Some, None}
 use Rattle.std.specs.Prelude.{codes, option_map}
 use Rattle.clap.specs.Words.{Text, fault_of, first_of, one_of, subcommand_of}
@@ -14,7 +14,7 @@ call words = codes "sqmod" ∷ codes "run" ∷ words
 abbrev with_rows : Text → List Text
 with_rows number = call (codes "--script" ∷ codes "c" ∷ codes "--rows" ∷ number ∷ [])
 
--- what is read of the words
+-- the values read of the words
 abbrev read : List Text → Option (List Text × List Text × Option Text × ℕ)
 read words =
     option_map (λ run. (

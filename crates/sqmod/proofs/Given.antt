@@ -1,4 +1,4 @@
--- What a subcommand was given, where a parse had no fault.
+-- The values that a subcommand was given, if a parse had no fault.
 use Rattle.std.proofs.Common.{◌≡◌, ◌∙◌, ◌<◌, ◌||◌, Bool, cond, true, false, not, refl, sym, ap, ap₂, subst, arith, true≢false}
 use Rattle.std.proofs.Common.{List, [], ◌∷◌, length, Option, Some, None, is_some}
 use Rattle.std.specs.Prelude.{IfSome, codes, find, option_and_then, option_map, slice_get, unwrap_or}
@@ -102,7 +102,7 @@ IsSoundShell = AllPassed shell_level.rules
 abbrev pub IsSoundNew : List Row → Type 0
 IsSoundNew = IsSound new_level.rules (codes "folder")
 
--- where one argument must be given, a level without a fault was given it
+-- if one argument must be given, a level without a fault was given it
 is_required : (b : Bool) → cond (not b || false) (MissingRequiredArgument ∷ []) [] ≡ [] → b ≡ true
 is_required true e = refl
 is_required false e = some_kind _ _ e
@@ -125,7 +125,7 @@ sound_new words none =
     let level = level_passed new_level [] words false [] new_options none in
     (level.rows, is_required (is_given (codes "folder") (rows_at new_level words).1) level.checked)
 
--- a name other than `help` is not that of the subcommand `help`
+-- a name other than `help` is not the name of the subcommand `help`
 no_help : (name : Text) → bytes_eq name (codes "help") ≡ false → answers_to name (label_of help_level) ≡ true → ⊥
 no_help name other named = go (bytes_eq (codes "help") name) refl named
   where
@@ -136,7 +136,7 @@ no_help name other named = go (bytes_eq (codes "help") name) refl named
         true≢false bad
     go false e h = true≢false (sym h)
 
--- what was given to a subcommand of this name passed
+-- the values that a subcommand of this name was given passed
 pub record IsSoundFor (name : Text) (rows : List Row) : Type 0 where
   pub run : bytes_eq name (codes "run") ≡ true → IsSoundRun rows
   pub trace : bytes_eq name (codes "trace") ≡ true → IsSoundTrace rows
@@ -324,7 +324,7 @@ meets_one words none =
     let level = level_passed whole.top (names_of whole) given (is_some (entered whole stop)) (entered_fault whole stop) top_options none in
     met_one (rows_after whole.top.rules (names_of whole) given) stop level.stop level.under level.checked
 
--- ---- what `run` was given
+-- ---- the values that `run` was given
 
 abbrev row_numbers : ValueParser
 row_numbers = Unsigned 1 MOST_ROW_NUMBERS
@@ -403,7 +403,7 @@ traced_rows_in_range rows sound = in_range trace_level.rules _ refl (record { ig
 pub shell_rows_in_range : (rows : List Row) → IsSoundShell rows → HasRowNumbers rows
 shell_rows_in_range = in_range shell_level.rules _ refl (record { ignore_case = refl; parser = refl })
 
--- what a subcommand was given is what its request is made of
+-- the request of a subcommand is made of the values that it was given
 pub given_for : (name : Text) (rows : List Row) → is_subcommand name ≡ true → IsSoundFor name rows → IsGiven name rows
 given_for name rows known sound = record {
   is = known;

@@ -1,4 +1,4 @@
--- What is left of texts, where one piece after the other is passed over.
+-- The rest of texts after one piece after the other is passed over.
 use Rattle.std.proofs.Common.{◌≡◌, ◌∙◌, ℕ, zero, suc, List, [], ◌∷◌, ◌++◌, ap, refl, slice_set, sym, subst, get_or, Vec}
 use Rattle.std.specs.declared.alloc.Global.{Global}
 use Rattle.sq_advice.specs.Passed.{IsLeft, all_passed, passed}

@@ -1,4 +1,4 @@
--- What a level of a parse with no fault leaves: rows whose values passed, and no call for help.
+-- A level of a parse with no fault leaves rows whose values passed, and no call for help.
 use Rattle.std.proofs.Common.{◌≡◌, ◌&&◌, ◌||◌, ℕ, Bool, cond, true, false, not, zero, suc, refl, sym, ap, subst, arith, true≢false}
 use Rattle.std.proofs.Common.{List, [], ◌∷◌, length, drop, Option, Some, None, is_some}
 use Rattle.std.specs.Prelude.{codes, encode_utf8, slice_get, unwrap_or, find, fold, ⊤}
@@ -22,7 +22,7 @@ use Rattle.clap.specs.declared.error.kind.ErrorKind.TheVariants.{DisplayHelp, In
 use Rattle.clap.specs.declared.parser.matches.ValueSource.TheVariants.{DefaultValue}
 use Rattle.sqmod.proofs.Uses.{AllPassed, Each, IsOption, neither, some_kind, use_kept, values_kept}
 
--- what is found is of the list
+-- a found element is of the list
 found_each : (P : Rule → Type 0) (p : Rule → Bool) (xs : List Rule) (a : Rule) → Each P xs → find p xs ≡ Some a → P a
 found_each P p [] a each e = absurd (true≢false (sym (ap is_some e)))
 found_each P p (x ∷ xs) a each e = go (p x) e (found_each P p xs a each.1)
@@ -291,7 +291,7 @@ module _ (c : List Rule) where
       let parts = neither (default_fault rows a) _ none in
       defaults_kept rest (with_default rows a) each.1 parts.1 (default_kept a rows each.0 parts.0 all)
 
--- what a level with no fault leaves
+-- a level with no fault leaves this
 pub record IsLevel (s : Shape) (names : Names) (words : List Text) (has_subcommand : Bool) (below : Kinds) : Type 0 where
   pub rows : AllPassed s.rules (rows_after s.rules names words)
   pub stop : IsPastHelp s (stop_after s.rules names words)

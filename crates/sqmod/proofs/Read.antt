@@ -1,4 +1,4 @@
--- What the getters read of the rows that a parse left.
+-- The values that the getters read of the rows that a parse left.
 use Rattle.std.proofs.Common.{◌≡◌, ◌∙◌, ◌≤◌, ℕ, refl, sym, ap, arith, List, [], map, Option, Some, None, Result, Ok}
 use Rattle.std.proofs.Common.{Err, subst, true}
 use Rattle.std.specs.Prelude.{IfSome, codes, option_map, unwrap_or}
@@ -59,7 +59,7 @@ pub script_read : (f : Entries) (given : Option (Bor Text)) → option_map (λ s
     → option_map (λ s. s.now) given ≡ first_of (codes "script") (rows_of f)
 script_read f = first_read f (codes "script")
 
--- what a parse that ended well found: words with no fault, which name a subcommand
+-- a parse that ended well found words with no fault, which name a subcommand
 pub record Found (words : List Text) (m : ArgMatches) : Type 0 where
   pub no_fault : fault_of sqmod words ≡ []
   pub met : MeetsOne (subcommand_of sqmod words)

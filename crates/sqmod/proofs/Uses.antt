@@ -20,7 +20,7 @@ use Rattle.clap.specs.declared.parser.matches.ValueSource.TheVariants.{CommandLi
 
 -- ---- definitions
 
--- a use leaves a value: one is given at least, or one stands for none
+-- a use leaves a value: at least one is given, or the argument has one for none
 abbrev pub leaves_value : Rule → Bool
 leaves_value a = nat_lt 0 (unwrap_or_range a.range).start_inclusive || not (is_empty a.missing)
 

@@ -1,4 +1,4 @@
--- What binds modules to a host's language.
+-- The text that binds modules to a host's language.
 use Rattle.std.specs.Prelude.{◌≡◌, ℕ, List, Vec}
 use Rattle.std.specs.declared.alloc.Global.{Global}
 use Rattle.sq_bindings.specs.Binding.{bound_text}

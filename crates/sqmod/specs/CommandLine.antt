@@ -76,7 +76,7 @@ run =
     let with_modules = with_rule with_schemas (files_rule (codes "module")) in
     with_rule (with_rule with_modules script_rule) rows_rule
 
--- A word that stands without an option.
+-- A word without an option.
 abbrev pub name_rule : Rule
 name_rule = record (new_rule (codes "name")) { value_names = 1; action = Some Set }
 
@@ -117,7 +117,7 @@ shell =
     let with_schemas = with_rule (new_app (codes "shell")) (files_rule (codes "schema")) in
     with_rule (with_rule with_schemas (files_rule (codes "module"))) rows_rule
 
--- A word that stands without an option, and must be given.
+-- A word without an option that must be given.
 abbrev pub folder_rule : Rule
 folder_rule = record (new_rule (codes "folder")) { value_names = 1; action = Some Set; required = true }
 
@@ -125,14 +125,15 @@ folder_rule = record (new_rule (codes "folder")) { value_names = 1; action = Som
 abbrev pub new : App
 new = with_rule (new_app (codes "new")) folder_rule
 
--- Words that stand without an option.
+-- Words without an option.
 abbrev pub folders_rule : Rule
 folders_rule = record (new_rule (codes "folder")) { value_names = 1; action = Some Append; required = true }
 
 -- `test FOLDER... [--filter GLOB]... [--shard K/N]`
 abbrev pub selecting : App
 selecting =
-    let with_filters = with_rule (with_rule (new_app (codes "test")) folders_rule) (files_rule (codes "filter")) in
+    let with_filters = with_rule (with_rule (new_app (codes "test")) folders_rule)
+    (files_rule (codes "filter")) in
     with_rule with_filters (value_rule (codes "shard"))
 
 -- `test FOLDER... [--filter GLOB]... [--shard K/N] [--junit F] [--list] [--update]`
@@ -144,7 +145,8 @@ test =
 -- `sqmod` with `run` and `check`, of which one must be given
 abbrev pub of_files : App
 of_files =
-    let without = on_top (λ shape. record shape { has_version = true; subcommand_required = true }) (new_app (codes "sqmod")) in
+    let without = on_top (λ shape. record shape { has_version = true; subcommand_required = true })
+    (new_app (codes "sqmod")) in
     with_subcommand (with_subcommand without run.top) check.top
 
 -- `sqmod` with those, `trace` and `shell`
@@ -168,7 +170,7 @@ sqmod =
     let with_header = with_subcommand told (bind (codes "bind-c")).top in
     with_subcommand (with_subcommand with_header (bind (codes "bind-cobol")).top) new.top
 
--- ---- what `run` was given
+-- ---- the values that `run` was given
 
 -- the files that an option gave, in the order of the words
 abbrev pub files_of : Text → List Row → List Text
@@ -196,13 +198,13 @@ pub record Makes (rows : List Row) (request : Request) : Type 0 where
   pub script : Some request.script.now ≡ first_of (codes "script") rows
   pub row_numbers : request.row_numbers ≡ row_numbers_of rows
 
--- A flag is set where it was given.
+-- A flag is set if it was given.
 pub record IsFlag (rows : List Row) (name : Text) (flag : Bool) : Type 0 where
   pub none : one_of name rows ≡ None → flag ≡ false
   pub given : one_of name rows ≡ Some (codes "true") → flag ≡ true
   pub other : one_of name rows ≡ Some (codes "false") → flag ≡ false
 
--- ---- what `check`, `trace` and `shell`, and what binds modules were given
+-- ---- the values that `check`, `trace`, `shell` and the commands that bind modules were given
 
 -- The schemas and modules of what was given; what binds modules is given no schemas.
 pub record MakesTexts (rows : List Row) (request : TextsRequest) : Type 0 where
@@ -228,7 +230,7 @@ pub record MakesShell (rows : List Row) (request : ShellRequest) : Type 0 where
   pub texts : MakesTexts rows request.texts
   pub row_numbers : request.row_numbers ≡ row_numbers_of rows
 
--- ---- what `new` was given
+-- ---- the values that `new` was given
 
 abbrev pub HasFolder : List Row → Type 0
 HasFolder rows = IsSome (first_of (codes "folder") rows)
@@ -237,13 +239,13 @@ HasFolder rows = IsSome (first_of (codes "folder") rows)
 abbrev pub MakesNew : List Row → NewRequest → Type 0
 MakesNew rows request = Some request.folder.now ≡ first_of (codes "folder") rows
 
--- ---- what `explain` was given
+-- ---- the values that `explain` was given
 
 -- The request that `explain` makes of what it was given.
 abbrev pub MakesExplain : List Row → ExplainRequest → Type 0
 MakesExplain rows request = option_map (λ name. name.now) request.name ≡ first_of (codes "name") rows
 
--- ---- what `test` was given
+-- ---- the values that `test` was given
 
 -- The request that `test` makes of what it was given.
 pub record MakesTest (rows : List Row) (request : TestRequest) : Type 0 where
@@ -254,7 +256,7 @@ pub record MakesTest (rows : List Row) (request : TestRequest) : Type 0 where
   pub list : IsFlag rows (codes "list") request.list
   pub update : IsFlag rows (codes "update") request.update
 
--- ---- what the words ask for
+-- ---- the task that the words ask for
 
 -- a subcommand that runs no script
 abbrev pub is_other : Text → Bool

@@ -1,4 +1,4 @@
--- What comes of a request.
+-- The results of a request.
 use Rattle.std.specs.Prelude.{◌≡◌, ℕ, ⊤, length, Option, Result, Ok, Err}
 use Rattle.sq_perform.specs.declared.refusal.RunFault.{RunFault}
 use Rattle.sq_perform.specs.declared.refusal.RunFault.TheVariants as run
@@ -15,7 +15,7 @@ pub record AreTexts (request : Request) (texts : Texts) : Type 0 where
   pub schemas : length texts.schemas.items ≡ length request.schemas.items
   pub modules : length texts.modules.items ≡ length request.modules.items
 
--- what a fault of a run is for the program
+-- the program's fault for a fault of a run
 abbrev pub fault_of : RunFault → Fault
 fault_of (run.SchemaRefused refusal) = Refused (Schema refusal.text) refusal
 fault_of (run.ModuleRefused refusal) = Refused (Module refusal.text) refusal

@@ -1,4 +1,4 @@
-//! What binds modules to a host's language, on standard output.
+//! Prints the text that binds modules to a host's language on standard output.
 ghost use Rattle.std.specs.Prelude.{◌≡◌, IfErr, IfOk, length};
 ghost use Rattle.sq_perform.specs.Texts.{AllSpell, SpellsTree, texts};
 ghost use Rattle.sq_tree.specs.Module.{module_tokens, module_depth};
@@ -26,7 +26,7 @@ pub(crate) fn status_of_bind<R: Files + Print + Eprint + AllocGlobal>(
     host: Host,
     request: &TextsRequest<'_>,
 ) -> u8 {
-    match bound(rt, host, request) {
+    match read_and_bind(rt, host, request) {
         Ok(text) => status_of_text(rt, request, text.as_slice()),
         Err(fault) => report_checked(rt, request, fault),
     }
@@ -45,8 +45,9 @@ fn print_text<R: Print>(rt: &R, text: &[u8]) -> io::Result<()> {
     writer.flush()
 }
 
-/// The text that binds the modules of a request to a host's language. They are refused as a run refuses them.
-fn bound<R: Files + AllocGlobal>(
+/// Reads the modules of a request and binds them to a host's language. They are refused as a run refuses
+/// them.
+fn read_and_bind<R: Files + AllocGlobal>(
     rt: &R,
     host: Host,
     request: &TextsRequest<'_>,
@@ -54,19 +55,19 @@ fn bound<R: Files + AllocGlobal>(
     ensures { IfErr result (NamesCheckedFile request.now) }
 {
     let sources = read_sources(rt, request.schemas.as_slice(), request.modules.as_slice())?;
-    let answer = bound_to(rt.alloc(), host, &sources);
+    let answer = bind_to(rt.alloc(), host, &sources);
     drop(sources);
     answer
 }
 
-/// The text that binds modules to a host's language, by its templates, which keep off the words that are in use there.
-fn bound_to(alloc: Global, host: Host, sources: &Sources) -> Result<Vec<u8>, Fault>
+/// Binds modules to a host's language, by its templates, which keep off the words that are in use there.
+fn bind_to(alloc: Global, host: Host, sources: &Sources) -> Result<Vec<u8>, Fault>
     ensures { IfErr result
         (NamesOneOf (length sources.now.schemas.items) (length sources.now.modules.items)) }
 {
     match words_in_use(alloc, host) {
         Ok(words) => {
-            let answer = bound_by(alloc, host, words.as_slice(), sources);
+            let answer = bind_with_words(alloc, host, words.as_slice(), sources);
             drop(words);
             answer
         }
@@ -74,14 +75,19 @@ fn bound_to(alloc: Global, host: Host, sources: &Sources) -> Result<Vec<u8>, Fau
     }
 }
 
-fn bound_by(alloc: Global, host: Host, words: &[&[u8]], sources: &Sources) -> Result<Vec<u8>, Fault>
+fn bind_with_words(
+    alloc: Global,
+    host: Host,
+    words: &[&[u8]],
+    sources: &Sources,
+) -> Result<Vec<u8>, Fault>
     ensures { IfErr result
         (NamesOneOf (length sources.now.schemas.items) (length sources.now.modules.items)) }
 {
     match passes_of(alloc, host) {
         Ok(passes) => {
             let language = language_of(host, words, passes.as_slice());
-            let answer = bound_sources(alloc, &language, sources);
+            let answer = bind_sources(alloc, &language, sources);
             drop(passes);
             answer
         }
@@ -91,11 +97,7 @@ fn bound_by(alloc: Global, host: Host, words: &[&[u8]], sources: &Sources) -> Re
 
 /// Refuses the modules as a run without schemas does, and binds them.
 #[tactic(auto, using(crate::proofs::Named::checked_one))]
-fn bound_sources(
-    alloc: Global,
-    language: &Language<'_>,
-    sources: &Sources,
-) -> Result<Vec<u8>, Fault>
+fn bind_sources(alloc: Global, language: &Language<'_>, sources: &Sources) -> Result<Vec<u8>, Fault>
     ensures bound { IfOk result (Binds language.now (texts sources.now.modules.items)) }
     ensures names { IfErr result
         (NamesOneOf (length sources.now.schemas.items) (length sources.now.modules.items)) }
@@ -107,13 +109,13 @@ fn bound_sources(
     ) {
         Ok(checked) => {
             drop(checked);
-            bound_modules(alloc, language, sources.modules.as_slice())
+            bind_module_texts(alloc, language, sources.modules.as_slice())
         }
         Err(fault) => Err(fault_of(fault)),
     }
 }
 
-fn bound_modules(
+fn bind_module_texts(
     alloc: Global,
     language: &Language<'_>,
     modules: &[Vec<u8>],
@@ -121,14 +123,14 @@ fn bound_modules(
     ensures bound { IfOk result (Binds language.now (texts modules.now)) }
     ensures memory { IfErr result (λ fault. fault ≡ NoMemory 0) }
 {
-    match bound_texts(alloc, language, modules) {
+    match bind_texts(alloc, language, modules) {
         Ok(text) => Ok(text),
         Err(_) => Err(Fault::NoMemory(0)),
     }
 }
 
-/// The text that binds module texts, none of which is refused.
-fn bound_texts(
+/// Binds module texts, none of which is refused.
+fn bind_texts(
     alloc: Global,
     language: &Language<'_>,
     modules: &[Vec<u8>],
@@ -141,7 +143,7 @@ fn bound_texts(
     text
 }
 
-/// The trees of module texts, none of which is refused, so that memory alone can fail.
+/// Reads the trees of module texts, none of which is refused, so that memory alone can fail.
 fn trees_of(alloc: Global, modules: &[Vec<u8>]) -> Result<Vec<ModuleText>, AllocError>
     ensures { IfOk result (λ trees. AllSpell module_tokens module_depth (texts modules.now) trees.items) }
 {

@@ -1,4 +1,4 @@
-//! What is to be said of schema and module texts, and of a script, on standard output.
+//! Remarks on schema and module texts, and on a script, on standard output.
 ghost use Rattle.std.specs.Prelude.{◌≡◌, IfErr, IfOk, length};
 ghost use Rattle.sq_perform.specs.Checked.{AreCheckedTexts};
 ghost use Rattle.sq_perform.specs.Texts.{texts};
@@ -156,16 +156,16 @@ fn status_by_faults(checked: &Checked) -> u8 {
     if checked.has_fault() { FAULTY } else { 0 }
 }
 
-/// What keeps the script from running over texts that are not refused, if anything does.
+/// Finds the fault that keeps the script from running over texts that are not refused, if one does.
 fn fault_of_script(alloc: Global, checking: &Checking<'_>) -> Option<Fault> {
     let script = checking.script?;
-    match refused_script(alloc, checking.sources, script.text) {
+    match refuse_script(alloc, checking.sources, script.text) {
         Ok(()) => None,
         Err(fault) => Some(fault_of(fault)),
     }
 }
 
-fn refused_script(alloc: Global, sources: &Sources, script: &[u8]) -> Result<(), RunFault> {
+fn refuse_script(alloc: Global, sources: &Sources, script: &[u8]) -> Result<(), RunFault> {
     let limits = Limits {
         row_numbers: USUAL_ROW_NUMBERS,
     };
@@ -227,6 +227,7 @@ fn status_of_refusal<R: Print + Eprint>(
     REFUSED
 }
 
+/// Checks the schemas and modules of a request.
 #[tactic(auto, using(crate::proofs::Named::checked_one))]
 pub(crate) fn check_sources(alloc: Global, sources: &Sources) -> Result<Checked, Fault>
     ensures checked { IfOk result

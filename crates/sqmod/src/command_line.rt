@@ -15,15 +15,15 @@ use clap::{Arg, ArgAction, ArgMatches, Command, Error, value_parser};
 use sq_store::MOST_ROW_NUMBERS;
 use std::alloc::{AllocError, Global};
 
-/// The row numbers of each table where `--rows` is left out.
+/// The row numbers of each table if `--rows` is left out.
 pub(crate) const USUAL_ROW_NUMBERS: u64 = 1_000_000;
 
-/// The version, which the file VERSION at the top of the repository names, too; the commit, whose zeros `tools/install.sh` replaces;
-/// and the logic of the kit that proves the program.
+/// The version, which the file VERSION at the top of the repository names, too. After it come the commit,
+/// whose zeros `tools/install.sh` replaces, and the logic of the kit that proves the program.
 const VERSION: &str =
     "0.1.0 (commit 0000000000000000000000000000000000000000, proved with dac8208d650f15bf)";
 
-/// What a command line asks for: the names of the files, and how many row numbers each table has.
+/// A script to be run: the names of the files, and how many row numbers each table has.
 #[derive(Drop)]
 pub(crate) struct Request<'a> {
     pub(crate) schemas: Vec<&'a str>,
@@ -67,7 +67,7 @@ impl<'a> TextsRequest<'a> {
     }
 }
 
-/// What is to be checked, and how it is said.
+/// Texts to be checked, and how the remarks are written.
 #[derive(Drop)]
 pub(crate) struct CheckRequest<'a> {
     pub(crate) texts: TextsRequest<'a>,
@@ -78,7 +78,7 @@ pub(crate) struct CheckRequest<'a> {
     pub(crate) json: bool,
 }
 
-/// What is to be explained: a status, a refusal or a fault; without a name, all names are listed.
+/// A name to be explained: a status, a refusal or a fault. Without a name, all names are listed.
 #[derive(Clone, Copy)]
 pub(crate) struct ExplainRequest<'a> {
     pub(crate) name: Option<&'a str>,
@@ -95,7 +95,7 @@ pub(crate) struct TestRequest<'a> {
     pub(crate) update: bool,
 }
 
-/// What a command line asks for.
+/// The task that a command line asks for.
 #[derive(Drop)]
 pub(crate) enum Task<'a> {
     Run(Request<'a>),
@@ -128,7 +128,7 @@ pub(crate) fn read_task<'a>(alloc: Global, words: &'a [String]) -> Result<Task<'
     Ok(task_of(alloc, name, given)?)
 }
 
-/// What a subcommand asks for, by what it was given.
+/// Makes the task of a subcommand, by the values that it was given.
 fn task_of<'a>(alloc: Global, name: &str, given: &ArgMatches<'a>) -> Result<Task<'a>, AllocError>
     requires { spec.IsGiven name.now (rows_of (found_of given.now)) }
     ensures made { IfOk result (spec.MakesTask name.now (rows_of (found_of given.now))) }
@@ -143,7 +143,7 @@ fn task_of<'a>(alloc: Global, name: &str, given: &ArgMatches<'a>) -> Result<Task
     }
 }
 
-/// What a subcommand asks for that runs no script.
+/// Makes the task of a subcommand that runs no script.
 fn other_task_of<'a>(
     alloc: Global,
     name: &str,
@@ -448,6 +448,7 @@ fn modules_option<'a>(alloc: Global) -> Arg<'a>
     files_option(alloc, "module", "A file with a module").required(true)
 }
 
+/// Makes the option for a script.
 pub(crate) fn script_option<'a>(alloc: Global) -> Arg<'a>
     ensures rule { rule_of result ≡ spec.script_rule }
     ensures local { result.global ≡ false }
@@ -455,6 +456,7 @@ pub(crate) fn script_option<'a>(alloc: Global) -> Arg<'a>
     value_option(alloc, "script", "F", "The file with the script").required(true)
 }
 
+/// Makes the option for the number of row numbers.
 pub(crate) fn rows_option<'a>(alloc: Global) -> Arg<'a>
     ensures rule { rule_of result ≡ spec.rows_rule }
     ensures local { result.global ≡ false }

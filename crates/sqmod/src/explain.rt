@@ -1,8 +1,8 @@
-//! What a status, a refusal or a fault means, on standard output.
+//! The meaning of a status, a refusal or a fault, on standard output.
 use crate::command_line::ExplainRequest;
 use crate::fault::{FAILED, REFUSED};
 use crate::refuse_for_memory;
-use sq_explain::{Entry, all_entries, named, names_of, nearest, text_of};
+use sq_explain::{Entry, all_entries, find_entry, names_of, nearest_names, text_of};
 use std::alloc::{AllocError, Global};
 use std::io;
 
@@ -14,13 +14,13 @@ pub(crate) fn status_of_explain<R: Print + Eprint + AllocGlobal>(
     let entries = all_entries();
     match request.name {
         Some(name) => explain(rt, entries, name),
-        None => printed(rt, print_names(rt, entries)),
+        None => status_of_print(rt, print_names(rt, entries)),
     }
 }
 
 fn explain<R: Print + Eprint + AllocGlobal>(rt: &R, entries: &[Entry], name: &str) -> u8 {
-    match named(entries, name) {
-        Some(entry) => printed(rt, rt.print(text_of(entry.text))),
+    match find_entry(entries, name) {
+        Some(entry) => status_of_print(rt, rt.print(text_of(entry.text))),
         None => refuse_name(rt, entries, name),
     }
 }
@@ -36,8 +36,8 @@ fn print_names<R: Print>(rt: &R, entries: &[Entry]) -> io::Result<()> {
     Ok(())
 }
 
-/// The status for what was printed.
-pub(crate) fn printed<R: Eprint>(rt: &R, printed: io::Result<()>) -> u8 {
+/// Gives the status after something was printed, or could not be.
+pub(crate) fn status_of_print<R: Eprint>(rt: &R, printed: io::Result<()>) -> u8 {
     match printed {
         Ok(()) => 0,
         Err(_) => {
@@ -68,7 +68,7 @@ fn near_names(
     name: &str,
 ) -> Result<Vec<&'static str>, AllocError> {
     let names = names_of(alloc, entries)?;
-    let near = nearest(alloc, names.as_slice(), name);
+    let near = nearest_names(alloc, names.as_slice(), name);
     drop(names);
     near
 }

@@ -4,19 +4,19 @@ ghost use Rattle.sqmod.specs.Fault.{status_of};
 
 use sq_run::Refusal;
 
-/// The status where a file is not read, or the output fails.
+/// The status if a file is not read, or the output fails.
 pub(crate) const FAILED: u8 = 1;
 
-/// The status where words or texts are refused.
+/// The status if words or texts are refused.
 pub(crate) const REFUSED: u8 = 2;
 
-/// The status where memory runs out.
+/// The status if memory runs out.
 pub(crate) const NO_MEMORY: u8 = 3;
 
-/// The status where a procedure or a cursor has a fault.
+/// The status if a procedure or a cursor has a fault.
 pub(crate) const FAULTY: u8 = 4;
 
-/// One of a request's texts, by its index among those of its kind.
+/// One of a request's texts, by its index among the texts of its kind.
 #[derive(Clone, Copy)]
 pub(crate) enum Source {
     Schema(usize),

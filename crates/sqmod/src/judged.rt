@@ -1,4 +1,4 @@
-//! What is judged of texts in which elements with an error are passed over.
+//! Texts in which elements with an error are passed over, and the judgement on the rest.
 
 ghost use Rattle.std.specs.Prelude.{◌≡◌, IfOk, IfSome};
 ghost use Rattle.sq_perform.specs.Texts.{texts};
@@ -8,22 +8,22 @@ use crate::check::{Checking, check_sources};
 use crate::fault::{Fault, Source};
 use crate::refusals::{is_of_tokens, write_refusal};
 use crate::texts::Sources;
-use sq_advice::{TextKind, Why, offset_of, passed_over};
+use sq_advice::{TextKind, Why, offset_of, pass_over};
 use sq_perform::{Checked, Refusal, RefusalName};
 use std::alloc::{AllocError, Global};
 
 /// How many errors are passed over, at most.
 const MOST: usize = 1000;
 
-/// What is left of texts where elements with an error are passed over, and what is to be said of it.
+/// The rest of texts after elements with an error are passed over, and the lines about it.
 #[derive(Drop)]
 pub(crate) struct Judged {
     pub(crate) left: Sources,
     pub(crate) checked: Checked,
 }
 
-/// Passes over what is refused of texts, one thing after the other, and adds each refusal for what a text means; then what is left is
-/// checked. Nothing where the head of a text cannot be mended so.
+/// Passes over the refused parts of texts, one after the other, and adds each refusal for the meaning of a
+/// text. Then it checks the rest. It answers nothing if the head of a text cannot be mended so.
 #[tactic(auto, using(crate::proofs::Left::is_judged))]
 pub(crate) fn judge(
     out: &mut Vec<u8>,
@@ -32,7 +32,7 @@ pub(crate) fn judge(
 ) -> Result<Option<Judged>, AllocError>
     ensures { IfOk result (λ answer. IfSome answer (spec.IsJudged checking.now.sources.now)) }
 {
-    let mut left = copied(alloc, checking.sources)?;
+    let mut left = copy_sources(alloc, checking.sources)?;
     for _ in 0..MOST {
         match check_sources(alloc, &left) {
             Ok(checked) => return Ok(Some(Judged { left, checked })),
@@ -81,14 +81,15 @@ fn pass_in(
     index: usize,
     refusal: Refusal,
 ) -> Result<bool, AllocError>
-    ensures { (before : _) → spec.AreLeft before (texts all.old.items) → spec.AreLeft before (texts all.new.items) }
+    ensures { (before : _) → spec.AreLeft before (texts all.old.items)
+        → spec.AreLeft before (texts all.new.items) }
 {
     if index >= all.len() {
         return Ok(false);
     }
     let text = all[index].as_slice();
     let at = offset_of(text, refusal.line, refusal.column);
-    match passed_over(alloc, kind, text, at, why(refusal.what))? {
+    match pass_over(alloc, kind, text, at, why(refusal.what))? {
         Some(left) => {
             all[index] = left;
             Ok(true)
@@ -97,7 +98,7 @@ fn pass_in(
     }
 }
 
-/// What is refused: a piece that is no token, a token, or an element.
+/// Tells whether a piece that is no token is refused, or a token, or an element.
 fn why(what: RefusalName) -> Why {
     match what {
         RefusalName::Lexical(_) => Why::NoToken,
@@ -106,12 +107,12 @@ fn why(what: RefusalName) -> Why {
     }
 }
 
-/// A copy of texts.
-fn copied(alloc: Global, sources: &Sources) -> Result<Sources, AllocError>
+/// Copies texts.
+fn copy_sources(alloc: Global, sources: &Sources) -> Result<Sources, AllocError>
     ensures { IfOk result (spec.AreSourcesLeft sources.now) }
 {
-    let schemas = copied_all(alloc, sources.schemas.as_slice())?;
-    match copied_all(alloc, sources.modules.as_slice()) {
+    let schemas = copy_texts(alloc, sources.schemas.as_slice())?;
+    match copy_texts(alloc, sources.modules.as_slice()) {
         Ok(modules) => Ok(Sources { schemas, modules }),
         Err(error) => {
             drop(schemas);
@@ -120,7 +121,7 @@ fn copied(alloc: Global, sources: &Sources) -> Result<Sources, AllocError>
     }
 }
 
-fn copied_all(alloc: Global, all: &[Vec<u8>]) -> Result<Vec<Vec<u8>>, AllocError>
+fn copy_texts(alloc: Global, all: &[Vec<u8>]) -> Result<Vec<Vec<u8>>, AllocError>
     ensures { IfOk result (λ copy. texts copy.items ≡ texts all.now) }
 {
     let mut copy = Vec::new(alloc);

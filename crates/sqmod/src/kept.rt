@@ -12,6 +12,7 @@ pub(crate) struct Kept {
 }
 
 impl Kept {
+    /// Makes a handle that keeps nothing yet.
     pub(crate) fn new(alloc: Global) -> Kept {
         Kept {
             alloc,
@@ -19,7 +20,7 @@ impl Kept {
         }
     }
 
-    /// What was printed.
+    /// Gives the text that was printed.
     pub(crate) fn into_text(self) -> Vec<u8> {
         let Kept { text, .. } = self;
         text.into_inner()

@@ -1,6 +1,6 @@
-//! The program `sqmod`: it reads a command line and the files that it names, runs the script or says
-//! what is wrong with the modules, and ends with a status and, where a file, a text or a word is
-//! refused, a text on standard error.
+//! The program `sqmod`. It reads a command line and the files that it names, and runs the script or says what
+//! is wrong with the modules. It ends with a status. If a file, a text or a word is refused, it says so on
+//! standard error.
 #![tactic(auto)]
 
 ghost use Rattle.std.specs.Prelude.{◌≡◌, ◌≤◌};
@@ -29,7 +29,7 @@ use bind::status_of_bind;
 use check::status_of_check;
 use clap::error::ErrorKind;
 use command_line::{Request, Task, TextsRequest, read_task};
-use explain::{printed, status_of_explain};
+use explain::{status_of_explain, status_of_print};
 use fault::{Fault, NO_MEMORY, REFUSED};
 use new::status_of_new;
 use shell::{Typed, status_of_shell};
@@ -79,10 +79,10 @@ fn status_of_words<R: Files + Print + Eprint + Input + Typed + AllocGlobal + Clo
     }
 }
 
-/// Prints what `clap` answers in place of a task: help or the version, where they are asked for, or what it refuses.
+/// Prints the answer of `clap` in place of a task: help or the version, if they are asked for, or a refusal.
 fn status_of_answer<R: Print + Eprint>(rt: &R, words: &[String], error: &clap::Error) -> u8 {
     if is_asked_for(words, error.kind()) {
-        return printed(rt, rt.print(error));
+        return status_of_print(rt, rt.print(error));
     }
     refuse_words(rt, error)
 }
@@ -105,7 +105,7 @@ fn status_of_request<R: Files + Print + Eprint + AllocGlobal>(rt: &R, request: &
     }
 }
 
-/// Says what `clap` refused. Where it ran out of memory, no item was done.
+/// Says what `clap` refused. If it ran out of memory, no item was done.
 fn refuse_words<R: Eprint>(rt: &R, error: &clap::Error) -> u8 {
     if error.kind() == ErrorKind::OutOfMemory {
         return refuse_for_memory(rt);

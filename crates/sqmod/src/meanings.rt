@@ -1,10 +1,11 @@
-//! What a refusal or a fault means, in a line.
-use sq_explain::{all_entries, named, text_of};
+//! The meaning of a refusal or a fault, in a line.
+use sq_explain::{all_entries, find_entry, text_of};
 
-/// What `explain` says of a refusal of a schema, a module or a script, or of a fault of a statement: the rest of the line that begins
-/// with its name and that part; nothing where there is no such line.
+/// Finds the meaning that `explain` has for a refusal of a schema, a module or a script, or for a fault of a
+/// statement. It is the rest of the line that begins with its name and that part, or nothing if no such line
+/// exists.
 pub(crate) fn meaning_of(name: &str, part: &str) -> &'static str {
-    match named(all_entries(), name) {
+    match find_entry(all_entries(), name) {
         Some(entry) => rest_of(text_of(entry.text), name, part).unwrap_or(""),
         None => "",
     }

@@ -1,5 +1,5 @@
 //! `sqmod new`: a folder with a schema, a module, a script and its report to begin with.
-use crate::explain::printed;
+use crate::explain::status_of_print;
 use crate::fault::FAILED;
 use crate::showing::NewRequest;
 use std::fs::{self, File};
@@ -62,8 +62,8 @@ pub(crate) fn status_of_new<R: Files + Print + Eprint + AllocGlobal>(
     let folder = request.folder;
     match taken_name(rt, folder) {
         Ok(None) => match write_all(rt, folder) {
-            Ok(()) => printed(rt, say(rt, folder)),
-            Err(_) => failed(rt, folder, "cannot be written"),
+            Ok(()) => status_of_print(rt, say(rt, folder)),
+            Err(_) => report_failure(rt, folder, "cannot be written"),
         },
         Ok(Some(name)) => {
             let _ = eprintln!(rt;
@@ -71,11 +71,11 @@ pub(crate) fn status_of_new<R: Files + Print + Eprint + AllocGlobal>(
             );
             FAILED
         }
-        Err(_) => failed(rt, folder, "cannot be read"),
+        Err(_) => report_failure(rt, folder, "cannot be read"),
     }
 }
 
-fn failed<R: Eprint>(rt: &R, folder: &str, why: &str) -> u8 {
+fn report_failure<R: Eprint>(rt: &R, folder: &str, why: &str) -> u8 {
     let _ = eprintln!(rt; "sqmod: {folder}: {why}");
     FAILED
 }

@@ -1,4 +1,5 @@
-//! The refusals of texts that are checked, each with what stands there, what may, and what to write.
+//! The refusals of texts that are checked, each with the token at its place, those that may be there, and a
+//! hint.
 use crate::check::Checking;
 use crate::command_line::TextsRequest;
 use crate::fault::Source;
@@ -13,17 +14,17 @@ use sq_advice::{
 use sq_perform::{ModuleFault, Refusal, RefusalName};
 use std::alloc::{AllocError, Global};
 
-/// What is told of texts of which one is refused.
+/// The lines about texts of which one is refused.
 #[derive(Drop)]
 pub(crate) struct Told {
     /// The refusals.
     pub(crate) refusals: Vec<u8>,
-    /// What is to be said of the elements without an error.
+    /// The lines about the elements without an error.
     pub(crate) judged: Vec<u8>,
 }
 
 impl Told {
-    /// Nothing.
+    /// No lines.
     pub(crate) fn new(alloc: Global) -> Told {
         Told {
             refusals: Vec::new(alloc),
@@ -32,7 +33,8 @@ impl Told {
     }
 }
 
-/// Adds the refusal of a text first, then every other error of the texts, and what is to be said of the elements without one.
+/// Adds the refusal of a text first, then every other error of the texts, and the lines about the elements
+/// without one.
 pub(crate) fn write_refused(
     told: &mut Told,
     alloc: Global,
@@ -68,7 +70,8 @@ pub(crate) fn write_refused(
     Ok(())
 }
 
-/// Adds the refusals of texts for what they mean, and what is to be said of what is left where they and other errors are passed over.
+/// Adds the refusals of texts for their meaning. Then it adds the lines about the rest, after they and other
+/// errors are passed over.
 fn write_judged(
     refusals: &mut Vec<u8>,
     out: &mut Vec<u8>,
@@ -90,7 +93,7 @@ fn write_judged(
     written
 }
 
-/// Adds what is to be said of what is left of texts.
+/// Adds the lines about the rest of the texts.
 fn write_left<'a>(
     out: &mut Vec<u8>,
     alloc: Global,
@@ -196,7 +199,7 @@ fn text_at<'a>(
     Some((*file, text.as_slice()))
 }
 
-/// Adds a refusal of a text for what it means, where so much is left of the texts.
+/// Adds a refusal of a text for its meaning, with advice by the rest of the texts.
 pub(crate) fn write_refusal(
     out: &mut Vec<u8>,
     alloc: Global,
@@ -211,11 +214,11 @@ pub(crate) fn write_refusal(
     let text = Text::new(alloc, bytes)?;
     let says = format!(in alloc; "{}", refusal.what)?;
     let meaning = meaning_of(says.as_str(), part_of(source));
-    let advice = match named(alloc, checking, left, source, refusal)? {
+    let advice = match advise(alloc, checking, left, source, refusal)? {
         Some(advice) => advice,
         None => Advice::at(alloc, bytes, text.byte_at(refusal.line, refusal.column)),
     };
-    let advice = advice.explained(meaning.as_bytes())?;
+    let advice = advice.explain(meaning.as_bytes())?;
     let beside = Some(&advice);
     let item = Item {
         weight: Weight::Refusal,
@@ -230,8 +233,8 @@ pub(crate) fn write_refusal(
     write_item(out, alloc, &item, checking.form)
 }
 
-/// What is said of the name that a refusal is about, where one is found.
-fn named(
+/// Makes the advice on the name that a refusal is about, if one is found.
+fn advise(
     alloc: Global,
     checking: &Checking<'_>,
     left: &Sources,
@@ -248,15 +251,15 @@ fn named(
             refusal.column,
             name.fault,
         ),
-        (Source::Module(index), RefusalName::Module(fault)) => named_in_module(
+        (Source::Module(index), RefusalName::Module(fault)) => advise_on_module(
             alloc, checking, left, &schemas, index, refusal, fault,
         ),
         _ => Ok(None),
     }
 }
 
-/// What is said of the name that a refusal of a module is about.
-fn named_in_module(
+/// Makes the advice on the name that a refusal of a module is about.
+fn advise_on_module(
     alloc: Global,
     checking: &Checking<'_>,
     left: &Sources,
@@ -267,7 +270,7 @@ fn named_in_module(
 ) -> Result<Option<Advice>, AllocError> {
     match module_of(alloc, checking, left, schemas, index)? {
         Some(module) => {
-            let advice = module.refused(alloc, refusal.line, refusal.column, fault);
+            let advice = module.advice_on_refusal(alloc, refusal.line, refusal.column, fault);
             drop(module);
             advice
         }
@@ -275,7 +278,7 @@ fn named_in_module(
     }
 }
 
-/// What the entries of `explain` call the texts of a kind.
+/// Names the texts of a kind as the entries of `explain` do.
 fn part_of(source: Source) -> &'static str {
     match source {
         Source::Schema(_) => "schema",

@@ -1,4 +1,4 @@
-//! What is said of texts that are not refused: faults, whether cursors and views are updatable, and warnings.
+//! Remarks on texts that are not refused: faults, whether cursors and views are updatable, and warnings.
 use crate::check::Checking;
 use crate::meanings::meaning_of;
 use crate::texts::Sources;
@@ -10,7 +10,7 @@ use sq_perform::{Checked, Note, Remark};
 use std::alloc::{AllocError, Global};
 use std::str;
 
-/// Adds what is to be said of each text, where so much is left of the texts.
+/// Adds the lines about the rest of each text.
 pub(crate) fn write_checked<'a>(
     out: &mut Vec<u8>,
     alloc: Global,
@@ -32,7 +32,7 @@ pub(crate) fn write_checked<'a>(
     Ok(())
 }
 
-/// The schemas of a check, where so much is left of them.
+/// Reads the rest of the schemas of a check.
 pub(crate) fn schemas_of<'a>(
     alloc: Global,
     checking: &Checking<'a>,
@@ -47,7 +47,7 @@ pub(crate) fn schemas_of<'a>(
     Schemas::new(alloc, texts)
 }
 
-/// A module of a check, where so much is left of it.
+/// Reads the rest of a module of a check.
 pub(crate) fn module_of<'a, 's>(
     alloc: Global,
     checking: &Checking<'a>,
@@ -71,7 +71,7 @@ fn bytes_at(texts: &[Vec<u8>], index: usize) -> &[u8] {
     }
 }
 
-/// Adds what is to be said of the views of a schema.
+/// Adds the lines about the views of a schema.
 fn write_remarks(
     out: &mut Vec<u8>,
     alloc: Global,
@@ -87,7 +87,7 @@ fn write_remarks(
     Ok(())
 }
 
-/// Adds what is to be said of a module's parts, and then what may be wrong with them.
+/// Adds the lines about a module's parts, and then the warnings.
 fn write_notes(
     out: &mut Vec<u8>,
     alloc: Global,
@@ -163,7 +163,7 @@ fn write_fault(
     let meaning = meaning_of(name.as_str(), "statement");
     let advice = module
         .advice(alloc, note.line, note.column, rule, fault.about)?
-        .explained(meaning.as_bytes())?;
+        .explain(meaning.as_bytes())?;
     let part = Some(part_of(note));
     let beside = Some(&advice);
     let item = Item {

@@ -45,9 +45,10 @@ fn report_of_texts<R: Print + AllocGlobal>(
     };
     let ran = run_texts(rt.alloc(), texts, limits, &mut writer);
     let flushed = flush(&mut writer);
-    ended(ran, flushed)
+    ending_of(ran, flushed)
 }
 
+/// Flushes a writer.
 pub(crate) fn flush<W: Write>(writer: &mut W) -> Result<(), Fault>
     ensures { IfErr result (λ fault. fault ≡ Output) }
 {
@@ -57,9 +58,9 @@ pub(crate) fn flush<W: Write>(writer: &mut W) -> Result<(), Fault>
     }
 }
 
-/// How a request ends, by its run and the flush after it. A refusal has written nothing and stays; after
-/// any other run a flush that fails takes precedence, since lines are then missing.
-fn ended(ran: Result<(), Fault>, flushed: Result<(), Fault>) -> Result<(), Fault>
+/// Gives the end of a request, by its run and the flush after it. A refusal has written nothing and stays.
+/// After any other run a flush that fails takes precedence, since lines are then missing.
+fn ending_of(ran: Result<(), Fault>, flushed: Result<(), Fault>) -> Result<(), Fault>
     ensures { result ≡ spec.ended_with ran flushed }
 {
     match ran {
@@ -68,6 +69,7 @@ fn ended(ran: Result<(), Fault>, flushed: Result<(), Fault>) -> Result<(), Fault
     }
 }
 
+/// Runs the script of these texts, and writes to a writer.
 #[tactic(auto, using(crate::proofs::Named::names_one))]
 pub(crate) fn run_texts<W: Write>(
     alloc: Global,
@@ -94,7 +96,7 @@ pub(crate) fn run_texts<W: Write>(
     }
 }
 
-/// What a fault of a run means for the program.
+/// Makes the program's fault for a fault of a run.
 pub(crate) fn fault_of(fault: RunFault) -> Fault
     ensures { result ≡ spec.fault_of fault }
 {

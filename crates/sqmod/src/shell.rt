@@ -24,7 +24,7 @@ use std::io::{self, BufRead, BufReader, IsTerminal};
 use std::rt::{Files, LibcRuntime};
 use talk::Talk;
 
-/// What a line of standard input is called, where it is no file.
+/// The name of standard input in messages.
 const STANDARD_INPUT: &str = "standard input";
 
 /// Whether someone types what is read.
@@ -45,14 +45,14 @@ pub(crate) fn status_of_shell<R: Files + Print + Eprint + Input + Typed + AllocG
 ) -> u8
     requires { request.now.row_numbers ≤ MOST_ROW_NUMBERS }
 {
-    match opened(rt, request) {
+    match open_talk(rt, request) {
         Ok(talk) => status_of_talk(rt, talk),
         Err(fault) => report_checked(rt, &request.texts, fault),
     }
 }
 
-/// The shell of a request, before the first item.
-fn opened<R: Files + AllocGlobal>(rt: &R, request: &ShellRequest<'_>) -> Result<Talk, Fault>
+/// Opens the shell of a request, before the first item.
+fn open_talk<R: Files + AllocGlobal>(rt: &R, request: &ShellRequest<'_>) -> Result<Talk, Fault>
     requires { request.now.row_numbers ≤ MOST_ROW_NUMBERS }
     ensures { IfErr result (NamesCheckedFile request.now.texts) }
 {
@@ -61,7 +61,7 @@ fn opened<R: Files + AllocGlobal>(rt: &R, request: &ShellRequest<'_>) -> Result<
     let limits = Limits {
         row_numbers: request.row_numbers,
     };
-    match opened_by(rt.alloc(), &sources, limits) {
+    match open_shell(rt.alloc(), &sources, limits) {
         Ok(shell) => Ok(Talk::new(rt.alloc(), sources, limits, shell)),
         Err(fault) => {
             drop(sources);
@@ -71,7 +71,7 @@ fn opened<R: Files + AllocGlobal>(rt: &R, request: &ShellRequest<'_>) -> Result<
 }
 
 #[tactic(auto, using(crate::proofs::Named::checked_one))]
-fn opened_by(alloc: Global, sources: &Sources, limits: Limits) -> Result<Shell<HeapStore>, Fault>
+fn open_shell(alloc: Global, sources: &Sources, limits: Limits) -> Result<Shell<HeapStore>, Fault>
     requires { limits.row_numbers ≤ MOST_ROW_NUMBERS }
     ensures { IfErr result
         (NamesOneOf (length sources.now.schemas.items) (length sources.now.modules.items)) }
@@ -213,7 +213,7 @@ fn obey<R: Files + Print + Eprint + AllocGlobal>(
 ) -> Result<(), Fault> {
     let place = Place { line, column: 1 };
     match command {
-        Command::Help => written(rt.print(HELP)),
+        Command::Help => check_written(rt.print(HELP)),
         Command::List(listing) => list(rt, talk, file, place, listing),
         Command::Why => tell_why(rt, talk, file, place),
         Command::Trace(is_on) => {
@@ -244,7 +244,7 @@ fn obey<R: Files + Print + Eprint + AllocGlobal>(
     }
 }
 
-/// Prints what the session has, or says that nothing of what is asked for is there.
+/// Prints what the session has, or says that it has nothing of the kind.
 fn list<R: Print + Eprint + AllocGlobal>(
     rt: &R,
     talk: &mut Talk,
@@ -260,7 +260,7 @@ fn list<R: Print + Eprint + AllocGlobal>(
         talk.refuse(rt, file, place, "there is none");
         return Ok(());
     }
-    written(rt.write_all(lines.as_slice()))
+    check_written(rt.write_all(lines.as_slice()))
 }
 
 fn write_listing(
@@ -304,12 +304,12 @@ fn tell_why<R: Print + Eprint + AllocGlobal>(
         return Err(Fault::NoMemory(talk.taken));
     }
     if line.is_empty() {
-        return written(rt.print("the last call ended with 00000\n"));
+        return check_written(rt.print("the last call ended with 00000\n"));
     }
     if line.push(b'\n').is_err() {
         return Err(Fault::NoMemory(talk.taken));
     }
-    written(rt.write_all(line.as_slice()))
+    check_written(rt.write_all(line.as_slice()))
 }
 
 /// The name that a text is.
@@ -366,8 +366,8 @@ fn load_module<R: Files + Print + Eprint + AllocGlobal>(
     talk.add_module(rt, name, text)
 }
 
-/// What a failed output means for the shell.
-fn written(done: io::Result<()>) -> Result<(), Fault> {
+/// Turns an output that failed into a fault.
+fn check_written(done: io::Result<()>) -> Result<(), Fault> {
     match done {
         Ok(()) => Ok(()),
         Err(_) => Err(Fault::Output),

@@ -79,6 +79,7 @@ pub(crate) fn new_request_of<'a>(new: &ArgMatches<'a>) -> NewRequest<'a>
     }
 }
 
+/// Makes the command `trace`.
 pub(crate) fn trace_command<'a>(alloc: Global) -> Result<Command<'a>, AllocError>
     ensures app { IfOk result (λ command. app_of command ≡ spec.trace) }
     ensures local { IfOk result (λ command. (fields_of command).has_globals ≡ false) }
@@ -111,6 +112,7 @@ fn tracing_command<'a>(alloc: Global) -> Result<Command<'a>, AllocError>
         .arg(rows_option(alloc))
 }
 
+/// Makes the command `shell`.
 pub(crate) fn shell_command<'a>(alloc: Global) -> Result<Command<'a>, AllocError>
     ensures app { IfOk result (λ command. app_of command ≡ spec.shell) }
     ensures local { IfOk result (λ command. (fields_of command).has_globals ≡ false) }
@@ -122,6 +124,7 @@ pub(crate) fn shell_command<'a>(alloc: Global) -> Result<Command<'a>, AllocError
         .arg(rows_option(alloc))
 }
 
+/// Makes the command `new`.
 pub(crate) fn new_command<'a>(alloc: Global) -> Result<Command<'a>, AllocError>
     ensures app { IfOk result (λ command. app_of command ≡ spec.new) }
     ensures local { IfOk result (λ command. (fields_of command).has_globals ≡ false) }

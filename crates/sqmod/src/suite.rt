@@ -1,4 +1,4 @@
-//! `sqmod test`: suites of cases, of which it says which come to what they want.
+//! `sqmod test`: suites of cases, and which of them have the outcome that they want.
 
 mod cases;
 mod files;
@@ -9,7 +9,7 @@ mod update;
 
 use crate::command_line::TestRequest;
 use crate::fault::{FAILED, NO_MEMORY, REFUSED};
-use select::{Case, selected};
+use select::{Case, select_cases};
 use sq_suite::{
     matches, write_case, write_counts, write_end, write_plan, write_result, write_start,
 };
@@ -78,12 +78,12 @@ pub(crate) fn status_of_test<R: Files + Print + Eprint + AllocGlobal + Clone + D
 ) -> u8 {
     match test(rt, request) {
         Ok(status) => status,
-        Err(stop) => stopped(rt, request, stop),
+        Err(stop) => report_stop(rt, request, stop),
     }
 }
 
 /// Says why the cases are not all tried: in the words of TAP, if the report is in these.
-fn stopped<R: Print + Eprint>(rt: &R, request: &TestRequest<'_>, stop: Stop<'_>) -> u8 {
+fn report_stop<R: Print + Eprint>(rt: &R, request: &TestRequest<'_>, stop: Stop<'_>) -> u8 {
     let status = stop.status();
     let _ = if request.prints_tap() && status == FAILED {
         println!(rt; "Bail out! {stop}")
@@ -97,7 +97,7 @@ fn test<'a, R: Files + Print + AllocGlobal + Clone + Drop>(
     rt: &R,
     request: &TestRequest<'a>,
 ) -> Result<u8, Stop<'a>> {
-    let cases = selected(rt, request)?;
+    let cases = select_cases(rt, request)?;
     if request.list {
         print_names(rt, cases.as_slice())?;
         return Ok(0);
@@ -138,7 +138,7 @@ struct Results {
     elements: Vec<u8>,
 }
 
-/// Tries the cases in their order, says what comes of each, and gives how many differ.
+/// Tries the cases in their order, says how each ends, and gives how many differ.
 fn try_cases<'a, R: Files + Print + AllocGlobal + Clone + Drop>(
     rt: &R,
     request: &TestRequest<'a>,
@@ -160,7 +160,7 @@ fn try_cases<'a, R: Files + Print + AllocGlobal + Clone + Drop>(
     Ok(results.differ)
 }
 
-/// Tries a case and says what comes of it.
+/// Tries a case and says how it ends.
 fn try_case<'a, R: Files + Print + AllocGlobal + Clone + Drop>(
     rt: &R,
     request: &TestRequest<'a>,

@@ -1,4 +1,4 @@
-//! `sqmod trace`: a run, and what is to be said of each of its calls, on standard output.
+//! `sqmod trace`: a run, and the notes on each of its calls, on standard output.
 ghost use Rattle.std.specs.Prelude.{◌≡◌, ◌≤◌, ℕ, length, IfErr};
 ghost use Rattle.sqmod.specs.Request as spec;
 
@@ -17,18 +17,18 @@ use std::fs;
 use std::io::{self, BufWriter, Write};
 use std::rt::Files;
 
-/// The status where a trace stops at a call that fails.
+/// The status if a trace stops at a call that fails.
 const STOPPED: u8 = 5;
 
-/// A run that was traced: whether it stopped at a call that failed, and the page that steps through it, or nothing where
-/// none is asked for.
+/// A run that was traced: whether it stopped at a call that failed, and the page that steps through it, if
+/// one is asked for.
 #[derive(Drop)]
 struct TracedRun {
     stopped: bool,
     page: Vec<u8>,
 }
 
-/// Runs a script as `run` does, and writes the report with what is to be said of each call. Gives the status to end with.
+/// Runs a script as `run` does, and writes the report with notes on each call. Gives the status to end with.
 pub(crate) fn status_of_trace<R: Files + Print + Eprint + AllocGlobal>(
     rt: &R,
     request: &TraceRequest<'_>,
@@ -41,7 +41,7 @@ pub(crate) fn status_of_trace<R: Files + Print + Eprint + AllocGlobal>(
     }
 }
 
-/// Writes the page, where one is asked for, and gives the status to end with.
+/// Writes the page, if one is asked for, and gives the status to end with.
 fn status_of_traced<R: Files + Eprint>(
     rt: &R,
     request: &TraceRequest<'_>,
@@ -85,15 +85,15 @@ fn trace_of_texts<R: Print + AllocGlobal>(
     };
     let traced = trace_texts(rt.alloc(), request, texts, &mut writer);
     let flushed = flush(&mut writer);
-    match ended(traced, flushed) {
+    match ending_of(traced, flushed) {
         Ok(stopped) => page_of_texts(rt.alloc(), request, texts, stopped.is_some()),
         Err(fault) => Err(fault),
     }
 }
 
-/// How a trace ends with the flush after it: a refusal, which wrote nothing, stays; after any other end a flush that fails takes
-/// precedence, since lines are then missing.
-fn ended(
+/// Gives the end of a trace with the flush after it. A refusal wrote nothing and stays. After any other end a
+/// flush that fails takes precedence, since lines are then missing.
+fn ending_of(
     traced: Result<Option<usize>, Fault>,
     flushed: Result<(), Fault>,
 ) -> Result<Option<usize>, Fault>

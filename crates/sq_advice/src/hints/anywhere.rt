@@ -1,4 +1,4 @@
-//! What is said in any text.
+//! Hints in any text.
 
 use crate::hint::Hint;
 

@@ -1,4 +1,4 @@
-//! What is said in modules.
+//! Hints in modules.
 
 use crate::hint::Hint;
 

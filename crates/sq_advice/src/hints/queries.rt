@@ -1,4 +1,4 @@
-//! What is said of queries and expressions.
+//! Hints on queries and expressions.
 
 use crate::hint::Hint;
 

@@ -1,4 +1,4 @@
-//! What is said in schemas.
+//! Hints in schemas.
 
 use crate::hint::Hint;
 

@@ -1,4 +1,4 @@
-//! What is said in scripts.
+//! Hints in scripts.
 
 use crate::hint::Hint;
 

@@ -1,4 +1,4 @@
-//! What is said of types, in schemas and modules.
+//! Hints on types, in schemas and modules.
 
 use crate::hint::Hint;
 

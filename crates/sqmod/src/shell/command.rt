@@ -1,7 +1,7 @@
 //! Lines that begin with a dot, which are the shell's own.
 use std::str;
 
-/// What such a line asks for.
+/// The command in such a line.
 #[derive(Clone, Copy)]
 pub(crate) enum Command<'a> {
     Help,
@@ -20,7 +20,7 @@ pub(crate) enum Command<'a> {
     Unknown,
 }
 
-/// What a session has, to be listed.
+/// A part of a session, to be listed.
 #[derive(Clone, Copy)]
 pub(crate) enum Listing<'a> {
     Tables,
@@ -33,7 +33,7 @@ pub(crate) enum Listing<'a> {
     View(&'a str),
 }
 
-/// What `.help` prints.
+/// The text that `.help` prints.
 pub(crate) const HELP: &str = "\
 CALL M.P (1, 'A', NULL, *);  calls a procedure
 TABLE U.T;                   shows a base table
@@ -50,7 +50,7 @@ TABLE U.T;                   shows a base table
 .quit                        ends, as the end of what is typed does
 ";
 
-/// What a line asks for.
+/// Reads the command of a line.
 pub(crate) fn command_of(line: &[u8]) -> Command<'_> {
     match str::from_utf8(line) {
         Ok(text) => command_in(text.trim()),
@@ -60,13 +60,13 @@ pub(crate) fn command_of(line: &[u8]) -> Command<'_> {
 
 fn command_in(text: &str) -> Command<'_> {
     match text.split_once(' ') {
-        Some((word, rest)) => with_word(word, rest.trim_start()),
-        None => alone(text),
+        Some((word, rest)) => command_with_word(word, rest.trim_start()),
+        None => command_of_word(text),
     }
 }
 
-/// A command of one word.
-fn alone(word: &str) -> Command<'_> {
+/// Reads a command of one word.
+fn command_of_word(word: &str) -> Command<'_> {
     match word {
         ".help" => Command::Help,
         ".quit" => Command::Quit,
@@ -79,20 +79,20 @@ fn alone(word: &str) -> Command<'_> {
     }
 }
 
-/// A command with a word behind it.
-fn with_word<'a>(word: &str, rest: &'a str) -> Command<'a> {
+/// Reads a command with a word after it.
+fn command_with_word<'a>(word: &str, rest: &'a str) -> Command<'a> {
     match word {
         ".read" => Command::Read(rest),
         ".load-module" => Command::LoadModule(rest),
         ".procedures" => Command::List(Listing::ProceduresOf(rest)),
         ".show" => Command::List(Listing::View(rest)),
-        ".trace" => switched(rest),
+        ".trace" => command_of_switch(rest),
         _ => Command::Unknown,
     }
 }
 
-/// A command that turns notes on or off.
-fn switched(word: &str) -> Command<'_> {
+/// Reads a command that turns notes on or off.
+fn command_of_switch(word: &str) -> Command<'_> {
     match word {
         "on" => Command::Trace(true),
         "off" => Command::Trace(false),

@@ -1,4 +1,4 @@
-//! What a shell has while it runs.
+//! A shell while it runs.
 ghost use Rattle.std.specs.Prelude.{◌≤◌};
 ghost use Rattle.sq_store.specs.declared.store.TheConstants.{MOST_ROW_NUMBERS as MOST};
 
@@ -13,14 +13,14 @@ use sq_store::MOST_ROW_NUMBERS;
 use std::alloc::{AllocError, Global};
 use std::fmt::Display;
 
-/// The texts of a session, the session with the items that it has taken, and what there is of the next item.
+/// The texts of a session, the session with the items that it has taken, and the start of the next item.
 #[derive(Drop)]
 pub(crate) struct Talk {
     pub(crate) texts: Sources,
     pub(crate) shell: Shell<HeapStore>,
-    /// What is typed of the next item; nothing where it has not begun.
+    /// The text of the next item so far; empty if it has not begun.
     pub(crate) item: Vec<u8>,
-    /// Where the item begins.
+    /// The place at which the item begins.
     pub(crate) start: Place,
     /// How many items were taken.
     pub(crate) taken: usize,
@@ -31,6 +31,7 @@ pub(crate) struct Talk {
 }
 
 impl Talk {
+    /// Makes a shell before its first item.
     pub(crate) fn new(
         alloc: Global,
         texts: Sources,
@@ -50,7 +51,7 @@ impl Talk {
         }
     }
 
-    /// Whether a line is the shell's own: one that begins with a dot, where no item has begun.
+    /// Whether a line is the shell's own: it begins with a dot, and no item has begun.
     pub(crate) fn is_own(&self, line: &[u8]) -> bool {
         self.item.is_empty() && line.starts_with(b".")
     }
@@ -73,8 +74,8 @@ impl Talk {
         self.take_rest(rt, file, number, line, rest)
     }
 
-    /// Takes what is behind the last semicolon of a line. White space and comments alone begin no item, and one with bytes that are no tokens is
-    /// refused at once, since it ends nowhere.
+    /// Takes the text after the last semicolon of a line. White space and comments alone begin no item. A
+    /// text with bytes that are no tokens is refused at once, since it ends nowhere.
     fn take_rest<R: Print + Eprint + AllocGlobal>(
         &mut self,
         rt: &R,
@@ -94,7 +95,7 @@ impl Talk {
         }
     }
 
-    /// Ends a text: what there is of an item is refused.
+    /// Ends a text: an item that has begun is refused.
     pub(crate) fn end_text<R: Print + Eprint + AllocGlobal>(
         &mut self,
         rt: &R,
@@ -141,7 +142,7 @@ impl Talk {
                 self.refuse(rt, file, place_in(self.start, inside), refusal.what);
                 Ok(())
             }
-            Err(fault) => Err(self.stopped(fault)),
+            Err(fault) => Err(self.fault_of_stop(fault)),
         }
     }
 
@@ -154,15 +155,15 @@ impl Talk {
         self.shell.trace = if is_on { Some(options) } else { None };
     }
 
-    /// What a fault means that is no refusal of what is typed.
-    fn stopped(&self, fault: RunFault) -> Fault {
+    /// Makes the fault that ends the shell, if a run stopped for another cause than the typed text.
+    fn fault_of_stop(&self, fault: RunFault) -> Fault {
         match fault {
             RunFault::NoMemory(_) => Fault::NoMemory(self.taken),
             _ => fault_of(fault),
         }
     }
 
-    /// Says what is refused, and where.
+    /// Refuses a text, and says at which place.
     pub(crate) fn refuse<R: Eprint, D: Display + Drop>(
         &mut self,
         rt: &R,
@@ -174,8 +175,8 @@ impl Talk {
         complain(rt, file, place, what);
     }
 
-    /// The session of the texts, before the first item.
-    fn opened(&self, alloc: Global) -> Result<Shell<HeapStore>, RunFault> {
+    /// Opens the session of the texts, before the first item.
+    fn open_shell(&self, alloc: Global) -> Result<Shell<HeapStore>, RunFault> {
         let schemas = self.texts.schemas.as_slice();
         let modules = self.texts.modules.as_slice();
         Shell::open(alloc, schemas, modules, self.limits)
@@ -183,7 +184,7 @@ impl Talk {
 
     /// Goes back to the first state.
     pub(crate) fn restart<R: Eprint + AllocGlobal>(&mut self, rt: &R) -> Result<(), Fault> {
-        match self.opened(rt.alloc()) {
+        match self.open_shell(rt.alloc()) {
             Ok(mut shell) => {
                 shell.trace = self.shell.trace;
                 self.shell = shell;
@@ -191,7 +192,7 @@ impl Talk {
                 let _ = eprintln!(rt; "the session is as it was before the first call");
                 Ok(())
             }
-            Err(fault) => Err(self.stopped(fault)),
+            Err(fault) => Err(self.fault_of_stop(fault)),
         }
     }
 
@@ -205,7 +206,7 @@ impl Talk {
         if self.texts.modules.push(text).is_err() {
             return Err(Fault::NoMemory(self.taken));
         }
-        match self.opened(rt.alloc()) {
+        match self.open_shell(rt.alloc()) {
             Ok(shell) => self.make_again(rt, name, shell),
             Err(RunFault::ModuleRefused(refusal)) => {
                 let _ = self.texts.modules.pop();
@@ -216,7 +217,7 @@ impl Talk {
                 self.refuse(rt, name, place, refusal.what);
                 Ok(())
             }
-            Err(fault) => Err(self.stopped(fault)),
+            Err(fault) => Err(self.fault_of_stop(fault)),
         }
     }
 
@@ -242,7 +243,7 @@ impl Talk {
             }
             Err(fault) => {
                 drop(shell);
-                Err(self.stopped(fault))
+                Err(self.fault_of_stop(fault))
             }
         }
     }
@@ -256,7 +257,7 @@ fn write_noted<R: Print>(rt: &R, report: &[u8], notes: &[u8]) -> Result<(), Faul
     Ok(())
 }
 
-/// What a part of a line has.
+/// The content of a part of a line.
 #[derive(Clone, Copy)]
 enum Kind {
     /// White space and comments.
@@ -274,7 +275,7 @@ fn kind_of(alloc: Global, part: &[u8]) -> Kind {
     }
 }
 
-/// Says what is refused, and where: in a file, or in what is typed.
+/// Says what is refused, and at which place of a file or of the typed text.
 pub(crate) fn complain<R: Eprint, D: Display + Drop>(rt: &R, file: &str, place: Place, what: D) {
     let line = place.line;
     let column = place.column;

@@ -7,7 +7,7 @@ use std::{fs, io};
 /// How deep folders may lie in each other.
 const MOST_LEVELS: usize = 100;
 
-/// What is shared by the cases of the folder that it is in.
+/// The folder that the cases of the folder around it share.
 pub(crate) const SETUP: &str = "setup";
 
 /// The names of what a folder holds, in their order.
@@ -18,6 +18,7 @@ pub(crate) struct Listing {
 }
 
 impl Listing {
+    /// Lists what a folder holds.
     pub(crate) fn read<R: Files + AllocGlobal + Clone + Drop>(
         rt: &R,
         folder: &str,
@@ -49,7 +50,7 @@ impl Listing {
         self.has("script.txt") || self.has("check.txt")
     }
 
-    /// Whether there is a file of this name.
+    /// Whether the folder has a file of this name.
     pub(crate) fn has(&self, file: &str) -> bool {
         self.files.iter().any(|name| name.as_str() == file)
     }
@@ -88,7 +89,7 @@ fn add_cases<R: Files + AllocGlobal + Clone + Drop>(
     Ok(())
 }
 
-/// The path of what has this name in a folder.
+/// Makes the path of the entry with this name in a folder.
 pub(crate) fn path_in(alloc: Global, folder: &str, name: &str) -> Result<String, AllocError> {
     format!(in alloc; "{folder}/{name}")
 }

@@ -7,7 +7,7 @@ use std::io::ErrorKind;
 use std::rt::Files;
 use std::{fs, io};
 
-/// The paths of a case's schemas, modules and scripts: those of the setups that it shares, then its own.
+/// The paths of a case's schemas, modules and scripts: first the setups' that it shares, then its own.
 #[derive(Drop)]
 pub(crate) struct CaseFiles {
     pub(crate) schemas: Vec<String>,
@@ -99,7 +99,7 @@ fn shared_folders<R: Files + AllocGlobal>(
     Ok(folders)
 }
 
-/// Adds the setup of a folder, if there is one.
+/// Adds the setup of a folder, if it has one.
 fn add_setup<R: Files + AllocGlobal>(
     rt: &R,
     folder: Option<&str>,
@@ -122,7 +122,7 @@ fn is_folder<R: Files>(rt: &R, path: &str) -> bool {
     }
 }
 
-/// The bytes of a file of a folder, if there is such a file.
+/// Reads the bytes of a file of a folder, if such a file exists.
 pub(crate) fn read_in<R: Files + AllocGlobal>(
     rt: &R,
     folder: &str,

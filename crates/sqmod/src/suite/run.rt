@@ -1,4 +1,4 @@
-//! What a case comes to, by the calls that `sqmod run` and `sqmod check` make.
+//! The outcome of a case, by the calls that `sqmod run` and `sqmod check` make.
 ghost use Rattle.std.specs.Prelude.{◌≡◌, ◌≤◌, OnOk, drop};
 
 use crate::check::{Checking, status_of_texts};
@@ -17,7 +17,7 @@ use std::alloc::{AllocError, Global};
 use std::rt::Files;
 use std::{fs, io};
 
-/// Why there is no report, and the path of the file that it is about, if it is about one.
+/// Why no report exists, and the path of the file that it is about, if it is about one.
 #[derive(Clone, Copy)]
 struct Stop<'a> {
     path: &'a str,
@@ -33,7 +33,7 @@ impl From<AllocError> for Stop<'_> {
     }
 }
 
-/// What `sqmod run` comes to on a case's files, without what the scripts of its setups report.
+/// Makes the outcome of `sqmod run` on a case's files, without the reports of its setups.
 pub(crate) fn outcome_of_run<R: Files + AllocGlobal>(
     rt: &R,
     case: &str,
@@ -47,7 +47,7 @@ pub(crate) fn outcome_of_run<R: Files + AllocGlobal>(
     let kept = Kept::new(rt.alloc());
     let status = match run_files(rt, files, script, limits, &mut report) {
         Ok(()) => 0,
-        Err(stop) => report_of_file(&kept, said(stop.path, case), stop.fault),
+        Err(stop) => report_of_file(&kept, relative_path(stop.path, case), stop.fault),
     };
     Outcome {
         report,
@@ -78,7 +78,7 @@ fn run_files<'a, R: Files + AllocGlobal>(
         Ok(()) => Ok(remove_start(report, before)?),
         Err(fault) => Err(Stop {
             path: files.path(fault).unwrap_or(script),
-            fault: moved_up(fault, shared),
+            fault: move_up(fault, shared),
         }),
     }
 }
@@ -132,8 +132,8 @@ fn remove_start(report: &mut Vec<u8>, count: usize) -> Result<(), AllocError>
     Ok(())
 }
 
-/// A fault with the line counted from the one behind so many others, where it is about a script.
-fn moved_up(fault: Fault, lines: usize) -> Fault {
+/// Counts the line of a fault of a script from the one after so many others.
+fn move_up(fault: Fault, lines: usize) -> Fault {
     match fault {
         Fault::Refused(Source::Script, refusal) => Fault::Refused(
             Source::Script,
@@ -163,7 +163,8 @@ fn sources_of<'a, R: Files + AllocGlobal>(
     }
 }
 
-/// What `sqmod check` prints of a case's files, to standard output and to standard error, and a line with its status.
+/// Makes the text that `sqmod check` prints of a case's files, to standard output and to standard error, and
+/// a line with its status.
 pub(crate) fn text_of_check<R: Files + AllocGlobal>(
     rt: &R,
     case: &str,
@@ -187,13 +188,13 @@ fn status_of_files<R: Files + AllocGlobal>(
     };
     let status = match sources_of(rt, files) {
         Ok(sources) => status_of_sources(kept, rt.alloc(), &request, &sources),
-        Err(stop) => report_of_file(kept, said(stop.path, case), stop.fault),
+        Err(stop) => report_of_file(kept, relative_path(stop.path, case), stop.fault),
     };
     drop(request);
     Ok(status)
 }
 
-/// Checks texts, in a line for each thing that is said.
+/// Checks texts, in a line for each remark.
 fn status_of_sources(
     kept: &Kept,
     alloc: Global,
@@ -222,17 +223,17 @@ fn strs<'a>(alloc: Global, texts: &'a [String]) -> Result<Vec<&'a str>, AllocErr
     texts.iter().map(|text| text.as_str()).collect(alloc)
 }
 
-/// The names of files as they are said of a case.
+/// Lists the names of files as they are shown for a case.
 fn names<'a>(alloc: Global, paths: &'a [String], case: &str) -> Result<Vec<&'a str>, AllocError> {
     let mut names = Vec::new(alloc);
     for path in paths {
-        names.push(said(path.as_str(), case))?;
+        names.push(relative_path(path.as_str(), case))?;
     }
     Ok(names)
 }
 
-/// A path below a case's folder as it is seen from there, and any other from its folder `setup` on.
-fn said<'a>(path: &'a str, case: &str) -> &'a str {
+/// Shortens a path: below a case's folder it begins there, and any other begins with its folder `setup`.
+fn relative_path<'a>(path: &'a str, case: &str) -> &'a str {
     let below = path
         .strip_prefix(case)
         .and_then(|rest| rest.strip_prefix('/'));

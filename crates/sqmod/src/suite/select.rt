@@ -14,8 +14,9 @@ pub(crate) struct Case {
     pub(crate) root: usize,
 }
 
-/// The cases that a request asks for: of those below its folders, those with a name that it asks for, and of these its part.
-pub(crate) fn selected<'a, R: Files + AllocGlobal + Clone + Drop>(
+/// Selects the cases that a request asks for: of the cases below its folders those with a name that it asks
+/// for, and of these its part.
+pub(crate) fn select_cases<'a, R: Files + AllocGlobal + Clone + Drop>(
     rt: &R,
     request: &TestRequest<'a>,
 ) -> Result<Vec<Case>, Stop<'a>> {
@@ -32,7 +33,7 @@ pub(crate) fn selected<'a, R: Files + AllocGlobal + Clone + Drop>(
 
 fn shard_of<'a>(request: &TestRequest<'a>) -> Result<Shard, Stop<'a>> {
     match request.shard {
-        None => Ok(Shard::whole()),
+        None => Ok(Shard::all()),
         Some(text) => Shard::parse(text).ok_or(Stop::Shard(text)),
     }
 }
@@ -44,10 +45,10 @@ fn add_cases<'a, R: Files + AllocGlobal + Clone + Drop>(
     folder: &'a str,
     cases: &mut Vec<Case>,
 ) -> Result<(), Stop<'a>> {
-    let root = without_slashes(folder);
+    let root = trim_slashes(folder);
     let found = match cases_below(rt, root) {
         Ok(found) => found,
-        Err(error) => return Err(unread(folder, error.kind())),
+        Err(error) => return Err(stop_for_unread(folder, error.kind())),
     };
     if found.is_empty() {
         return Err(Stop::NoCase(folder));
@@ -63,7 +64,7 @@ fn add_cases<'a, R: Files + AllocGlobal + Clone + Drop>(
     Ok(())
 }
 
-fn unread(folder: &str, kind: ErrorKind) -> Stop<'_> {
+fn stop_for_unread(folder: &str, kind: ErrorKind) -> Stop<'_> {
     if kind == ErrorKind::OutOfMemory {
         Stop::NoMemory
     } else {
@@ -71,7 +72,7 @@ fn unread(folder: &str, kind: ErrorKind) -> Stop<'_> {
     }
 }
 
-/// The cases of a part.
+/// Takes the cases of a part.
 fn part_of<R: AllocGlobal>(
     rt: &R,
     cases: Vec<Case>,
@@ -86,7 +87,7 @@ fn part_of<R: AllocGlobal>(
     Ok(part)
 }
 
-/// A folder's path without slashes at its end.
-fn without_slashes(folder: &str) -> &str {
+/// Cuts off the slashes at the end of a folder's path.
+fn trim_slashes(folder: &str) -> &str {
     folder.trim_end_matches('/')
 }

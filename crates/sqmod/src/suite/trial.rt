@@ -1,4 +1,4 @@
-//! Whether a case comes to what it wants.
+//! Trials of cases: whether each has the outcome that it wants.
 ghost use Rattle.std.specs.Prelude.{◌≤◌, IfOk, IfSome};
 
 use crate::command_line::USUAL_ROW_NUMBERS;
@@ -9,13 +9,13 @@ use crate::suite::select::Case;
 use crate::suite::update::{begin_report, update_check, update_outcome};
 use sq_run::Limits;
 use sq_store::MOST_ROW_NUMBERS;
-use sq_suite::{Outcome, Unclear, wanted, write_block, write_differences, write_part};
+use sq_suite::{Outcome, Unclear, wanted_outcome, write_block, write_differences, write_part};
 use std::alloc::AllocError;
 use std::io::ErrorKind;
 use std::rt::Files;
 use std::{fmt, io, str};
 
-/// Whether a case comes to what it wants, or its texts were written anew, and what is to be said of it.
+/// Whether a case has the outcome that it wants, or its texts were written anew, and the lines about it.
 #[derive(Drop)]
 pub(crate) struct Verdict {
     pub(crate) is_right: bool,
@@ -61,7 +61,7 @@ impl Trouble {
     }
 }
 
-/// Tries a case. Where a text differs, and `update` says so, what came is written in its place.
+/// Tries a case. If a text differs, and `update` says so, the new text is written in its place.
 pub(crate) fn verdict_of<'a, R: Files + AllocGlobal + Clone + Drop>(
     rt: &R,
     case: &Case,
@@ -82,7 +82,7 @@ pub(crate) fn verdict_of<'a, R: Files + AllocGlobal + Clone + Drop>(
     Ok(Verdict { is_right, says })
 }
 
-/// Tries what a case wants of its script, and what it wants of a check.
+/// Tries the outcomes that a case wants of its script and of a check.
 fn try_case<R: Files + AllocGlobal + Clone + Drop>(
     rt: &R,
     case: &Case,
@@ -103,7 +103,7 @@ fn try_run<R: Files + AllocGlobal>(
     update: bool,
     says: &mut Vec<u8>,
 ) -> Result<bool, Trouble> {
-    let wanted = wanted_of(rt, folder, files, update)?;
+    let wanted = read_wanted(rt, folder, files, update)?;
     let (Some(wanted), Some(script)) = (wanted, files.script.as_ref()) else {
         return Ok(true);
     };
@@ -116,8 +116,9 @@ fn try_run<R: Files + AllocGlobal>(
     Ok(update && update_outcome(rt, folder, &found, says)?)
 }
 
-/// What a case wants of its script. Where there is no report yet, and one is to be written, an empty one is put there.
-fn wanted_of<R: Files + AllocGlobal>(
+/// Reads the outcome that a case wants of its script. If no report exists yet, and one is to be written, it
+/// puts an empty one there.
+fn read_wanted<R: Files + AllocGlobal>(
     rt: &R,
     folder: &str,
     files: &CaseFiles,
@@ -130,7 +131,7 @@ fn wanted_of<R: Files + AllocGlobal>(
         begin_report(rt, folder)?;
         report = Some(Vec::new(rt.alloc()));
     }
-    wanted(rt.alloc(), has_script, report, refusal).map_err(Trouble::Unclear)
+    wanted_outcome(rt.alloc(), has_script, report, refusal).map_err(Trouble::Unclear)
 }
 
 fn try_check<R: Files + AllocGlobal>(
@@ -160,7 +161,7 @@ fn try_check<R: Files + AllocGlobal>(
     Ok(update)
 }
 
-/// How many row numbers each table has: what `rows.txt` says, if there is one.
+/// Reads how many row numbers each table has, of `rows.txt` if it exists.
 fn limits_of<R: Files + AllocGlobal>(rt: &R, folder: &str) -> Result<Limits, Trouble>
     ensures { IfOk result (λ limits. limits.row_numbers ≤ MOST_ROW_NUMBERS) }
 {
@@ -171,7 +172,7 @@ fn limits_of<R: Files + AllocGlobal>(rt: &R, folder: &str) -> Result<Limits, Tro
     Ok(Limits { row_numbers })
 }
 
-/// The number of rows that a text is, if it is one.
+/// Reads a number of rows of a text, if it is one.
 fn row_numbers_of(text: &[u8]) -> Option<u64>
     ensures { IfSome result (λ number. number ≤ MOST_ROW_NUMBERS) }
 {

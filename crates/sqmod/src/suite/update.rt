@@ -10,7 +10,7 @@ pub(crate) fn begin_report<R: Files + AllocGlobal>(rt: &R, folder: &str) -> io::
     write_in(rt, folder, "report.txt", b"")
 }
 
-/// Writes what a run came to in place of what was wanted, if that is a report or a refusal, and says so.
+/// Writes the outcome of a run in place of the wanted one, if it is a report or a refusal, and says so.
 pub(crate) fn update_outcome<R: Files + AllocGlobal>(
     rt: &R,
     folder: &str,
@@ -34,7 +34,7 @@ pub(crate) fn update_outcome<R: Files + AllocGlobal>(
     }
 }
 
-/// Writes what a check came to in place of what was wanted, and says so.
+/// Writes the text of a check in place of the wanted one, and says so.
 pub(crate) fn update_check<R: Files + AllocGlobal>(
     rt: &R,
     folder: &str,
@@ -56,7 +56,7 @@ fn write_in<R: Files + AllocGlobal>(
     fs::write(rt, path.as_str(), text)
 }
 
-/// Removes a file, if it is there.
+/// Removes a file, if it exists.
 fn remove_in<R: Files + AllocGlobal>(rt: &R, folder: &str, name: &str) -> io::Result<()> {
     let path = path_in(rt.alloc(), folder, name)?;
     match rt.remove_file(path.as_str()) {

@@ -12,5 +12,5 @@ returns-in-Ok c =
 
 pub returns-in-Err : goal.returns-in-Err
 returns-in-Err c =
-    says_refused (answered (texts c.args.schemas.now) (texts c.args.modules.now) c.args.script.now c.args.limits.row_numbers) _ _ c.stopped.result.text.items c.in-Err.fault c.stopped.result.answer
-    (rw c.in-Err.is at c.run-ended.ensures.answers) c.stopped.ensures
+    says_refused (answered (texts c.args.schemas.now) (texts c.args.modules.now) c.args.script.now c.args.limits.row_numbers) _ _ c.outcome_of_stop.result.text.items c.in-Err.fault c.outcome_of_stop.result.answer
+    (rw c.in-Err.is at c.run-ended.ensures.answers) c.outcome_of_stop.ensures

@@ -9,8 +9,8 @@ use Rattle.sq_page_c.proofs.steps.page_of.Goals as goal
 pub returns-in-Err : goal.returns-in-Err
 returns-in-Err c =
     let schemas = texts c.args.schemas.now in let modules = texts c.args.modules.now in let script = c.args.script.now in let rows = c.args.limits.row_numbers in
-    steps_stop (answered schemas modules script rows) c.stopped.result.text.items c.in-Err.fault c.stopped.result.answer
-    (λ of_texts. opening_stopped rows schemas modules script c.in-Err.fault of_texts c.in-Err.ensures.refused) c.stopped.ensures
+    steps_stop (answered schemas modules script rows) c.outcome_of_stop.result.text.items c.in-Err.fault c.outcome_of_stop.result.answer
+    (λ of_texts. opening_stopped rows schemas modules script c.in-Err.fault of_texts c.in-Err.ensures.refused) c.outcome_of_stop.ensures
 
 pub returns-in-Ok-trace_page : goal.returns-in-Ok-trace_page
 returns-in-Ok-trace_page c =
@@ -25,5 +25,5 @@ returns-in-Ok-trace_page c =
 pub returns : goal.returns
 returns c =
     let schemas = texts c.args.schemas.now in let modules = texts c.args.modules.now in let script = c.args.script.now in let rows = c.args.limits.row_numbers in
-    steps_stop (answered schemas modules script rows) c.stopped-in-Err-read_script.result.text.items c.in-Err-read_script.fault c.stopped-in-Err-read_script.result.answer
-    (λ of_texts. script_stopped rows schemas modules script c.in-Ok.session c.in-Err-read_script.fault of_texts c.in-Ok.ensures.opened c.in-Err-read_script.ensures.refused) c.stopped-in-Err-read_script.ensures
+    steps_stop (answered schemas modules script rows) c.outcome_of_stop-in-Err-read_script.result.text.items c.in-Err-read_script.fault c.outcome_of_stop-in-Err-read_script.result.answer
+    (λ of_texts. script_stopped rows schemas modules script c.in-Ok.session c.in-Err-read_script.fault of_texts c.in-Ok.ensures.opened c.in-Err-read_script.ensures.refused) c.outcome_of_stop-in-Err-read_script.ensures

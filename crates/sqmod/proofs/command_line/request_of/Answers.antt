@@ -1,4 +1,4 @@
--- Left open for request_of: what the call of unwrap asks for, and the clause made; answered by Read.
+-- Left open for request_of: the premise of the call of unwrap, and the clause made; answered by Read.
 use Rattle.std.proofs.Common.{◌∙◌, ap, sym}
 use Rattle.std.specs.Prelude.{option_map}
 use Rattle.clap.specs.Words.{found_of}

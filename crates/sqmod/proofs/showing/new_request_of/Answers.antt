@@ -1,4 +1,4 @@
--- Left open for new_request_of: what the call of unwrap asks for, and its result; answered by Read.
+-- Left open for new_request_of: the premise of the call of unwrap, and its result; answered by Read.
 use Rattle.std.proofs.Common.{◌∙◌, ap, sym}
 use Rattle.std.specs.Prelude.{codes, option_map}
 use Rattle.clap.specs.Words.{found_of}

@@ -1,6 +1,6 @@
--- Left open for copied: its result; answered by Left.
+-- Left open for copy_sources: its result; answered by Left.
 use Rattle.sqmod.proofs.Left.{sources_copied}
-use Rattle.sqmod.proofs.judged.copied.Goals as goal
+use Rattle.sqmod.proofs.judged.copy_sources.Goals as goal
 
 pub returns-in-Ok : goal.returns-in-Ok
 returns-in-Ok c =

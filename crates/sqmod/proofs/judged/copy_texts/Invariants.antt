@@ -1,6 +1,6 @@
 use Rattle.std.proofs.Common.{◌≡◌, take}
 use Rattle.sq_perform.specs.Texts.{texts}
-use Rattle.sqmod.proofs.judged.copied_all.Given as goal
+use Rattle.sqmod.proofs.judged.copy_texts.Given as goal
 
 abbrev pub invariant-loop-text : goal.invariant-loop-text
 invariant-loop-text l = texts l.copy.items ≡ texts (take l.text-index l.all)

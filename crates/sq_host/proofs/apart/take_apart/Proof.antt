@@ -1,4 +1,4 @@
--- `taken_apart` leaves the handle, and the address with what it owns.
+-- `take_apart` leaves the handle, and the address with what it owns.
 use Rattle.std.proofs.Common.{◌≡◌, List, [], ◌∷◌, ◌++◌, refl}
 use mir.Syntax.{Args, Fn, a_type, dcons, dnil}
 use mir.Raw.{raw as bare}
@@ -35,13 +35,13 @@ use Rattle.std.proofs.raw_atomic.Walks.{proved_at, leaves}
 use Rattle.std.specs.contracts.boxed.Box.into_raw_with_allocator as callee
 use Rattle.std.proofs.boxed.Box.into_raw_with_allocator.Met as callee_met
 use Rattle.sq_host.proofs.Values.{both, pair_fits, parts_fit, pair_out, parts_in}
-use Rattle.sq_host.specs.contracts.apart.taken_apart.{ended, clauses}
-use Rattle.sq_host.specs.contracts.apart.taken_apart.Key.{name as #self}
-use Rattle.sq_host.proofs.apart.taken_apart.Statement.{statement}
-use Rattle.sq_host.proofs.apart.taken_apart.Code as code
+use Rattle.sq_host.specs.contracts.apart.take_apart.{ended, clauses}
+use Rattle.sq_host.specs.contracts.apart.take_apart.Key.{name as #self}
+use Rattle.sq_host.proofs.apart.take_apart.Statement.{statement}
+use Rattle.sq_host.proofs.apart.take_apart.Code as code
 
-pub taken_apart_spec : {M : Type 1} → statement M
-taken_apart_spec 𝓤 𝓛 𝓜 𝓡 wired X Z L LZ g d dx dd allocator glue glued =
+pub take_apart_spec : {M : Type 1} → statement M
+take_apart_spec 𝓤 𝓛 𝓜 𝓡 wired X Z L LZ g d dx dd allocator glue glued =
     let H = 𝓛.H in let 𝓣 = tables 𝓤 H 𝓜 𝓡 𝓡.env in let R : RattleType = param 0 X in let A : RattleType = param 1 Z in let LA = param_laws 1 Z LZ in
     let E : box.Bx = record { row = X; laws = L; al = record { row = Z; laws = LZ; g = g; d = d; drops = dd } } in let B : RattleType = box.B E in
     let args : Args = bounded (a_type ∷ a_type ∷ []) (X, (Z, tt)) (dcons d (dcons dx (dcons dd dnil))) in let fn : Fn = inst_fn args code.function in

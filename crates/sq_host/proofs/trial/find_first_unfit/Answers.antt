@@ -1,9 +1,9 @@
--- Left open for first_unfit: its result; answered by Places.
+-- Left open for find_first_unfit: its result; answered by Places.
 use Rattle.std.proofs.Common.{sym, ap, ◌∙◌}
 use Rattle.std.proofs.Math.ListN.{set}
 use Rattle.sq_run.specs.Processor.{takes}
 use Rattle.sq_host.proofs.Places.{first_unfit, no_nulls}
-use Rattle.sq_host.proofs.trial.first_unfit.Goals as goal
+use Rattle.sq_host.proofs.trial.find_first_unfit.Goals as goal
 
 pub returns-then-not-fits : goal.returns-then-not-fits
 returns-then-not-fits c =

@@ -1,8 +1,8 @@
 use Rattle.std.proofs.Common.{◌≡◌, ◌++◌, length}
 use Rattle.sq_host.specs.Calls.{values_in}
-use Rattle.sq_host.proofs.table.copied.Given as goal
+use Rattle.sq_host.proofs.table.copy_rows.Given as goal
 
--- what is copied, and what is still to come, is all that was to come
+-- the copies, and the rows still to come, are all that were to come
 abbrev pub invariant-loop-row : goal.invariant-loop-row
 invariant-loop-row l = l.copies.items ++ values_in l.rows ≡ values_in l.fn.rows
 
