@@ -1,3 +1,4 @@
+pub mod Filtered
 pub mod Rises
 pub mod Search
 pub mod Sound

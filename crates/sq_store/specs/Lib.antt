@@ -1,5 +1,6 @@
 pub mod Change
 pub mod Content
+pub mod Found
 pub mod Keys
 pub mod Meter
 pub mod Rising

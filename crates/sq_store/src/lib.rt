@@ -12,7 +12,7 @@ mod table;
 
 pub use change::{ApplyFault, Change};
 pub use fits::can_apply;
-pub use key::are_same;
+pub use key::{are_same, has_values};
 pub use list_store::{ListStore, copy_keys};
 pub use meter::Meter;
 pub use store::{MOST_ROW_NUMBERS, Store};

@@ -8,7 +8,7 @@ ghost use Rattle.sq_store.specs.Sound.{is_sound};
 ghost use Rattle.sq_store.specs.declared.store.TheConstants.{MOST_ROW_NUMBERS};
 
 use crate::change::{ApplyFault, Change};
-use crate::key::first_with;
+use crate::key::{all_with, first_with};
 use crate::meter::Meter;
 use crate::saved::Saved;
 use crate::store::{MOST_ROW_NUMBERS, Store};
@@ -103,6 +103,19 @@ impl Store for ListStore {
 
     fn has_row(&self, table: usize, columns: &[usize], values: &Key) -> bool {
         first_with(self.rows_of(table), columns, values).is_some()
+    }
+
+    fn find_rows(
+        &self,
+        alloc: Global,
+        table: usize,
+        columns: &[usize],
+        several: &[Row],
+        meter: &mut Meter,
+    ) -> Result<Option<Vec<(u64, &Row)>>, AllocError> {
+        let rows = all_with(alloc, self.rows_of(table), columns, several)?;
+        meter.hand_out_all(rows.len());
+        Ok(Some(rows))
     }
 
     fn next_number(&self, table: usize) -> u64 {

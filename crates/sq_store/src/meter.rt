@@ -1,7 +1,7 @@
 //! Counting the rows that a store hands out.
 
 ghost use Rattle.std.specs.Prelude.{◌≡◌};
-ghost use Rattle.sq_store.specs.Meter.{counted};
+ghost use Rattle.sq_store.specs.Meter.{counted, counted_more};
 
 use std::marker::Model;
 
@@ -38,6 +38,13 @@ impl Meter {
     pub fn hand_out(&mut self)
         ensures { self.new ≡ counted self.old }
     {
-        self.count = self.count.saturating_add(1);
+        self.hand_out_all(1);
+    }
+
+    /// Counts rows that are handed out.
+    pub fn hand_out_all(&mut self, count: usize)
+        ensures { self.new ≡ counted_more count self.old }
+    {
+        self.count = self.count.saturating_add(count as u64);
     }
 }

@@ -1,11 +1,12 @@
 //! What a store promises, whichever way it keeps its tables.
 
-ghost use Rattle.std.specs.Prelude.{◌≡◌, ◌<◌, ◌≤◌, ◌+◌, ◌-◌, ℕ, List, Option, Some, None, true, false, length, is_some, if◌then◌else◌, IfOk, IsSome, MatchOption, OnErr, OnOk};
+ghost use Rattle.std.specs.Prelude.{◌≡◌, ◌<◌, ◌≤◌, ◌+◌, ◌-◌, ℕ, List, Option, Some, None, true, false, length, is_some, if◌then◌else◌, IfOk, IfSome, IsSome, MatchOption, OnErr, OnOk};
 ghost use Rattle.std.specs.List.{list_all};
 ghost use Rattle.sq_store.specs.Change.{insert_count, rows_put};
 ghost use Rattle.sq_store.specs.Content.{Content, changed_by, first_from, no_rows, row_at, table_at, with_table};
-ghost use Rattle.sq_store.specs.Keys.{Keys, are_keyed, has_columns, has_distinct_keys, has_keys, key_at, keys_at, keys_of, with_key};
-ghost use Rattle.sq_store.specs.Meter.{counted};
+ghost use Rattle.sq_store.specs.Found.{numbered_in};
+ghost use Rattle.sq_store.specs.Keys.{Keys, are_keyed, has_columns, has_distinct_keys, has_keys, key_at, keys_at, keys_of, with_key, with_one_of};
+ghost use Rattle.sq_store.specs.Meter.{counted, counted_found};
 ghost use Rattle.sq_store.specs.Rising.{all_rising};
 ghost use Rattle.sq_store.specs.declared.store.TheConstants.{MOST_ROW_NUMBERS};
 
@@ -35,7 +36,8 @@ pub trait Store: Drop {
     ghost row_numbers: { Self → ℕ };
 
     /// An empty table for each entry of `keys`, which has the column positions of each key of that table. The entry of
-    /// `lookups` at the same place, if there is one, has lists of columns for which `has_row` will be asked of that table.
+    /// `lookups` at the same place, if there is one, has lists of columns for which `has_row` and `find_rows` will be asked of
+    /// that table.
     fn new(
         alloc: Global,
         keys: &[Vec<Vec<usize>>],
@@ -98,6 +100,21 @@ pub trait Store: Drop {
             (λ r. has_columns columns.now r.row) (table_at (content_now self.now) table).rows ≡ true }
         ensures { result ≡ is_some
             (with_key (table_at (content_now self.now) table) columns.now values.now) };
+
+    /// The rows with one of several lists of values in these columns, in the order of their numbers; `None` if the store has no
+    /// quick way to them. Null is the same as null, and a column that a row lacks is null.
+    fn find_rows(
+        &self,
+        alloc: Global,
+        table: usize,
+        columns: &[usize],
+        several: &[Row],
+        meter: &mut Meter,
+    ) -> Result<Option<Vec<(u64, &Row)>>, AllocError>
+        requires { table < length (content_now self.now) }
+        ensures rows { IfOk result (λ found. IfSome found (λ rows. numbered_in rows
+            ≡ with_one_of (table_at (content_now self.now) table) columns.now several.now)) }
+        ensures metered { meter.new ≡ counted_found result meter.old };
 
     /// The number of the next new row.
     fn next_number(&self, table: usize) -> u64
