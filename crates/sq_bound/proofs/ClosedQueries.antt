@@ -7,8 +7,9 @@ use Rattle.sq_meaning.specs.Syntax.{Select}
 use Rattle.sq_meaning.specs.Environment.{Row, Scope, Env, Place, alone}
 use Rattle.sq_meaning.specs.Placed.{Placed, by_place}
 use Rattle.sq_meaning.specs.Query.{rows}
+use Rattle.sq_meaning.proofs.Related.{GroupsAlike}
 use Rattle.sq_bound.specs.Columns.{IsInside, IsClosed}
-use Rattle.sq_bound.proofs.SameColumns.{Scopes, AreAlike, Nearest, value_there, rows_same}
+use Rattle.sq_bound.proofs.SameColumns.{Scopes, AreAlike, value_there, rows_same}
 
 -- the nearest scopes, so many, are the same
 abbrev SameInside : ℕ → Scopes → Scopes → Type 0
@@ -36,7 +37,7 @@ column_inside : (deep : ℕ) (p : Place) (xs ys : Scopes) → SameHere deep xs y
 column_inside deep p xs ys h k =
     ap (λ o. option_and_then (λ (s : Scope (Unit {0})). option_and_then (λ (row : Row). slice_get row p.column) (slice_get s.line p.item)) o) (scope_inside deep p.depth xs ys (around_closed deep xs ys h) k)
 
-nearest_inside : (deep : ℕ) (xs ys : Scopes) → SameHere deep xs ys → Nearest (SameHere deep) xs ys
+nearest_inside : (deep : ℕ) (xs ys : Scopes) → SameHere deep xs ys → GroupsAlike (SameHere deep) xs ys
 nearest_inside zero xs ys h = absurd h
 nearest_inside (suc deep) [] ys h = absurd h
 nearest_inside (suc deep) (s ∷ xs) [] h = absurd h

@@ -1,9 +1,9 @@
 -- A sure tree never ends with a status other than 42000, in whatever environment (ISO/IEC 9075:1992, 6.5, 6.11, 7.9 and
 -- clause 8).
 use Rattle.std.proofs.Common.{◌≡◌, inl, inr, ℕ, Bool, true, false, ◌&&◌, List, [], ◌∷◌, ◌++◌, map, Option, Some, None, refl, Ok, Err}
-use Rattle.std.specs.Prelude.{⊤, Result, if◌then◌else◌, not}
+use Rattle.std.specs.Prelude.{⊤, IfSome, Result, if◌then◌else◌, not}
 use Rattle.std.specs.List.{AllByRecursion, list_all, flat_map}
-use Rattle.std.proofs.lemmas.Bool.{not-true}
+use Rattle.std.proofs.lemmas.Bool.{and_parts, not-true}
 use Rattle.sq_value.proofs.Truths.{both_left, both_right}
 use Rattle.sq_value.specs.Pattern.{liked, pattern_items, cut_as_read, plain, with_item}
 use Rattle.sq_value.specs.SetFunctions.{is_null as is_null_value}
@@ -24,13 +24,13 @@ use Rattle.sq_tree.specs.declared.expr.Sign.TheVariants.{Plus, Minus}
 use Rattle.sq_meaning.specs.Status.{Outcome, and_then, each, kept, well_formed, with_status, like_status, not_well_formed}
 use Rattle.sq_meaning.specs.Syntax.{Naming, Expr, literal, parameter, user, column, count_rows, set_function, signed, added, scaled, bracketed, SelectList, all_columns, expressions, Cond, Conds, Clause, Select, compare, compare_subquery, compare_quantified, between, in_subquery, in_list, like, is_null, exists, negated, conjunction, disjunction, no_cond, a_cond, absent, present, select}
 use Rattle.sq_meaning.specs.Environment.{Row, Line, Scope, Env, Place, within, alone, value_at, with_indicator, is_below_zero}
-use Rattle.sq_meaning.specs.Expression.{value, with_sign, of_nearest, over_group, function_value, distinct_values, set_functions}
+use Rattle.sq_meaning.specs.Expression.{value, with_sign, of_nearest, over_group, function_value, distinct_values}
 use Rattle.sq_meaning.specs.Placed.{Placed, input_at, by_place}
-use Rattle.sq_meaning.specs.Query.{compared, comparison, and_also, or_else, any_in_turn, compared_with_rows, has_rows, like_truth, escape_functions, cond_functions, conds_functions, list_functions, clause_functions, is_grouped, group_scope, grouping_values, grouped, groups_by, group_scopes, scopes_of, listed_values, is_true, truth, all_truth, any_truth, clause_truth, rows}
+use Rattle.sq_meaning.specs.Query.{compared, comparison, and_also, or_else, any_in_turn, compared_with_rows, has_rows, like_truth, list_functions, clause_functions, is_grouped, group_scope, grouping_values, grouped, groups_by, group_scopes, scopes_of, listed_values, is_true, truth, all_truth, any_truth, clause_truth, rows}
 use Rattle.sq_meaning.specs.Quiet.{has_no_escape}
 use Rattle.sq_meaning.specs.Rows.{product, firsts, same_row}
 use Rattle.sq_meaning.specs.Sure.{IsSureOutcome, is_extreme, is_sure_expr, is_sure_list, is_sure, are_sure, is_sure_clause, is_sure_select}
-use Rattle.sq_meaning.proofs.AnswerLaws.{all_appended}
+use Rattle.sq_meaning.proofs.Parts.{ExprParts, CondParts, ListHas, ClauseHas, functions_have}
 
 -- ---- tests
 
@@ -143,72 +143,63 @@ function_no_fault Count values h = absurd cc
 function_no_fault Sum values h = absurd cc
 function_no_fault Avg values h = absurd cc
 
--- ---- the set functions of what is sure are sure
+-- ---- what is sure is made of what is sure
+
+no_escape : {N : Naming} (escape : Option (Expr N)) → has_no_escape escape ≡ true → IfSome escape (λ e. is_sure_expr e ≡ true)
+no_escape None h = tt
+no_escape (Some e) h = absurd cc
 
 module _ {N : Naming} where
   abbrev pub AreSureExprs : List (Expr N) → Type 0
   AreSureExprs es = AllByRecursion (λ e. is_sure_expr e ≡ true) es
 
-  joined : (es fs : List (Expr N)) → AreSureExprs es → AreSureExprs fs → AreSureExprs (es ++ fs)
-  joined = all_appended (λ e. is_sure_expr e ≡ true)
-
-  functions_sure : (e : Expr N) → is_sure_expr e ≡ true → AreSureExprs (set_functions e)
-  functions_sure (literal v) h = tt
-  functions_sure (parameter p) h = tt
-  functions_sure user h = tt
-  functions_sure (column c) h = tt
-  functions_sure count_rows h = absurd cc
-  functions_sure (set_function function distinct e) h = (h, tt)
-  functions_sure (signed sign e) h = functions_sure e h
-  functions_sure (added sign a b) h = absurd cc
-  functions_sure (scaled sign a b) h = absurd cc
-  functions_sure (bracketed e) h = functions_sure e h
-
-  list_sure : (es : List (Expr N)) → list_all is_sure_expr es ≡ true → AreSureExprs (flat_map set_functions es)
-  list_sure [] h = tt
-  list_sure (e ∷ es) h =
-      joined (set_functions e) (flat_map set_functions es) (functions_sure e (both_left (is_sure_expr e) (list_all is_sure_expr es) h)) (list_sure es (both_right (is_sure_expr e) (list_all is_sure_expr es) h))
-
-  escape_sure : (escape : Option (Expr N)) → has_no_escape escape ≡ true → AreSureExprs (escape_functions escape)
-  escape_sure None h = tt
-  escape_sure (Some e) h = absurd cc
-
-  two_sure : (a b : Expr N) → (is_sure_expr a && is_sure_expr b) ≡ true → AreSureExprs (set_functions a ++ set_functions b)
-  two_sure a b h = joined (set_functions a) (set_functions b) (functions_sure a (both_left (is_sure_expr a) (is_sure_expr b) h)) (functions_sure b (both_right (is_sure_expr a) (is_sure_expr b) h))
+  sure_expr : ExprParts {N = N} (λ n e. is_sure_expr e ≡ true)
+  sure_expr = record {
+    of_signed = λ n sign e h. h;
+    of_added = λ n sign a b h. absurd cc;
+    of_scaled = λ n sign a b h. absurd cc;
+    of_bracketed = λ n e h. h;
+  }
 
   module _ (may_fail : N.Table → Bool) where
-    mutual
-      cond_sure : (c : Cond N) → is_sure may_fail c ≡ true → AreSureExprs (cond_functions c)
-      cond_sure (compare op a b) h = two_sure a b h
-      cond_sure (compare_subquery op a q) h = absurd cc
-      cond_sure (compare_quantified op k a q) h = functions_sure a (both_left (is_sure_expr a) (is_sure_select may_fail q) h)
-      cond_sure (between a low high) h =
-          joined (set_functions a ++ set_functions low) (set_functions high) (two_sure a low (both_left (is_sure_expr a && is_sure_expr low) (is_sure_expr high) h))
-          (functions_sure high (both_right (is_sure_expr a && is_sure_expr low) (is_sure_expr high) h))
-      cond_sure (in_subquery a q) h = functions_sure a (both_left (is_sure_expr a) (is_sure_select may_fail q) h)
-      cond_sure (in_list a es) h =
-          joined (set_functions a) (flat_map set_functions es) (functions_sure a (both_left (is_sure_expr a) (list_all is_sure_expr es) h)) (list_sure es (both_right (is_sure_expr a) (list_all is_sure_expr es) h))
-      cond_sure (like text pattern escape) h =
-          joined (set_functions text ++ set_functions pattern) (escape_functions escape) (two_sure text pattern (both_left (is_sure_expr text && is_sure_expr pattern) (has_no_escape escape) h))
-          (escape_sure escape (both_right (is_sure_expr text && is_sure_expr pattern) (has_no_escape escape) h))
-      cond_sure (is_null a) h = functions_sure a h
-      cond_sure (exists q) h = tt
-      cond_sure (negated c) h = cond_sure c h
-      cond_sure (conjunction cs) h = conds_sure cs h
-      cond_sure (disjunction cs) h = conds_sure cs h
+    sure_cond : CondParts {N = N} (λ n e. is_sure_expr e ≡ true) (λ n c. is_sure may_fail c ≡ true)
+        (λ n cs. are_sure may_fail cs ≡ true) (λ n q. is_sure_select may_fail q ≡ true)
+    sure_cond = record {
+      of_compare = λ n op a b h. and_parts (is_sure_expr a) (is_sure_expr b) h;
+      of_scalar = λ n op a q h. absurd cc;
+      of_quantified = λ n op k a q h. and_parts (is_sure_expr a) (is_sure_select may_fail q) h;
+      of_between = λ n a low high h.
+          let last = and_parts (is_sure_expr a && is_sure_expr low) (is_sure_expr high) h in
+          let first = and_parts (is_sure_expr a) (is_sure_expr low) last.0 in (first.0, first.1, last.1);
+      of_among = λ n a q h. and_parts (is_sure_expr a) (is_sure_select may_fail q) h;
+      of_list = λ n a es h.
+          let both = and_parts (is_sure_expr a) (list_all is_sure_expr es) h in (both.0, all_passed is_sure_expr es both.1);
+      of_like = λ n text pattern escape h.
+          let last = and_parts (is_sure_expr text && is_sure_expr pattern) (has_no_escape escape) h in
+          let first = and_parts (is_sure_expr text) (is_sure_expr pattern) last.0 in
+          (first.0, first.1, no_escape escape last.1);
+      of_null = λ n a h. h;
+      of_exists = λ n q h. h;
+      of_negated = λ n c h. h;
+      of_conjunction = λ n cs h. h;
+      of_disjunction = λ n cs h. h;
+      of_first = λ n c cs h. and_parts (is_sure may_fail c) (are_sure may_fail cs) h;
+    }
 
-      conds_sure : (cs : Conds N) → are_sure may_fail cs ≡ true → AreSureExprs (conds_functions cs)
-      conds_sure no_cond h = tt
-      conds_sure (a_cond c cs) h =
-          joined (cond_functions c) (conds_functions cs) (cond_sure c (both_left (is_sure may_fail c) (are_sure may_fail cs) h)) (conds_sure cs (both_right (is_sure may_fail c) (are_sure may_fail cs) h))
+    list_sure : (list : SelectList N) → is_sure_list list ≡ true → ListHas (λ n e. is_sure_expr e ≡ true) 0 list
+    list_sure all_columns h = tt
+    list_sure (expressions es) h = all_passed is_sure_expr es h
 
-    clause_sure : (c : Clause N) → is_sure_clause may_fail c ≡ true → AreSureExprs (clause_functions c)
+    clause_sure : (c : Clause N) → is_sure_clause may_fail c ≡ true → ClauseHas (λ n d. is_sure may_fail d ≡ true) 0 c
     clause_sure absent h = tt
-    clause_sure (present c) h = cond_sure c h
+    clause_sure (present c) h = h
 
-  shown_sure : (list : SelectList N) → is_sure_list list ≡ true → AreSureExprs (list_functions list)
-  shown_sure all_columns h = tt
-  shown_sure (expressions es) h = list_sure es h
+    functions_sure : (list : SelectList N) (having : Clause N) → is_sure_list list ≡ true → is_sure_clause may_fail having ≡ true
+        → AreSureExprs (list_functions list ++ clause_functions having)
+    functions_sure list having h k =
+        functions_have (λ n e. is_sure_expr e ≡ true) sure_expr (λ n c. is_sure may_fail c ≡ true)
+        (λ n cs. are_sure may_fail cs ≡ true) (λ n q. is_sure_select may_fail q ≡ true) sure_cond 0 list having
+        (list_sure list h) (clause_sure having k)
 
 -- ---- trees by place, whatever rows the tables have
 
@@ -385,7 +376,7 @@ module _ {T : Type 0} (may_fail : T → Bool) (tables : T → Outcome (List Row)
         let list_is : listed ≡ true = both_right there_all listed two in
         let having_is : kept_groups ≡ true = both_right (there_all && listed && filtered) kept_groups h in
         sure_phases tables distinct list from filter by having env (from_there from (both_left there_all listed two)) list_is
-        (joined (list_functions list) (clause_functions having) (shown_sure list list_is) (clause_sure may_fail having having_is))
+        (functions_sure may_fail list having list_is having_is)
         (λ scope. clause_no_fault filter (within scope env) (both_right (there_all && listed) filtered three)) (λ scope. clause_no_fault having (within scope env) having_is)
 
 -- a condition that is sure has a truth wherever it is well formed
