@@ -1,5 +1,4 @@
--- The set functions of well-formed expressions, conditions and clauses are well formed in the same place (ISO/IEC
--- 9075:1992, 6.5).
+-- The set functions of well-formed expressions, conditions and clauses are well formed in the same place (ISO/IEC 9075:1992, 6.5).
 use Rattle.std.proofs.Common.{List, ◌++◌, Option, Some, None, Ok, Err}
 use Rattle.std.specs.Prelude.{Bool}
 use Rattle.std.specs.List.{AllByRecursion, flat_map}
