@@ -36,8 +36,8 @@ use Rattle.sq_binding.specs.Numbered.{Numbered, tree_of}
 use Rattle.sq_binding.specs.Outcome.{Outcome, ◌>>=◌, or_fault}
 use Rattle.sq_binding.specs.Scope.{FoundColumn, Scope, column_meant}
 
--- the bound form of an expression: its tree and kind, and the set functions that it adds to its query, in the order of the
--- text. Then whether computing one of these may answer a status, and the findings in it
+-- The bound form of an expression: its tree and kind, and the set functions that it adds to its query, in the order of the
+-- text. Whether computing one of these may answer a status, and the findings in it.
 pub record Bound : Type 0 where
   pub tree : Numbered
   pub kind : Kind
