@@ -12,7 +12,8 @@ use std::alloc::Global;
 
 pub type ExprResult = Result<Bound, Stop>;
 
-/// A bound value expression, the kind of its values, and what it brings along.
+/// A bound value expression, the kind of its values, and its additions to the
+/// query.
 #[derive(Drop)]
 pub struct Bound {
     pub expr: BoundExpr,

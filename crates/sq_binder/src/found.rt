@@ -31,7 +31,7 @@ pub struct Brought {
     pub next: Counts,
 }
 
-/// A part that is bound, and what it brings along.
+/// A bound part, and its additions to the query.
 #[derive(Drop)]
 pub struct Found<T> {
     pub part: T,
