@@ -108,7 +108,7 @@ row_retrieved parameters (target ∷ targets) (v ∷ vs) =
 
 -- ---- the answer of a call
 
--- a status, and the targets and their indicators with what they were set to
+-- a status, and the targets and their indicators with the values assigned to them
 pub record Reply : Type 0 where
   pub status : Status
   pub outputs : List Assignment

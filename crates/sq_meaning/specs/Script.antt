@@ -38,7 +38,7 @@ argument_values (arguments.Listed list) = map argument_value (listed list)
 
 -- ---- values that fit a procedure
 
--- null, or what the domain can store
+-- null, or a value that the domain can store
 abbrev pub fits_in : Domain → Value → Bool
 fits_in d v = is_ok (stored d v)
 
