@@ -55,8 +55,8 @@ abbrev pub groups_if : Option Groups → Groups
 groups_if None = no_groups
 groups_if (Some groups) = groups
 
--- One level of a tree, with what its parts mean in their places. The set functions of the group have given trees in the
--- order of the text: a condition waits for them. Those of a subquery are its own.
+-- One level of a tree, with the meanings of its parts in their places. The set functions of the group have given trees
+-- in the order of the text: a condition waits for them. A subquery's set functions are its own.
 
 abbrev C : Type 0
 C = List PlacedExpr → PlacedCond
