@@ -65,7 +65,7 @@ each_column t name_of make before (x ∷ xs) = do
 abbrev pub itself : Name → Receiver → Binding Receiver
 itself name receiver = pure receiver
 
--- the columns that get values: those that are listed, or all
+-- the columns that get values: the listed ones, or all
 abbrev pub receivers_bound : ChangedTable → Option (CommaList Name) → Binding (List Receiver)
 receivers_bound t None = pure (receivers_of t)
 receivers_bound t (Some list) = each_column t (λ name. name) itself [] (listed list)
