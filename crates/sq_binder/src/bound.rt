@@ -20,7 +20,7 @@ pub struct Bound {
     pub kind: Kind,
     /// The set functions that it adds to its query, in the order of the text.
     pub calls: Items<SetFunctionCall>,
-    /// Whether computing one of those may answer a status.
+    /// Whether computing one of these set functions may answer a status.
     pub calls_can_fail: bool,
     pub findings: Findings,
     pub ghost bounded: { is_bounded kind ≡ true },

@@ -24,7 +24,7 @@ pub struct Counts {
 pub struct Brought {
     /// The set functions that it adds to its query, in the order of the text.
     pub calls: Items<SetFunctionCall>,
-    /// Whether computing one of those may answer a status.
+    /// Whether computing one of these set functions may answer a status.
     pub calls_can_fail: bool,
     pub findings: QueryFindings,
     /// The counts after the part.
