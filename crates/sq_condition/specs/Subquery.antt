@@ -43,7 +43,7 @@ KnowsPredicate context p meant = PredicateWith (IsKnown context meant) p
 abbrev pub KnowsGrouping : Context → Grouping → Meant → Type 0
 KnowsGrouping context g meant = GroupingWith (IsKnown context meant) g
 
--- a query specification is known, and those in its parts
+-- a query specification is known, and so are the ones in its parts
 abbrev pub KnowsQuery : Context → BoundSpecification → Meant → Type 0
 KnowsQuery context q meant = SelectWith (IsKnown context meant) q
 
