@@ -1,4 +1,4 @@
-//! A part of a text, and what is to be said of it.
+//! A part of a text, and the remark on it.
 use crate::remark::Remark;
 use sq_lex::Name;
 

@@ -210,7 +210,7 @@ fn are_columns(names: &mut IndexSet<Name>, list: &CommaList<Expr>) -> Result<boo
     }
 }
 
-/// Whether each item is a column, of another name than these and those before it; the names are added.
+/// Whether each item is a column, of another name than these and the ones before it; the names are added.
 fn are_new_columns(names: &mut IndexSet<Name>, items: &[Expr]) -> Result<bool, AllocError>
     ensures { IfOk result (λ are. are ≡ spec.are_new_columns names.old.keys (map spec.column_of items.now)) }
 {
