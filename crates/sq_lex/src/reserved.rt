@@ -114,8 +114,7 @@ fn start(place: usize) -> usize
     STARTS[place] as usize
 }
 
-/// The reserved word with this spelling in upper case, if there is one. It is looked up among the words with its first
-/// letter.
+/// The reserved word with this spelling in upper case, if there is one. It is looked up among the words with its first letter.
 #[tactic(auto, unfolding(crate::specs::Reserved::reserved), using(crate::proofs::FirstLetters::ordered, crate::proofs::FirstLetters::inside))]
 pub fn reserved(spelling: &[u8]) -> Option<Word>
     ensures { result ≡ spec.reserved spelling.now }
