@@ -38,8 +38,7 @@ use Rattle.sq_meaning.specs.Catalog.{column_domain, tables_of}
 use Rattle.sq_meaning.specs.Constraints.{all_satisfied, constraints_checked, demanded}
 use Rattle.sq_meaning.specs.Schema.{BaseTable, Elements, base_tables, column_definitions, place_among}
 
--- the inputs of a statement: the schema elements, the greatest row number, the database, the parameters, and the
--- module's user
+-- the inputs of a statement: the schema elements, the greatest row number, the database, the parameters, and the module's user
 pub record Setting : Type 0 where
   pub elements : Elements
   pub row_numbers : ℕ

@@ -101,8 +101,7 @@ privilege_underneath view source (Privilege.update c) =
     option_map Privilege.update (column_underneath view source c)
 privilege_underneath view source _ = None
 
--- on an updatable view INSERT, DELETE and UPDATE follow the privileges on the table of its FROM clause, UPDATE column
--- by column
+-- on an updatable view INSERT, DELETE and UPDATE follow the privileges on the table of its FROM clause, UPDATE column by column
 abbrev pub holds_underneath : Holding → Name → (grantable : Bool) → TableDescriptor → Source → Privilege
     → Bool
 holds_underneath held owner grantable view source p =
