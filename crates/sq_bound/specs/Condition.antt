@@ -40,8 +40,7 @@ compared_with Scalar op left q = compare_subquery op left q
 compared_with All op left q = compare_quantified op quantifier.All left q
 compared_with Any op left q = compare_quantified op quantifier.Any left q
 
--- the grouping of a query specification: its set functions in the order of the text, the columns of GROUP BY, and
--- HAVING
+-- the grouping of a query specification: its set functions in the order of the text, the columns of GROUP BY, and HAVING
 pub record Groups : Type 0 where
   pub functions : List PlacedExpr
   pub columns : List meaning.Place
