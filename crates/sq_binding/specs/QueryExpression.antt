@@ -1,5 +1,4 @@
--- The bound forms of query expressions: query specifications, joined by UNION (ISO/IEC 9075:1992, 7.10). Brackets change
--- nothing.
+-- The bound forms of query expressions: query specifications, joined by UNION (ISO/IEC 9075:1992, 7.10). Brackets change nothing.
 use Rattle.std.specs.Prelude.{Bool, ◌==◌, List, length}
 use Rattle.std.specs.List.{zip}
 use Rattle.std.specs.Result.{result_ok}
