@@ -12,8 +12,7 @@ use std::alloc::Global;
 
 pub type ExprResult = Result<Bound, Stop>;
 
-/// A bound value expression, the kind of its values, and its additions to the
-/// query.
+/// A bound value expression, the kind of its values, and its additions to the query.
 #[derive(Drop)]
 pub struct Bound {
     pub expr: BoundExpr,
