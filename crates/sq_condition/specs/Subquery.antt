@@ -1,5 +1,4 @@
--- The facts known about the subqueries of a condition or of a query specification before it is evaluated (ISO/IEC 9075:1992,
--- 7.11).
+-- The facts known about the subqueries of a condition or of a query specification before it is evaluated (ISO/IEC 9075:1992, 7.11).
 use Rattle.std.specs.Prelude.{◌≡◌, List, IfSome}
 use Rattle.sq_meaning.specs.Environment.{Scope}
 use Rattle.sq_meaning.specs.Query.{rows}
@@ -17,8 +16,7 @@ use Rattle.sq_condition.specs.Memo.{Meant, IsMemoOf}
 use Rattle.sq_expression.specs.declared.context.Context.{Context}
 use Rattle.sq_condition.specs.declared.memo.Memo.{Memo}
 
--- A query specification with a number ends with the rows meant by that number, whatever queries are around it. All notes on
--- it are true.
+-- A query specification with a number ends with the rows meant by that number, whatever queries are around it. All notes on it are true.
 pub record IsKnown (context : Context) (meant : Meant) (q : BoundSpecification) : Type 0 where
   pub anywhere : IfSome (number_of q)
       (λ n. (scopes : List (Scope (Unit {0})))
