@@ -86,7 +86,7 @@ given_at given place = option_map (λ g. g.1) (find (λ g. g.0 == place) given)
 abbrev pub check_options_met : Setting → Target → List Row → Outcome (Unit {0})
 check_options_met s target rows = all_satisfied (meets_check_option (reading_in s) (outer_env s) target) rows
 
--- a database in which constraints hold after the change
+-- a database, if the constraints that concern the change hold in it
 abbrev pub completed_with : Setting → BaseTable → Content → Outcome Content
 completed_with s t content = do
   _ ← constraints_checked s.elements t content
