@@ -1,5 +1,4 @@
--- The parts that INSERT, UPDATE and DELETE change: tables, columns, rows and the values that
--- they get.
+-- The parts that INSERT, UPDATE and DELETE change: tables, columns, rows and the values that they get.
 pub mod Bases
 pub mod ChangedRows
 pub mod Columns

@@ -1,5 +1,4 @@
--- The contract of a function that binds: it answers what the definition computes, seen by an image, unless memory ran
--- out.
+-- The contract of a function that binds: it answers what the definition computes, seen by an image, unless memory ran out.
 use Rattle.std.specs.Prelude.{⊤, ◌≡◌, None, Some, Result, Ok, Err}
 use Rattle.sq_lex.specs.declared.name.Name.{Name}
 use Rattle.sq_meaning.specs.declared.fault.BindingFault.{BindingFault}

@@ -1,4 +1,4 @@
--- Bound expressions and what they bring along, as the definitions see them (ISO/IEC 9075:1992, 6.5 and 6.11).
+-- Bound expressions and their additions to the query, as the definitions see them (ISO/IEC 9075:1992, 6.5 and 6.11).
 use Rattle.std.specs.Prelude.{map}
 use Rattle.sq_binding.specs.Expression as binding
 use Rattle.sq_binding.specs.Findings as binding_findings

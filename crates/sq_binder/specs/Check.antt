@@ -1,5 +1,4 @@
--- The contract of a function that binds the condition of a CHECK (ISO/IEC 9075:1992,
--- 11.9).
+-- The contract of a function that binds the condition of a CHECK (ISO/IEC 9075:1992, 11.9).
 use Rattle.std.specs.Prelude.{⊤, ◌≡◌, false, None, Result, Ok, Err}
 use Rattle.sq_bound.specs.declared.condition.BoundCond.{BoundCond}
 use Rattle.sq_binding.specs.NumberedCondition.{NumberedCond}

@@ -1,5 +1,4 @@
--- Value expressions in their surroundings, and sums and products with a further operand (ISO/IEC 9075:1992, 6.11 and
--- 6.12).
+-- Value expressions in their surroundings, and sums and products with a further operand (ISO/IEC 9075:1992, 6.11 and 6.12).
 use Rattle.std.specs.Prelude.{ℕ, ◌+◌, length}
 use Rattle.sq_tree.specs.declared.expr.Sign.{Sign}
 use Rattle.sq_tree.specs.declared.expr.TimesSign.{TimesSign}

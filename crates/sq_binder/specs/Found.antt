@@ -1,4 +1,4 @@
--- Parts of a query that are bound, as the definitions see them, and what a function that binds one ensures.
+-- Bound parts of a query, as the definitions see them, and the contract of a function that binds one.
 use Rattle.std.specs.Prelude.{Bool, false, ◌≡◌, ◌++◌, ◌∷◌, [], List, ◌||◌, map, Result, Ok, Err}
 use Rattle.sq_binding.specs.Found.{Binding, after, joined}
 use Rattle.sq_binding.specs.Found as binding
@@ -29,7 +29,7 @@ with_can_fail can_fail f = record f { values = record f.values { can_fail = can_
 abbrev pub counts_of : Counts → binding.Counts
 counts_of c = record { functions = c.functions; subqueries = c.subqueries }
 
--- a part with what is brought along
+-- a part with these additions
 abbrev pub with_brought : {A : Type 0} → A → Brought → binding.Found A
 with_brought part b = record {
   part = part;
@@ -53,7 +53,7 @@ Finds image b before (Ok x) =
     × (counts_of x.brought.next ≡ after (counts_of before) (found_of image x))
 Finds image b before (Err stop) = Stops (b (counts_of before)) stop
 
--- nothing is brought along
+-- nothing is added
 abbrev pub no_findings : Findings
 no_findings = record {
   items = 0;

@@ -39,7 +39,7 @@ union_of all left right =
     left >>= λ x. right >>= λ y. common_columns (columns_of_query x) (columns_of_query y)
     >>= λ columns. pure (NumberedQuery.joined all x y columns)
 
--- both sides of UNION become one query, whose columns are those to which they are brought
+-- both sides of UNION become one query, whose columns are the ones to which they are brought
 abbrev pub Joins : (all : Bool) → Found (BoundQuery × (BoundTerm × List BoundColumn))
     → Result (Found BoundQuery) Stop → Type 0
 Joins all sides (Ok query) =

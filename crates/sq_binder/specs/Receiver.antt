@@ -47,8 +47,7 @@ abbrev pub column_after : {A B : Type 0} → List binding.Receiver → (A → Na
 column_after all name_of make p =
     column_made all (name_of p.1) (has_name_twice (p.0 ++ name_of p.1 ∷ [])) (make p.1)
 
--- the results of `make` on each column that a list names, if none is named
--- twice
+-- the results of `make` on each column that a list names, if none is named twice
 abbrev pub columns_made : {A B : Type 0} → List binding.Receiver → (A → Name)
     → (A → binding.Receiver → Binding B) → List A → Binding (List B)
 columns_made all name_of make xs = each (column_after all name_of make) (with_names name_of [] xs)

@@ -43,7 +43,7 @@ scope_over items grouping = record { items = map item_of items; grouping = group
 abbrev pub scope_of : Scope → binding.Scope
 scope_of scope = scope_over (out-Scope scope).items.now (out-Scope scope).grouping
 
--- a scope and those around it, the nearest first
+-- a scope and the scopes around it, the nearest first
 abbrev mutual
   pub scopes_of : Scope → List binding.Scope
   scopes_of (Scope' items grouping outer) = scope_over items.now grouping ∷ scopes_around outer

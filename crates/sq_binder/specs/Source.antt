@@ -31,7 +31,7 @@ abbrev pub unless : {A : Type 0} → Option BindingFault → A → Result A Stop
 unless None x = Ok x
 unless (Some f) x = Err (broken f)
 
--- the rows of a query are inserted, if its columns fit those that get values
+-- the rows of a query are inserted, if its columns fit the columns that get values
 abbrev pub Inserts : List Receiver → Result (Found BoundSpecification) Stop → Result (Found InsertedRows) Stop
     → Type 0
 Inserts receivers (Ok query) rows =

@@ -1,5 +1,4 @@
--- The surroundings of a part of a query, and its value expressions, as the definitions see
--- them.
+-- The surroundings of a part of a query, and its value expressions, as the definitions see them.
 use Rattle.std.specs.Prelude.{map}
 use Rattle.sq_meaning.specs.Tables.{ColumnDescriptor}
 use Rattle.sq_bound.specs.declared.names.Column.{Column}

@@ -31,8 +31,7 @@ AreAssignmentsOf base = AllByRecursion (IsAssignmentOf base)
 abbrev pub IsUpdateOver : Leaf → BoundUpdate → Type 0
 IsUpdateOver leaf u = (under u.target ≡ leaf) × AreAssignmentsOf leaf.table u.assignments
 
--- a set clause whose value may name columns of the table; the user holds these privileges
--- on it
+-- a set clause whose value may name columns of the table; the user holds these privileges on it
 abbrev pub assignment_in : (holds : Privilege → Bool) → Surroundings → Assignment → Receiver
     → Binding NumberedAssignment
 assignment_in holds a s receiver = do

@@ -12,14 +12,14 @@ use std::alloc::Global;
 
 pub type ExprResult = Result<Bound, Stop>;
 
-/// A bound value expression, the kind of its values, and what it brings along.
+/// A bound value expression, the kind of its values, and its additions to the query.
 #[derive(Drop)]
 pub struct Bound {
     pub expr: BoundExpr,
     pub kind: Kind,
     /// The set functions that it adds to its query, in the order of the text.
     pub calls: Items<SetFunctionCall>,
-    /// Whether computing one of those may answer a status.
+    /// Whether computing one of these set functions may answer a status.
     pub calls_can_fail: bool,
     pub findings: Findings,
     pub ghost bounded: { is_bounded kind ≡ true },

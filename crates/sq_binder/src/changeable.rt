@@ -18,7 +18,7 @@ use sq_meaning::BindingFault;
 use sq_tree::TableName;
 use std::alloc::{AllocError, Global};
 
-/// A table that may be changed, by its owner and its name, and what is under it.
+/// A table that may be changed, by its owner and its name, and the rows and columns under it.
 #[derive(Clone, Copy)]
 pub struct ChangedTable<'a> {
     pub user: Name,

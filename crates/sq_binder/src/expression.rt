@@ -36,8 +36,7 @@ pub struct Standing<'a> {
     pub in_function: bool,
 }
 
-/// A value expression in an environment that allows set functions or not. `before` set functions of the query come before
-/// it.
+/// A value expression in an environment that allows set functions or not. `before` set functions of the query come before it.
 pub fn bind_expr(
     expr: &Expr,
     environment: &Environment<'_>,

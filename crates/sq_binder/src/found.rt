@@ -24,14 +24,14 @@ pub struct Counts {
 pub struct Brought {
     /// The set functions that it adds to its query, in the order of the text.
     pub calls: Items<SetFunctionCall>,
-    /// Whether computing one of those may answer a status.
+    /// Whether computing one of these set functions may answer a status.
     pub calls_can_fail: bool,
     pub findings: QueryFindings,
     /// The counts after the part.
     pub next: Counts,
 }
 
-/// A part that is bound, and what it brings along.
+/// A bound part, and its additions to the query.
 #[derive(Drop)]
 pub struct Found<T> {
     pub part: T,

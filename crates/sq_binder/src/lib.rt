@@ -6,9 +6,9 @@
 //! the fault included, or that memory ran out. `Finds` says it of a part of a query, after the set functions and subqueries before
 //! it.
 //!
-//! An image is the part of a value here that the definitions see. It leaves out what is known of the kinds in a bound tree, and all
-//! but the place of the base table under a table. It also leaves out the key by which a condition names a row, and the columns that
-//! are kept with a query. A second clause says these.
+//! An image is the part of a value here that the definitions see. It leaves out the kinds in a bound tree, and all but the place of
+//! the base table under a table. It also leaves out the key by which a condition names a row, and the columns that are kept with a
+//! query. A second clause says these.
 #![tactic(auto)]
 
 mod assignment;

@@ -13,7 +13,7 @@ pub enum Privilege {
     Update(Name),
 }
 
-/// The tables that the texts of a user may name, those among them that may be changed, and the privileges of the user.
+/// The tables that the texts of a user may name, the tables among them that may be changed, and the privileges of the user.
 pub trait ChangeableTables: Tables {
     ghost use Rattle.std.specs.Prelude.{◌≡◌};
     ghost use Rattle.std.specs.Option.{option_map};

@@ -62,7 +62,7 @@ fn receiver_at(column: &ItemColumn) -> Receiver
     }
 }
 
-/// The columns of an insert statement: those that it lists, or all.
+/// The columns of an insert statement: the listed ones, or all.
 pub fn insert_receivers(
     alloc: Global,
     table: &ChangedTable<'_>,
@@ -137,7 +137,7 @@ fn receiver_by_name(
     Ok(bring_nothing(alloc, receiver, before))
 }
 
-/// The column of a name that is not among those before it.
+/// The column of a name that is not among the names before it.
 pub fn receiver_named(name: Name, again: bool, all: &[Receiver]) -> Result<Receiver, Stop>
     ensures { Binds receiver_seen (named_once (map receiver_seen all.now) name again) result }
 {

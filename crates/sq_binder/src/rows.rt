@@ -27,8 +27,8 @@ pub type RowsResult = Result<Found<ChangeTarget>, Stop>;
 /// They are the row that a cursor is on, the rows that meet a condition, or all rows of the
 /// table.
 ///
-/// It answers the first fault of the condition, or else `UnknownCursor` if the name means no
-/// cursor. It answers `NotUpdatable` if the cursor is not updatable or is over another table.
+/// It answers the first fault of the condition. For a cursor it answers `UnknownCursor` if
+/// the name means none, and `NotUpdatable` if it is not updatable or is over another table.
 pub fn bind_rows<T: ChangeableTables, C: Cursors>(
     target: &Option<Where>,
     table: &ChangedTable<'_>,

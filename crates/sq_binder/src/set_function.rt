@@ -131,7 +131,7 @@ fn call_can_fail(function: SetFunction, operand_can_fail: bool) -> bool
     operand_can_fail || !is_extreme(function)
 }
 
-/// Whether its value is one of those that it is over.
+/// Whether its value is one of the values that it is over.
 fn is_extreme(function: SetFunction) -> bool
     ensures { result ≡ is_extreme function }
 {

@@ -37,7 +37,7 @@ impl Counts {
     }
 }
 
-/// A query specification of these parts, so many set functions of the query around it before.
+/// A query specification of these parts, after `before` set functions of the query around it.
 pub fn specification(
     alloc: Global,
     distinct: bool,

@@ -33,7 +33,7 @@ impl Stop {
         Stop::Fault(Fault { rule, about: None })
     }
 
-    /// The rule is broken by what has this name.
+    /// A broken rule, with the name that breaks it.
     pub fn about(rule: BindingFault, name: Name) -> Stop
         ensures { result ≡ about rule name }
     {

@@ -1,5 +1,4 @@
--- Findings in a query that are made exactly if they are asked of one of its
--- sites.
+-- Findings in a query that are made exactly if they are asked of one of its sites.
 pub mod ColumnsSeen
 pub mod Outermost
 pub mod Privileges

@@ -1,5 +1,4 @@
--- Inductions over parts that are bound one after the other, and over each expression, condition and query, case by
--- case.
+-- Inductions over parts that are bound one after the other, and over each expression, condition and query, case by case.
 pub mod AnyDepth
 pub mod BoundCases
 pub mod Cases

@@ -1,5 +1,4 @@
--- CREATE VIEW: the view that it makes, the columns that the view shows, and the
--- privileges that its owner gets.
+-- CREATE VIEW: the view that it makes, the columns that the view shows, and the privileges that its owner gets.
 pub mod BoundViews
 pub mod CreatedViews
 pub mod ViewAdded

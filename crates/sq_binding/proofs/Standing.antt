@@ -1,5 +1,4 @@
--- A bound tree is well formed at the levels of its scopes, and means the same as the part of it that
--- the definitions see.
+-- A bound tree is well formed at the levels of its scopes, and means the same as the part of it that the definitions see.
 pub mod BoundLaws
 pub mod CondsStand
 pub mod ExprsStand

@@ -161,7 +161,7 @@ entry c t =
 abbrev pub table_count : Catalog → ℕ
 table_count c = length c.bases + length c.views
 
--- ---- who holds what
+-- ---- the privileges that users hold
 
 abbrev pub owns : Name → TableName → Entry → Bool
 owns user t (Entry.base b) = same_name t.user user
@@ -185,7 +185,7 @@ named_table c user t e = record {
   may_grant = may c true user t Privilege.select;
 }
 
--- binding passes on what is under a table, and looks at no condition of it
+-- binding passes on the leaf under a table, and looks at no condition of it
 abbrev pub under_table : DeclaredUnder → UnderTable
 under_table u = record {
   leaf = record { base = u.base; conditions = []; demanded = u.demanded };

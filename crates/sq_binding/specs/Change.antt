@@ -50,8 +50,7 @@ receivers_of t = map receiver_over (zip t.under.columns t.table.columns)
 abbrev pub receiver_named : ChangedTable → Name → Outcome Receiver
 receiver_named t name = or_fault fault.UnknownColumn (find (λ r. same_name r.name name) (receivers_of t))
 
--- The results of `make` on the column of each element of a list in turn, after elements with the names `before`: no name
--- occurs twice.
+-- The results of `make` on the column of each element of a list in turn, after elements with the names `before`: no name occurs twice.
 abbrev pub each_column : {A B : Type 0} → ChangedTable → (A → Name) → (A → Receiver → Binding B)
     → (before : List Name) → List A → Binding (List B)
 each_column t name_of make before [] = pure []
@@ -65,7 +64,7 @@ each_column t name_of make before (x ∷ xs) = do
 abbrev pub itself : Name → Receiver → Binding Receiver
 itself name receiver = pure receiver
 
--- the columns that get values: those that are listed, or all
+-- the columns that get values: the listed ones, or all
 abbrev pub receivers_bound : ChangedTable → Option (CommaList Name) → Binding (List Receiver)
 receivers_bound t None = pure (receivers_of t)
 receivers_bound t (Some list) = each_column t (λ name. name) itself [] (listed list)

@@ -155,7 +155,7 @@ updatable_where t (Some columns) x =
     then None
     else Some (record { table = t.reference.table; target = target_over t x.part; columns = columns })
 
--- a part with what is made of it in its place
+-- a part with the result made of it in its place
 abbrev pub made : {A B : Type 0} → (Found A → B) → Found A → Found B
 made f x = record {
   part = f x;

@@ -47,7 +47,7 @@ abbrev pub conditions_with : List NumberedCond → NumberedClause → List Numbe
 conditions_with below NumberedClause.absent = below
 conditions_with below (NumberedClause.present c) = below ++ c ∷ []
 
--- with the check option new and changed rows have to meet its own condition and all those below it
+-- with the check option, new and changed rows have to meet its own condition and all conditions below it
 abbrev pub above : (check_option : Bool) → NumberedUpdatable → DeclaredUnder → DeclaredUnder
 above check_option over below = record {
   base = below.base;
@@ -88,7 +88,7 @@ updates underneath c =
     option_to_list (option_map (λ name. (Privilege.update c.0, Privilege.update name))
     (option_and_then (slice_get underneath) (column_shown c.1)))
 
--- INSERT and DELETE, and UPDATE of each column, beside those on the table underneath that they follow
+-- INSERT and DELETE, and UPDATE of each column, each with the privilege on the table underneath that it follows
 abbrev pub privileges_followed : List Name → List Name → NumberedSelect → List (Privilege × Privilege)
 privileges_followed names underneath q =
     (Privilege.insert, Privilege.insert) ∷ (Privilege.delete, Privilege.delete)

@@ -1,5 +1,4 @@
--- The declarations of schema texts: a catalog, or their first refusal (ISO/IEC 9075:1992,
--- 11.1).
+-- The declarations of schema texts: a catalog, or their first refusal (ISO/IEC 9075:1992, 11.1).
 use Rattle.std.specs.Prelude.{List, [], ◌∷◌, ◌++◌, Option, Some, None, Result, Ok, Err}
 use Rattle.sq_lex.specs.declared.name.Name.{Name}
 use Rattle.sq_tree.specs.declared.schema.SchemaElement.{SchemaElement}

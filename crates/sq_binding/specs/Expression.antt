@@ -36,8 +36,8 @@ use Rattle.sq_binding.specs.Numbered.{Numbered, tree_of}
 use Rattle.sq_binding.specs.Outcome.{Outcome, ◌>>=◌, or_fault}
 use Rattle.sq_binding.specs.Scope.{FoundColumn, Scope, column_meant}
 
--- the bound form of an expression: its tree and kind, and the set functions that it adds to its query, in the order of the
--- text. Then whether computing one of these may answer a status, and the findings in it
+-- The bound form of an expression: its tree and kind, and the set functions that it adds to its query, in the order of the
+-- text. Whether computing one of these may answer a status, and the findings in it.
 pub record Bound : Type 0 where
   pub tree : Numbered
   pub kind : Kind
@@ -111,8 +111,7 @@ column_findings found = place_findings found.depth found.item found.is_grouped f
 abbrev pub column_bound : FoundColumn → Bound
 column_bound found = plain (Numbered.column (place_of_found found)) found.column.kind (column_findings found)
 
--- In a query around, a column that is no grouping column is a fault here. In the query itself it is one if the query is
--- grouped.
+-- In a query around, a column that is no grouping column is a fault here. In the query itself it is one if the query is grouped.
 abbrev pub column_allowed : (in_function : Bool) → FoundColumn → Outcome Bound
 column_allowed inside found =
     if nat_lt 0 found.depth && not found.is_grouped && not inside

@@ -28,7 +28,7 @@ Binding A = Counts → Outcome (Found A)
 abbrev pub after : {A : Type 0} → Counts → Found A → Counts
 after counts x = record { functions = counts.functions + length x.calls; subqueries = x.subqueries }
 
--- the second of two parts, with what both add
+-- the second of two parts, with the additions of both
 abbrev pub joined : {A B : Type 0} → Found A → Found B → Found B
 joined x y = record {
   part = y.part;

@@ -60,7 +60,7 @@ user_names user known selects grants holds = record {
   holds = holds;
 }
 
--- Privileges have no bearing on what a text becomes.
+-- Privileges have no bearing on a text with its names placed.
 abbrev pub tables_of : KnownTables → NamedTables
 tables_of known = named_tables known (λ t. false) (λ t. false)
 

@@ -1,5 +1,4 @@
--- The bound forms of query expressions: query specifications, joined by UNION (ISO/IEC 9075:1992, 7.10). Brackets change
--- nothing.
+-- The bound forms of query expressions: query specifications, joined by UNION (ISO/IEC 9075:1992, 7.10). Brackets change nothing.
 use Rattle.std.specs.Prelude.{Bool, ◌==◌, List, length}
 use Rattle.std.specs.List.{zip}
 use Rattle.std.specs.Result.{result_ok}
@@ -24,7 +23,7 @@ abbrev pub columns_of_query : NumberedQuery → List ResultColumn
 columns_of_query (NumberedQuery.select s) = columns_of s
 columns_of_query (NumberedQuery.joined all left right columns) = columns
 
--- the tree without what is noted
+-- the tree without the notes
 abbrev pub query_of : NumberedQuery → PlacedQuery
 query_of (NumberedQuery.select s) = specification (select_of s)
 query_of (NumberedQuery.joined all left right columns) = union all (query_of left) (query_of right)

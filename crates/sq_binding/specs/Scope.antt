@@ -24,7 +24,7 @@ pub record Scope : Type 0 where
   pub items : List FromItem
   pub grouping : Option (List Place)
 
--- an item by what names it and its columns
+-- an item by its name and its columns
 abbrev pub item_named : FromItem → Item
 item_named item = record { reference = item.reference; columns = map (λ c. c.name) item.columns }
 

@@ -22,7 +22,7 @@ use Rattle.sq_binding.specs.NumberedCondition.{NumberedClause, NumberedCond, Num
 
 -- ---- value expressions
 
--- One level of a tree, with what its parts are in their places. An operator and its right operand wait for the left one.
+-- One level of a tree, with the seen parts in their places. An operator and its right operand wait for the left one.
 
 abbrev numbered_layer : BoundExpr-F Numbered (Numbered → Numbered) → Numbered
 numbered_layer (level.Literal v) = Numbered.literal v

@@ -46,7 +46,7 @@ clause_seen c = clause_if (option_map cond_seen c)
 
 -- ---- query expressions
 
--- One level of a tree, with what its parts are in their places. UNION and its right term wait for the left side.
+-- One level of a tree, with the seen parts in their places. UNION and its right term wait for the left side.
 
 abbrev Q : Type 0
 Q = NumberedQuery

@@ -1,5 +1,4 @@
--- The bound forms of the statements of procedures (ISO/IEC 9075:1992, 13.2 to 13.10, 14.3 and
--- 14.4).
+-- The bound forms of the statements of procedures (ISO/IEC 9075:1992, 13.2 to 13.10, 14.3 and 14.4).
 use Rattle.std.specs.Prelude.{ℕ, List, map, Ok}
 use Rattle.sq_tree.specs.declared.statement.Fetch.{Fetch}
 use Rattle.sq_tree.specs.declared.statement.Statement.{Statement}

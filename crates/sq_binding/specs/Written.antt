@@ -85,7 +85,7 @@ use Rattle.sq_binding.specs.View.{beside_columns}
 use Rattle.sq_binding.specs.Names.{declared, descriptor_of, leaf_positions, meant_by, named_table, outside, tables_of}
 use Rattle.sq_binding.specs.SeenQuery.{output_seen, sort_seen}
 
--- ---- a text becomes what is bound, whatever set functions the query has
+-- ---- a text with its names placed is the bound one, whatever set functions the query has
 
 abbrev pub Becomes : {T : Type 0} → Outcome T → (List PlacedExpr → T) → Type 0
 Becomes text bound = (functions : List SetFunctionCall) → text ≡ Ok (bound (map call_of functions))
@@ -253,7 +253,7 @@ abbrev pub leaf_named : List Column → Name → Option ℕ
 leaf_named columns name =
     option_and_then (slice_get (leaf_positions columns)) (position (λ c. same_name c.name name) columns)
 
--- the columns that get values: those that are listed, in their order, or all (13.8)
+-- the columns that get values: the listed ones, in their order, or all (13.8)
 abbrev pub AreInto : List Column → Option (CommaList Name) → List ObjectColumn → Type 0
 AreInto columns None objects = map (λ c. c.position) objects ≡ leaf_positions columns
 AreInto columns (Some list) objects =

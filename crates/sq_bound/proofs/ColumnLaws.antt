@@ -1,5 +1,4 @@
--- A tree that reads no more than so many items of a FROM clause reads no more than that many and
--- others.
+-- A tree that reads no more than so many items of a FROM clause reads no more than that many and others.
 use Rattle.std.proofs.Common.{◌≡◌, ℕ, suc, ◌≤◌, ap, refl, sym, ◌∙◌, arith}
 use Rattle.sq_meaning.specs.Environment.{Place}
 use Rattle.sq_bound.specs.Columns.{ExprReadsItems, IsAmongItems, ReadsItems}

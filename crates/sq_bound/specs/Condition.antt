@@ -40,8 +40,7 @@ compared_with Scalar op left q = compare_subquery op left q
 compared_with All op left q = compare_quantified op quantifier.All left q
 compared_with Any op left q = compare_quantified op quantifier.Any left q
 
--- the grouping of a query specification: its set functions in the order of the text, the columns of GROUP BY, and
--- HAVING
+-- the grouping of a query specification: its set functions in the order of the text, the columns of GROUP BY, and HAVING
 pub record Groups : Type 0 where
   pub functions : List PlacedExpr
   pub columns : List meaning.Place
@@ -55,8 +54,8 @@ abbrev pub groups_if : Option Groups → Groups
 groups_if None = no_groups
 groups_if (Some groups) = groups
 
--- One level of a tree, with what its parts mean in their places. The set functions of the group have given trees in the
--- order of the text: a condition waits for them. Those of a subquery are its own.
+-- One level of a tree, with the meanings of its parts in their places. The set functions of the group have given trees
+-- in the order of the text: a condition waits for them. A subquery's set functions are its own.
 
 abbrev C : Type 0
 C = List PlacedExpr → PlacedCond

@@ -34,8 +34,8 @@ operated Minus left right = added sign.Minus left right
 operated Times left right = scaled times.Times left right
 operated Over left right = scaled times.Over left right
 
--- One level of a tree, with what its parts mean in their places. The set functions of a group have these trees in the
--- order of the text. An operator and its right operand wait for the left one.
+-- One level of a tree, with the meanings of its parts in their places. The set functions of a group have these trees
+-- in the order of the text. An operator and its right operand wait for the left one.
 
 abbrev pub expr_layer : List PlacedExpr → BoundExpr-F PlacedExpr (PlacedExpr → PlacedExpr) → PlacedExpr
 expr_layer functions (layer.Literal v) = literal v

@@ -41,8 +41,7 @@ IsReadExpr items e = ExprReadsItems items (expr_of [] e)
 abbrev pub IsReadTree : (items : ℕ) → PlacedCond → Type 0
 IsReadTree items tree = ReadsItems items tree
 
--- A test without the note that it may end with a status never does. It reads no more items of FROM, from the left, than
--- are noted.
+-- A test without the note that it may end with a status never does. It reads no more items of FROM, from the left, than are noted.
 pub record IsNotedTest (t : BoundTest) : Type 0 where
   pub sure : t.can_fail ≡ false → IsSureTree (λ functions. test_of functions t)
   pub items : IsReadTree t.items (test_of [] t)

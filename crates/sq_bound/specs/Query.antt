@@ -12,7 +12,7 @@ use Rattle.sq_bound.specs.declared.query.BoundUnion.{BoundUnion, fold-BoundUnion
 abbrev pub PlacedQuery : Type 0
 PlacedQuery = Query (Placed TablePlace)
 
--- One level of a tree, with what its parts mean in their places. UNION and its right term wait for the left side.
+-- One level of a tree, with the meanings of its parts in their places. UNION and its right term wait for the left side.
 
 abbrev pub term_layer : BoundTerm-F PlacedQuery PlacedQuery (PlacedQuery → PlacedQuery) → PlacedQuery
 term_layer (layer.Specification s) = specification (select_of s)

@@ -1,4 +1,4 @@
--- Bound conditions whose truth is never a fault: those whose trees by place are such.
+-- Bound conditions whose truth is never a fault: their trees by place are quiet.
 use Rattle.std.specs.Prelude.{Bool, List, []}
 use Rattle.std.specs.List.{list_all}
 use Rattle.sq_meaning.specs.Quiet.{is_quiet}

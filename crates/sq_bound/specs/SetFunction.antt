@@ -1,5 +1,4 @@
--- The meaning of a bound set function: a tree by place (ISO/IEC 9075:1992,
--- 6.5).
+-- The meaning of a bound set function: a tree by place (ISO/IEC 9075:1992, 6.5).
 use Rattle.std.specs.Prelude.{[]}
 use Rattle.sq_meaning.specs.Syntax.{count_rows, set_function}
 use Rattle.sq_bound.specs.Expression.{PlacedExpr, expr_of}

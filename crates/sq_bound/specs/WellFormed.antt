@@ -180,7 +180,7 @@ IsViewQuery columns queries place kinds =
     ∥ Has (λ q. IsSelect (before_view place columns) [] [] q × (kinds ≡ kinds_of_select q))
     (well_formed (slice_get queries place)) ∥₁
 
--- a base table or a view: its columns, what is under it, and the query of a view
+-- a base table or a view: its columns, the leaf under it, and the query of a view
 pub record IsTable (columns : TableKinds) (t : TableDesc) : Type 0 where
   pub kinds_are : columns (place_of t.body) ≡ Ok (kinds_of_columns t.columns)
   pub leaf : IfSome t.leaf (IsLeaf columns)

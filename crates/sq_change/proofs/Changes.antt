@@ -1,5 +1,4 @@
--- The effects of INSERT, UPDATE and DELETE on the tables, and the rows that
--- they change.
+-- The effects of INSERT, UPDATE and DELETE on the tables, and the rows that they change.
 pub mod Applied
 pub mod Chosen
 pub mod Held

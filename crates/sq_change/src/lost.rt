@@ -214,8 +214,8 @@ fn reference_free<S: Store>(
     Ok(())
 }
 
-/// Whether the reference is to another key than the lost values are of, no row at a place refers to them by it, or a row
-/// still has them.
+/// Whether values of this key are free of a reference: it is to another key, or no row at a place refers to them by it,
+/// or a row still has them.
 fn is_free<S: Store>(
     store: &S,
     place: usize,

@@ -118,7 +118,7 @@ fn push_referenced<N: Names, S: Store>(
 }
 
 /// Whether references hold after changes of a table. It asks for the references of the rows that were put in it, and for
-/// the references to the key values that its rows may have lost.
+/// the references to its lost key values.
 pub(crate) fn references_satisfied<N: Names, S: Store>(
     names: &N,
     store: &S,

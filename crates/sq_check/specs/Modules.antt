@@ -24,7 +24,7 @@ abbrev pub item_name : ModuleItem → Name
 item_name (item.Cursor c) = c.name
 item_name (item.Procedure p) = p.name
 
--- an item at this token, by its names, with what is to be said of it
+-- an item at this token, by its names, with the remark on it
 pub record IsMarkAt (catalog : Catalog) (p : Program) (m : ModuleText) (here : ℕ) (i : ModuleItem)
     (mark : Mark) : Type 0 where
   pub token : mark.token ≡ here
@@ -36,7 +36,7 @@ pub record IsMarkAt (catalog : Catalog) (p : Program) (m : ModuleText) (here : �
 abbrev pub IsMark : Catalog → Program → ModuleText → ℕ → ModuleItem → Mark → Type 0
 IsMark catalog p m place i mark = IsMarkAt catalog p m (counted (module_item_start m place)) i mark
 
--- a relation holds of each element, its place from this one on, and what is at the same place
+-- a relation holds for each element, its place from this one on, and the element of the other list at the same place
 abbrev pub AllAt : {A B : Type 0} → (ℕ → A → B → Type 0) → ℕ → List A → List B → Type 0
 AllAt P place [] [] = ⊤
 AllAt P place (x ∷ xs) (y ∷ ys) = P place x y × AllAt P (suc place) xs ys

@@ -43,7 +43,7 @@ named «module» name = record { «module» = «module»; name = name }
 abbrev pub procedure_of : Program → Name → Name → Option BoundProcedure
 procedure_of p «module» name = lookup (same_procedure (named «module» name)) p.procedures.entries
 
--- nothing is to be said of a statement that is bound
+-- a bound statement has no remark
 abbrev pub statement_remark : Result BoundStatement Broken → Option Remark
 statement_remark (Ok s) = None
 statement_remark (Err fault) = Some (Fault fault)

@@ -31,7 +31,7 @@ use Rattle.sq_check.specs.declared.rule.Rule.TheVariants.{Insensitive, Scroll, O
 abbrev pub column_of : Expr → Option Name
 column_of e = item_name (expr_of e)
 
--- each item is a column, of another name than these and those before it
+-- each item is a column, of another name than these and the ones before it
 abbrev pub are_new_columns : List Name → List (Option Name) → Bool
 are_new_columns before [] = true
 are_new_columns before (None ∷ items) = false

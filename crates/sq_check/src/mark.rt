@@ -1,8 +1,8 @@
-//! A part of a text, and what is to be said of it.
+//! A part of a text, and the remark on it.
 use crate::remark::Remark;
 use sq_lex::Name;
 
-/// A cursor or a procedure of a module, or a view of a schema, and what is to be said of it.
+/// A cursor or a procedure of a module, or a view of a schema, and the remark on it.
 #[derive(Clone, Copy, Debug)]
 pub struct Mark {
     /// The number of its first token in the text, from 0, up to `usize::MAX`.

@@ -16,7 +16,7 @@ use sq_module::{BoundProcedure, ProcedureName, Program};
 use sq_tree::{ModuleItem, ModuleText, Statement};
 use std::alloc::{AllocError, Global};
 
-/// For each cursor that a procedure of a module opens, that procedure as it is bound.
+/// For each cursor that a procedure of a module opens, that bound procedure.
 pub(crate) type Openers<'p> = IndexMap<Name, &'p BoundProcedure>;
 
 pub(crate) fn openers_of<'p>(

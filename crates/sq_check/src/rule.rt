@@ -51,7 +51,7 @@ pub enum Rule {
     OverView,
 }
 
-/// The first rule by which a cursor is not updatable, if it isn't.
+/// For a cursor that is not updatable, the first rule by which it isn't.
 #[tactic(auto, using(crate::proofs::Sole::rule_by))]
 pub(crate) fn cursor_rule(alloc: Global, cursor: &Cursor) -> Result<Rule, AllocError>
     ensures { IfOk result (spec.IsRuleOf cursor.now) }
@@ -108,7 +108,7 @@ fn sole_term(term: &QueryTerm) -> Option<&QuerySpecification>
     }
 }
 
-/// The first rule by which a query specification is not updatable, if it isn't.
+/// For a query specification that is not updatable, the first rule by which it isn't.
 pub(crate) fn query_rule(alloc: Global, query: &QuerySpecification) -> Result<Rule, AllocError>
     ensures { IfOk result (λ rule. rule ≡ spec.query_rule query.now) }
 {
@@ -210,7 +210,7 @@ fn are_columns(names: &mut IndexSet<Name>, list: &CommaList<Expr>) -> Result<boo
     }
 }
 
-/// Whether each item is a column, of another name than these and those before it; the names are added.
+/// Whether each item is a column, of another name than these and the ones before it; the names are added.
 fn are_new_columns(names: &mut IndexSet<Name>, items: &[Expr]) -> Result<bool, AllocError>
     ensures { IfOk result (λ are. are ≡ spec.are_new_columns names.old.keys (map spec.column_of items.now)) }
 {

@@ -1,5 +1,4 @@
--- The truth of IN over a column's values is the truth of comparing the value with
--- all rows by `= ANY`.
+-- The truth of IN over a column's values is the truth of comparing the value with all rows by `= ANY`.
 use Rattle.std.proofs.Common.{◌≡◌, Bool, true, false, ◌&&◌, ◌||◌, List, [], ◌∷◌, ◌++◌, map, refl, sym, ap, ◌∙◌}
 use Rattle.std.specs.Prelude.{if◌then◌else◌, fold}
 use Rattle.std.specs.Cmp.{IsEquivalence}

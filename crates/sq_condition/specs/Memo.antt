@@ -50,7 +50,7 @@ pub record IsTableIndex (context : Context) (at : TableColumn) (index : Index) :
   pub are : table_rows context at.table ≡ Ok (lent rows)
   pub by_column : IsIndexBy at.column rows index
 
--- all that is kept is what the subqueries end with, and the rows of the tables
+-- the memo keeps only outcomes of the subqueries, and rows of the tables
 pub record IsMemoOf (context : Context) (meant : Meant) (memo : Memo) : Type 0 where
   pub outcomes : (number : ℕ) → IfSome (get nat_eq memo.outcomes number) (λ kept. IsKept kept (meant number))
   pub truths : (number : ℕ) → IfSome (get nat_eq memo.truths number)

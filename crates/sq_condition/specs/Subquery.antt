@@ -1,5 +1,4 @@
--- The facts known about the subqueries of a condition or of a query specification before it is evaluated (ISO/IEC 9075:1992,
--- 7.11).
+-- The facts known about the subqueries of a condition or of a query specification before it is evaluated (ISO/IEC 9075:1992, 7.11).
 use Rattle.std.specs.Prelude.{◌≡◌, List, IfSome}
 use Rattle.sq_meaning.specs.Environment.{Scope}
 use Rattle.sq_meaning.specs.Query.{rows}
@@ -17,8 +16,7 @@ use Rattle.sq_condition.specs.Memo.{Meant, IsMemoOf}
 use Rattle.sq_expression.specs.declared.context.Context.{Context}
 use Rattle.sq_condition.specs.declared.memo.Memo.{Memo}
 
--- A query specification with a number ends with the rows meant by that number, whatever queries are around it. All notes on
--- it are true.
+-- A query specification with a number ends with the rows meant by that number, whatever queries are around it. All notes on it are true.
 pub record IsKnown (context : Context) (meant : Meant) (q : BoundSpecification) : Type 0 where
   pub anywhere : IfSome (number_of q)
       (λ n. (scopes : List (Scope (Unit {0})))
@@ -43,7 +41,7 @@ KnowsPredicate context p meant = PredicateWith (IsKnown context meant) p
 abbrev pub KnowsGrouping : Context → Grouping → Meant → Type 0
 KnowsGrouping context g meant = GroupingWith (IsKnown context meant) g
 
--- a query specification is known, and those in its parts
+-- a query specification is known, and so are the ones in its parts
 abbrev pub KnowsQuery : Context → BoundSpecification → Meant → Type 0
 KnowsQuery context q meant = SelectWith (IsKnown context meant) q
 

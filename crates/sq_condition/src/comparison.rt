@@ -38,7 +38,7 @@ pub(crate) fn compare_values(comparison: Comparison, left: &Value, right: &Value
     }
 }
 
-/// A value compared with what a subquery of one column ended with.
+/// A value compared with the outcome of a subquery of one column.
 pub(crate) fn compared_with_query(
     comparison: Comparison,
     quantifier: Compared,

@@ -56,7 +56,7 @@ Meets (Ok a) outcome = outcome ≡ Ok a
 Meets (Err (fault.Status f)) outcome = outcome ≡ Err (status_of f)
 Meets (Err fault.NoMemory) outcome = ⊤
 
--- an answer is what a definition computes, seen by what it holds; a refusal of memory says nothing
+-- an answer, seen by an image, is the outcome that a definition computes; a refusal of memory says nothing
 abbrev pub MeetsAs : {A B : Type 0} → (A → B) → Result A Fault → Outcome B → Type 0
 MeetsAs view (Ok a) outcome = outcome ≡ Ok (view a)
 MeetsAs view (Err (fault.Status f)) outcome = outcome ≡ Err (status_of f)

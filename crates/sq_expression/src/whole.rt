@@ -61,8 +61,7 @@ impl Whole {
         Value::Num(Decimal::new(self.number, 0))
     }
 
-    /// The result of an operator on this number and another one. The answer may be `None` for any
-    /// operands.
+    /// The result of an operator on this number and another one. The answer may be `None` for any operands.
     pub(crate) fn calculated(self, operator: Operator, other: Whole) -> Option<Whole>
         ensures { IfSome result (λ n. operation operator (whole self) (whole other) ≡ Ok (whole n)) }
     {

@@ -1,5 +1,4 @@
--- The tree that a rule has read is spelled by the tokens that it took, and is no deeper than
--- it may be.
+-- The tree that a rule has read is spelled by the tokens that it took, and is no deeper than it may be.
 pub mod CondSound
 pub mod DataTypeSound
 pub mod ExprSound

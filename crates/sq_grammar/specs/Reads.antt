@@ -1,5 +1,4 @@
--- The contract of a function that reads: the outcome of the grammar's reading, unless memory ran
--- out.
+-- The contract of a function that reads: the outcome of the grammar's reading, unless memory ran out.
 use Rattle.std.specs.Prelude.{◌≡◌, Result, Ok, Err}
 use Rattle.sq_grammar.specs.Reading.{Tokens, Outcome}
 use Rattle.sq_grammar.specs.declared.stop.Stop.{Stop}

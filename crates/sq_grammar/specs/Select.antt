@@ -1,4 +1,4 @@
--- Query specifications (ISO/IEC 9075:1992, 6.3 and 7.3 to 7.9), over what reads their expressions and their conditions.
+-- Query specifications (ISO/IEC 9075:1992, 6.3 and 7.3 to 7.9), over parsers of their expressions and their conditions.
 use Rattle.std.specs.Prelude.{Bool, true, false, Option, Some, None}
 use Rattle.sq_lex.specs.declared.lexeme.Lexeme.TheVariants as lexeme
 use Rattle.sq_lex.specs.declared.symbol.Symbol.TheVariants as symbol

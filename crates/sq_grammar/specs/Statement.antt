@@ -109,7 +109,7 @@ by_where left false = pure None
 unfoldable pub target : ℕ → Parser (Option Where)
 target left = eat_word word.Where >>= by_where left
 
--- In what follows `left` brackets may be open at once, and a statement's first word is read already.
+-- Below, `left` brackets may be open at once, and a statement's first word is read already.
 
 -- SELECT [ ALL | DISTINCT ] list INTO parameter { "," parameter } table-exp
 unfoldable pub select : ℕ → Parser Select

@@ -145,7 +145,7 @@ impl<'a> Reader<'a> {
         Ok(())
     }
 
-    /// Takes an opening bracket, if at least one of `left` may still be opened.
+    /// Takes an opening bracket, unless `left`, the number that may still be opened, is 0.
     #[tactic(auto, unfolding(crate::specs::Reading::opening_bracket))]
     pub fn open(&mut self, left: usize) -> Result<(), Stop>
         ensures value { Reads (spec.opening_bracket left self.old) result self.new }

@@ -1,5 +1,4 @@
--- The codes of a name and of a number are spellings, as the lexer gives them; the codes of a name
--- print.
+-- The codes of a name and of a number are spellings, as the lexer gives them; the codes of a name print.
 use Rattle.std.proofs.Common.{◌≡◌, ℕ, ◌+◌, ◌-◌, ◌≤◌, ◌&&◌, true, List, [], ◌∷◌, ◌++◌, length, map, take, drop, replicate, refl, sym, ap, ◌∙◌, arith, subst, ◌⊎◌, inl, inr}
 use Rattle.std.proofs.Math.Seq.{take-append_seam}
 use Rattle.std.proofs.lemmas.Bool.{and_parts}

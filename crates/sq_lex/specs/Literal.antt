@@ -25,8 +25,7 @@ abbrev mutual
   after_quote [] = Closed [] 1
   after_quote (b ∷ bytes) = if b == quote then with_character quote 2 (literal bytes) else Closed [] 1
 
--- The part of a literal that is kept: its first 241 characters, which tell whether it has more than the 240 that it
--- may have.
+-- The part of a literal that is kept: its first 241 characters, which tell whether it has more than the 240 that it may have.
 abbrev pub kept_characters : List ℕ → List ℕ
 kept_characters characters = take 241 characters
 

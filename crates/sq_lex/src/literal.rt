@@ -21,7 +21,7 @@ pub enum Literal {
     BadByte(usize),
 }
 
-/// Adds a character, unless those that are kept already make the literal too long.
+/// Adds a character, unless the kept ones already make the literal too long.
 #[tactic(auto, using(crate::proofs::LiteralLemmas::kept_short, crate::proofs::LiteralLemmas::kept_full))]
 fn keep(characters: &mut Items<u8>, character: u8) -> Result<(), AllocError>
     requires { length characters.old ≤ 241 }

@@ -15,8 +15,7 @@ pub struct Position {
 }
 
 impl Position {
-    /// The position of a byte of a text. Past the text's end it is the position
-    /// of the end.
+    /// The position of a byte of a text. Past the text's end it is the position of the end.
     pub fn of(text: &[u8], byte: usize) -> Position
         ensures { result ≡ spec.position text.now byte }
     {

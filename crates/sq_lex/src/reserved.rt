@@ -114,7 +114,7 @@ fn start(place: usize) -> usize
     STARTS[place] as usize
 }
 
-/// The reserved word with this spelling in upper case, if there is one. It is looked up among those with its first letter.
+/// The reserved word with this spelling in upper case, if there is one. It is looked up among the words with its first letter.
 #[tactic(auto, unfolding(crate::specs::Reserved::reserved), using(crate::proofs::FirstLetters::ordered, crate::proofs::FirstLetters::inside))]
 pub fn reserved(spelling: &[u8]) -> Option<Word>
     ensures { result ≡ spec.reserved spelling.now }
@@ -130,7 +130,7 @@ pub fn reserved(spelling: &[u8]) -> Option<Word>
     lookup_between(&RESERVED, start(place), start(place + 1), spelling)
 }
 
-/// The word with this spelling among those from one place to another.
+/// The word with this spelling among the words from one place to another.
 #[tactic(auto, using(crate::proofs::FirstLetters::map_part))]
 fn lookup_between(words: &[(&[u8], Word)], from: usize, to: usize, spelling: &[u8]) -> Option<Word>
     requires ordered { from ≤ to }

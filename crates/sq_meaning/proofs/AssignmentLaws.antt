@@ -1,5 +1,4 @@
--- The statuses of storing and retrieving are the statuses of the faults of `store` and
--- `retrieve`.
+-- The statuses of storing and retrieving are the statuses of the faults of `store` and `retrieve`.
 use Rattle.std.proofs.Common.{ℕ, List, Option, Some, None, refl}
 use Rattle.std.specs.Option.{option_map}
 use Rattle.sq_value.specs.Number.{Number}

@@ -1,6 +1,5 @@
--- The premises of the laws of kinds of queries, from the facts that the machine keeps (ISO/IEC 9075:1992, 6.1, 9.2 and
--- 12.3). The rows of a base table whose values are in their columns' domains are of their kinds. So are the parameters at
--- the start of a call.
+-- The premises of the laws of kinds of queries, from the facts that the machine keeps (ISO/IEC 9075:1992, 6.1, 9.2 and 12.3). The rows of a
+-- base table whose values are in their columns' domains are of their kinds. So are the parameters at the start of a call.
 use Rattle.std.proofs.Common.{arith}
 use Rattle.std.proofs.lemmas.List.{length-replicate}
 use Rattle.std.specs.List.{AllByRecursion}

@@ -1,5 +1,4 @@
--- The kinds known of trees by place and by name are the kinds that their readings find: so the laws of kinds
--- hold for either.
+-- The kinds known of trees by place and by name are the kinds that their readings find: so the laws of kinds hold for either.
 use Rattle.std.proofs.Common.{◌≡◌, ℕ, zero, suc, Bool, true, false, List, [], ◌∷◌, map, Option, Some, None, refl, sym, ap, subst, ◌∙◌, cond, Ok, Err}
 use Rattle.std.specs.Prelude.{⊤, if◌then◌else◌, slice_get, find}
 use Rattle.std.specs.List.{AllZip}

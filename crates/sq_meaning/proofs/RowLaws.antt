@@ -1,5 +1,4 @@
--- Laws of lists of rows: the rows that DISTINCT leaves, and that ORDER BY keeps ties as
--- they were.
+-- Laws of lists of rows: the rows that DISTINCT leaves, and that ORDER BY keeps ties as they were.
 use Rattle.std.proofs.Common.{◌≡◌, ℕ, zero, suc, Bool, true, false, ◌&&◌, not, List, [], ◌∷◌, ◌++◌, map, replicate, refl, sym, ap, ◌∙◌, cond}
 use Rattle.std.specs.Prelude.{filter, if◌then◌else◌}
 use Rattle.std.specs.List.{list_all}

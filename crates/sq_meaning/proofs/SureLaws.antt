@@ -1,5 +1,4 @@
--- A sure tree never ends with a status other than 42000, in whatever environment (ISO/IEC 9075:1992, 6.5, 6.11, 7.9 and
--- clause 8).
+-- A sure tree never ends with a status other than 42000, in whatever environment (ISO/IEC 9075:1992, 6.5, 6.11, 7.9 and clause 8).
 use Rattle.std.proofs.Common.{◌≡◌, inl, inr, ℕ, Bool, true, false, ◌&&◌, List, [], ◌∷◌, ◌++◌, map, Option, Some, None, refl, Ok, Err}
 use Rattle.std.specs.Prelude.{⊤, IfSome, Result, if◌then◌else◌, not}
 use Rattle.std.specs.List.{AllByRecursion, list_all, flat_map}

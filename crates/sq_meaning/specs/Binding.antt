@@ -31,7 +31,7 @@ use Rattle.sq_meaning.specs.Words.{has_twice, is_some_and}
 use Rattle.sq_meaning.specs.declared.fault.BindingFault.{BindingFault}
 use Rattle.sq_meaning.specs.declared.fault.BindingFault.TheVariants as fault
 
--- who may do what, beside what is known: the privileges of the user whose statement it is
+-- the known names, and the privileges of the user whose statement it is
 pub record Judged : Type 0 where
   pub known : Known
   pub holds : TableName → Privilege → Bool
@@ -293,7 +293,7 @@ bad_orientation k _ = false
 
 -- ---- privileges (4.26)
 
--- SELECT for each table or view that is named in FROM, and what else a statement needs
+-- SELECT for each table or view that is named in FROM, and the other privileges that a statement needs
 abbrev pub privilege_missing : (TableName → Privilege → Bool) → Site → Bool
 privilege_missing holds (Site.table_read r) = not (holds r.table Privilege.select)
 privilege_missing holds (Site.privilege_used t p) = not (holds t p)

@@ -36,7 +36,7 @@ is_base_table (element.Grant g) = false
 abbrev pub base_count : Elements → ℕ
 base_count elements = count_by (λ e. is_base_table e.element) elements
 
--- a base table's place in the database is the number of those before it
+-- a base table's place in the database is the number of base tables before it
 abbrev pub table_descriptor : ℕ → Name → TableDefinition → TableDescriptor
 table_descriptor place owner t = record {
   table = table_of owner t.name;

@@ -38,8 +38,7 @@ use Rattle.sq_meaning.specs.Catalog.{column_domain, tables_of}
 use Rattle.sq_meaning.specs.Constraints.{all_satisfied, constraints_checked, demanded}
 use Rattle.sq_meaning.specs.Schema.{BaseTable, Elements, base_tables, column_definitions, place_among}
 
--- the inputs of a statement: the schema elements, the greatest row number, the database, the parameters, and the
--- module's user
+-- the inputs of a statement: the schema elements, the greatest row number, the database, the parameters, and the module's user
 pub record Setting : Type 0 where
   pub elements : Elements
   pub row_numbers : ℕ
@@ -64,7 +63,7 @@ rows_at s place = (table_at s.content place).rows
 
 -- ---- new values (9.2)
 
--- null is stored as it is
+-- null is stored unchanged
 abbrev pub stored_value : Setting → Env Item → Domain → NewValue → Outcome Value
 stored_value s env d (new_value.Expr e) = value (reading_in s) (expr_of e) env >>= assigned d
 stored_value s env d new_value.Null = assigned d value.Null
@@ -87,7 +86,7 @@ given_at given place = option_map (λ g. g.1) (find (λ g. g.0 == place) given)
 abbrev pub check_options_met : Setting → Target → List Row → Outcome (Unit {0})
 check_options_met s target rows = all_satisfied (meets_check_option (reading_in s) (outer_env s) target) rows
 
--- a database in which constraints hold of what was changed
+-- a database, if the constraints that concern the change hold in it
 abbrev pub completed_with : Setting → BaseTable → Content → Outcome Content
 completed_with s t content = do
   _ ← constraints_checked s.elements t content
@@ -165,7 +164,7 @@ insert_outcome s i = do
 
 -- ---- the rows that UPDATE and DELETE change (13.6, 13.7, 13.9 and 13.10)
 
--- the rows that a statement changes: those that its search condition keeps, or the one that a cursor is on
+-- the rows that a statement changes: the rows that its search condition keeps, or the one that a cursor is on
 pub data Which : Type 0 where
   searched : Clause Named → Which
   numbered : ℕ → Which

@@ -1,4 +1,4 @@
--- Modules, their cursors and procedures, and what is declared of parameters (ISO/IEC 9075:1992, 12.1 to 12.3 and 13.1).
+-- Modules, their cursors and procedures, and the declarations of parameters (ISO/IEC 9075:1992, 12.1 to 12.3 and 13.1).
 use Rattle.std.specs.Prelude.{ℕ, Bool, true, false, List, ◌∷◌, map, count_by, find, filter_map, Option, option_map, Some, None}
 use Rattle.sq_lex.specs.declared.name.Name.{Name}
 use Rattle.sq_tree.specs.declared.data_type.DataType.{DataType}

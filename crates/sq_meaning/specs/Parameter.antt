@@ -1,5 +1,4 @@
--- The parameters of a call: their values at its start, and the values retrieved into them (ISO/IEC 9075:1992, 6.2, 9.1
--- and 12.4).
+-- The parameters of a call: their values at its start, and the values retrieved into them (ISO/IEC 9075:1992, 6.2, 9.1 and 12.4).
 use Rattle.std.specs.List.{list_any, zip}
 use Rattle.std.specs.Prelude.{Bool, false, List, [], ◌∷◌, map, ℤ, pos, negsuc, is_some, if◌then◌else◌, find, filter_map, flat_map, Option, unwrap_or, option_map, Some, None, Ok, Err}
 use Rattle.std.specs.Result.{result_ok}
@@ -108,7 +107,7 @@ row_retrieved parameters (target ∷ targets) (v ∷ vs) =
 
 -- ---- the answer of a call
 
--- a status, and the targets and their indicators with what they were set to
+-- a status, and the targets and their indicators with the values assigned to them
 pub record Reply : Type 0 where
   pub status : Status
   pub outputs : List Assignment

@@ -62,7 +62,7 @@ action_covers (action.Update columns) (Privilege.update c) = is_in_list columns 
 action_covers (action.References columns) (Privilege.references c) = is_in_list columns c
 action_covers _ _ = false
 
--- ALL PRIVILEGES are those that the grantor may grant
+-- ALL PRIVILEGES are the privileges that the grantor may grant
 abbrev pub covers : Privileges → Privilege → Bool
 covers privileges.All p = true
 covers (privileges.Actions actions) p = list_any (λ a. action_covers a p) (listed actions)
@@ -101,7 +101,7 @@ privilege_underneath view source (Privilege.update c) =
     option_map Privilege.update (column_underneath view source c)
 privilege_underneath view source _ = None
 
--- on an updatable view INSERT, DELETE and UPDATE follow those on the table of its FROM clause, UPDATE column by column
+-- on an updatable view INSERT, DELETE and UPDATE follow the privileges on the table of its FROM clause, UPDATE column by column
 abbrev pub holds_underneath : Holding → Name → (grantable : Bool) → TableDescriptor → Source → Privilege
     → Bool
 holds_underneath held owner grantable view source p =

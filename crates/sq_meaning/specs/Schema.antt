@@ -1,4 +1,4 @@
--- Schema elements, and what a table definition says (ISO/IEC 9075:1992, 5.4, 11.1 and 11.3 to 11.9).
+-- Schema elements, and the parts of a table definition (ISO/IEC 9075:1992, 5.4, 11.1 and 11.3 to 11.9).
 use Rattle.std.specs.List.{list_any}
 use Rattle.std.specs.Option.{option_or}
 use Rattle.std.specs.Prelude.{ℕ, Bool, List, [], ◌∷◌, map, reverse, if◌then◌else◌, slice_get, position, filter_map, flat_map, Option, option_map, Some, None}
@@ -91,7 +91,7 @@ abbrev pub primary_columns : Constraint → Option (List Name)
 primary_columns (Constraint.primary_key columns) = Some columns
 primary_columns _ = None
 
--- the referencing columns, and what they reference
+-- the referencing columns, and the table and columns that they reference
 pub record Reference : Type 0 where
   pub columns : List Name
   pub references : References
@@ -120,7 +120,7 @@ table_references t = filter_map reference_in (constraints t)
 abbrev pub checks : TableDefinition → List Cond
 checks t = filter_map condition_in (constraints t)
 
--- the referenced columns: those written, or else the primary key (11.8)
+-- the referenced columns: the written ones, or else the primary key (11.8)
 abbrev pub referenced_columns : TableDefinition → References → Option (List Name)
 referenced_columns target references =
     option_or (option_map listed references.columns) (slice_get (primary_keys target) 0)

@@ -1,5 +1,4 @@
--- Script items, and the items that are refused (own form: a script represents the calls of a host
--- program).
+-- Script items, and the items that are refused (own form: a script represents the calls of a host program).
 use Rattle.std.specs.List.{enumerate_from}
 use Rattle.std.specs.Prelude.{ℕ, Bool, true, false, ◌&&◌, List, [], ◌∷◌, map, is_some, is_ok, if◌then◌else◌, Option, option_map, option_and_then, Some, None}
 use Rattle.sq_lex.specs.declared.name.Name.{Name}
@@ -38,7 +37,7 @@ argument_values (arguments.Listed list) = map argument_value (listed list)
 
 -- ---- values that fit a procedure
 
--- null, or what the domain can store
+-- null, or a value that the domain can store
 abbrev pub fits_in : Domain → Value → Bool
 fits_in d v = is_ok (stored d v)
 

@@ -1,5 +1,5 @@
--- The trees that texts spell, as what is evaluated. An unqualified name of a table means the user's own (ISO/IEC
--- 9075:1992, 5.4).
+-- The trees that texts spell, in the form that is evaluated. An unqualified name of a table means the user's own
+-- (ISO/IEC 9075:1992, 5.4).
 use Rattle.std.specs.Prelude.{ℕ, pos, ◌&&◌, nat_le, Bool, true, false, if◌then◌else◌, unsigned_abs, List, [], ◌∷◌, fold, map, Option, Some, None, unwrap_or}
 use Rattle.std.specs.List.{list_any}
 use Rattle.std.specs.Option.{option_map}

@@ -1,4 +1,4 @@
--- Statuses (ISO/IEC 9075:1992, 22.1), and what ends with a value or with a status.
+-- Statuses (ISO/IEC 9075:1992, 22.1), and outcomes: a value or a status.
 use Rattle.std.specs.Prelude.{ℕ, ℤ, pos, neg_ℤ, Bool, if◌then◌else◌, List, [], ◌∷◌, Option, Some, None, Result, Ok, Err, codes}
 use Rattle.sq_value.specs.declared.fault.ArithmeticFault.{ArithmeticFault}
 use Rattle.sq_value.specs.declared.fault.ArithmeticFault.TheVariants as arithmetic
@@ -83,7 +83,7 @@ kept test [] = Ok []
 kept test (x ∷ xs) =
     and_then (test x) (λ passes. and_then (kept test xs) (λ ys. Ok (if passes then x ∷ ys else ys)))
 
--- a value, or the status of what is missing
+-- a value, or this status if there is none
 abbrev pub or_status : {A : Type 0} → Status → Option A → Outcome A
 or_status status (Some x) = Ok x
 or_status status None = Err status

@@ -244,7 +244,7 @@ module _ {N : Naming} (m : Reading N) (k : Kinds N) (IsDeclared : N.Parameter �
     pub items : each m.item level.from ≡ Ok scope.items
     pub found : HasRowsOf level scope
 
-  -- column references mean in these scopes what they mean among the tables' items
+  -- column references mean the same in these scopes as among the tables' items
   abbrev pub AreItemsOf : List (List N.Table) → List (List N.Item) → Type 0
   AreItemsOf scopes items =
       (xs : List (List N.Item)) × (each (each m.item) scopes ≡ Ok xs)

@@ -1,4 +1,4 @@
--- Tests on what may be absent, and on lists.
+-- Tests on values that may be absent, and on lists.
 use Rattle.std.specs.List.{list_any}
 use Rattle.std.specs.Option.{option_or}
 use Rattle.std.specs.Prelude.{Bool, true, false, ◌||◌, List, [], ◌∷◌, Option, Some, None}

@@ -1,5 +1,5 @@
-//! The output of a report: a trait for an output of bytes, an output over any writer of std, and the loop
-//! that writes a whole text.
+//! The output of a report: a trait for an output of bytes, one over any writer of std, and the loop that
+//! writes a whole text.
 #![tactic(auto)]
 
 mod out;

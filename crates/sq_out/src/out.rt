@@ -6,7 +6,7 @@ ghost use Rattle.sq_out.specs.Fault.{is_fault};
 
 use thiserror::Error;
 
-/// An output could not take what it was given.
+/// An output could not take the bytes given to it.
 #[derive(Clone, Copy, Debug, PartialEq, Eq, Error)]
 #[error("output fault")]
 pub struct OutFault;

@@ -26,7 +26,7 @@ impl<W> Model for OutOf<W> {
 }
 
 impl<W> OutOf<W> {
-    /// An output that has taken what the writer holds and hasn't failed.
+    /// An output that has taken the bytes that the writer holds and hasn't failed.
     pub fn new(writer: W) -> OutOf<W>
         ensures { result ≡ record { writer = writer; failed = false } }
     {
@@ -36,7 +36,7 @@ impl<W> OutOf<W> {
         }
     }
 
-    /// The writer, with what it has taken.
+    /// The writer, with the bytes that it has taken.
     pub fn into_writer(self) -> W
         ensures { result ≡ self.writer }
     {

@@ -185,8 +185,7 @@ impl<F: Fn(Global, &mut Reader<'_>, usize) -> Result<CondOrExpr<Cond>, Stop>> Gr
         }
     }
 
-    /// The part with BETWEEN, IN or LIKE, if it comes, and NOT before it if it
-    /// is written.
+    /// The part with BETWEEN, IN or LIKE, if it comes, and NOT before it if it is written.
     #[tactic(auto, unfolding(sq_grammar::specs::Cond::negatable_tail))]
     fn negatable_tail(&self, tokens: &mut Reader<'_>) -> Result<Option<Tail>, Stop>
         requires { Nests spec.inside self.now.left (F.pre self.now.inner) (F.post self.now.inner) }

@@ -1,5 +1,4 @@
--- The beginnings of the parts of a text: the number of tokens of the text before each. Schemas, elements and items count
--- from 0.
+-- The beginnings of the parts of a text: the number of tokens of the text before each. Schemas, elements and items count from 0.
 use Rattle.std.specs.Prelude.{ℕ, ◌+◌, List, [], ◌∷◌, ◌++◌, length, take, drop}
 use Rattle.std.specs.List.{flat_map}
 use Rattle.sq_lex.specs.declared.lexeme.Lexeme.TheVariants as lexeme

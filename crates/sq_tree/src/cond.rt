@@ -77,7 +77,7 @@ pub struct Test {
 #[cycle(cond)]
 #[derive(Drop)]
 pub enum Body {
-    /// A predicate that begins with an expression, and what follows that expression.
+    /// A predicate that begins with an expression, and the part after that expression.
     Predicate(Expr, Tail),
     /// `EXISTS "(" specification ")"`.
     Exists(Boxed<QuerySpecification>),

@@ -17,7 +17,7 @@ is_point c = c == point
 abbrev pub are_digits : List ℕ → Bool
 are_digits ds = nat_lt 0 (length ds) && list_all is_ascii_digit ds
 
--- the number that the digits before a point and those after it spell: either may be missing
+-- the number spelled by the digits before a point and the digits after it: either may be missing
 abbrev pub read_parts : List ℕ → List ℕ → Result Number ReadFault
 read_parts whole fraction =
     if are_digits (whole ++ fraction) then (

@@ -24,7 +24,7 @@ negation False = True
 negation Unknown = Unknown
 negation True = False
 
--- the truth of what is known to hold or not
+-- the truth of a fact that is known to hold or not
 abbrev pub known : Bool → Truth
 known true = True
 known false = False

@@ -121,7 +121,7 @@ impl Decimal {
         raised(self.unscaled, other.scale).cmp(&raised(other.unscaled, self.scale))
     }
 
-    /// The unscaled value at another scale, truncated toward zero. At its own scale it is what it is.
+    /// The unscaled value at another scale, truncated toward zero. At its own scale it is unchanged.
     #[tactic(auto, using(crate::specs::laws::ValueOrder::truncated_alike))]
     pub(crate) fn truncated(self, scale: u8) -> i128
         requires { scale ≤ 18 }

@@ -142,7 +142,7 @@ fn cut_by_nothing(cuts: &mut [bool])
     cuts[end] = true;
 }
 
-/// Puts one item more before those by which the text was cut.
+/// Puts one item more before the items by which the text was cut.
 fn put_before(item: Item, text: &[u8], cuts: &mut [bool])
     requires { length cuts.old ≡ length text.now + 1 }
     ensures { (items : List Item) → AreCuts items text.now cuts.old

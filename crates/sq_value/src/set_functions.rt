@@ -93,7 +93,7 @@ fn copy_of(alloc: Global, value: Option<&Value>) -> Result<Value, AllocError>
     }
 }
 
-/// The first value that no other surpasses, of those that are not null.
+/// The first value that is not null and that no other surpasses.
 #[tactic(auto, using(crate::proofs::Extremes::extremes))]
 fn best_of(extreme: Extreme, values: &[Value]) -> Option<&Value>
     ensures { option_copied result ≡ first_unsurpassed extreme (without_nulls values.now) }

@@ -1,5 +1,4 @@
--- The facts about a bound statement that the program relies on: all that is promised of the results that the
--- definitions compute.
+-- The facts about a bound statement that the program relies on: all that is promised of the results that the definitions compute.
 use Rattle.std.proofs.Common.{◌≡◌, ℕ, Bool, List, map, Ok, Err, subst}
 use Rattle.std.specs.Prelude.{Result, IfOk}
 use Rattle.sq_lex.specs.declared.name.Name.{Name}

@@ -1,5 +1,4 @@
--- The tables and columns that a statement names exist: the base table under its table, columns of that,
--- and NULL as itself.
+-- The tables and columns that a statement names exist: the base table under its table, columns of that, and NULL as itself.
 use Rattle.std.proofs.Common.{◌≡◌, ℕ, Bool, true, false, List, map, Option, None, Some, Ok, Err, sym, subst}
 use Rattle.std.specs.List.{AllByRecursion}
 use Rattle.std.specs.Prelude.{Result, IfOk, slice_get, if◌then◌else◌}

@@ -1,5 +1,4 @@
--- The columns, the values and the query's columns of INSERT are refused exactly if the rules refuse them (ISO/IEC 9075:1992,
--- 13.8).
+-- The columns, the values and the query's columns of INSERT are refused exactly if the rules refuse them (ISO/IEC 9075:1992, 13.8).
 use Rattle.std.proofs.Common.{◌≡◌, ℕ, Bool, true, false, ◌||◌, List, [], ◌∷◌, ◌++◌, length, map, Option, Some, None, Ok, Err, append_assoc, arith, refl, sym, ap, subst, ◌∙◌}
 use Rattle.std.proofs.lemmas.List.{append-nil, length-map}
 use Rattle.std.specs.List.{AllZip, flat_map, list_any, zip}

@@ -1,5 +1,5 @@
--- A bound value expression breaks no rule at its sites, with one exception: its query is grouped, and a column that is no grouping
--- column occurs outside set functions (ISO/IEC 9075:1992, 6.2 to 6.5 and 6.11 to 6.13).
+-- A bound value expression breaks no rule at its sites, with one exception (ISO/IEC 9075:1992, 6.2 to 6.5 and 6.11 to 6.13). Its
+-- query is grouped, and a column that is no grouping column occurs outside set functions.
 use Rattle.std.proofs.Common.{◌≡◌, ℕ, zero, suc, ◌+◌, Bool, true, false, not, ◌&&◌, ◌||◌, List, [], ◌∷◌, ◌++◌, length, max, Option, Some, None, Ok, Err, arith, refl, sym, ap, subst, ◌∙◌}
 use Rattle.std.proofs.lemmas.Bool.Decides.{nat_tests}
 use Rattle.std.specs.List.{AllZip, list_any}

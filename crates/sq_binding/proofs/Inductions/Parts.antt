@@ -1,4 +1,4 @@
--- A property of parts that are bound one after the other: it holds for each among the set functions of its query, whatever
+-- A property of parts that are bound one after the other. It holds for each among the set functions of its query, whatever
 -- comes before and after it.
 use Rattle.std.proofs.Common.{◌≡◌, ℕ, ◌+◌, Bool, true, false, List, [], ◌∷◌, ◌++◌, length, map, Ok, Err, refl, sym, ap, subst, ◌∙◌, append_assoc}
 use Rattle.std.proofs.lemmas.List.{append-nil, length-append}

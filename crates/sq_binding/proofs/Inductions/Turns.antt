@@ -1,5 +1,4 @@
--- A property of parts that are bound in turn, if it holds for the result of each of
--- them.
+-- A property of parts that are bound in turn, if it holds for the result of each of them.
 use Rattle.std.proofs.Common.{◌≡◌, ℕ, Bool, true, false, List, [], ◌∷◌, max, Ok, Err, arith, refl, sym, subst, ◌∙◌, suc, length, ap}
 use Rattle.std.proofs.lemmas.List.{append-nil}
 use Rattle.std.specs.Prelude.{⊤, nat_lt, if◌then◌else◌}

@@ -1,5 +1,5 @@
--- The grouping of a query specification is noted: its set functions in the order of the text, if it is grouped by GROUP BY, by
--- HAVING or by a set function (ISO/IEC 9075:1992, 6.5, 7.7 to 7.9).
+-- The grouping of a query specification is noted (ISO/IEC 9075:1992, 6.5, 7.7 to 7.9). It is its set functions in the order of
+-- the text, if it is grouped by GROUP BY, by HAVING or by a set function.
 use Rattle.std.proofs.Common.{◌≡◌, true, List, [], ◌∷◌, ◌++◌, refl, sym, ap, ◌∙◌}
 use Rattle.std.proofs.lemmas.List.{append-nil}
 use Rattle.std.specs.Prelude.{⊤}

@@ -1,5 +1,4 @@
--- A bound query specification shows columns of a base table, each once, exactly if the rules say so (ISO/IEC 9075:1992, 7.9;
--- own rule).
+-- A bound query specification shows columns of a base table, each once, exactly if the rules say so (ISO/IEC 9075:1992, 7.9; own rule).
 use Rattle.std.proofs.Common.{◌≡◌, ℕ, zero, suc, ◌+◌, Bool, true, false, not, ◌&&◌, ◌||◌, List, [], ◌∷◌, ◌++◌, length, map, Option, Some, None, Ok, Err, arith, refl, sym, ap, append_assoc, ◌∙◌}
 use Rattle.std.proofs.lemmas.Bool.{eq-eqb, eqb-true, false≢true, or_right}
 use Rattle.std.proofs.lemmas.List.{length-append}

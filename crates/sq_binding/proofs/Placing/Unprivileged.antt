@@ -1,5 +1,4 @@
--- A text with its names placed is the same whatever privileges are held on the tables that
--- it names.
+-- A text with its names placed is the same whatever privileges are held on the tables that it names.
 use Rattle.std.proofs.Common.{◌≡◌, Bool, false, List, Option, Some, None, Ok, refl, ap}
 use Rattle.std.specs.Option.{option_map}
 use Rattle.sq_meaning.specs.Environment.{TableName, TableReference}

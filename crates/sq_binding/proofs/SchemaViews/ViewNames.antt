@@ -1,5 +1,4 @@
--- The meanings of names to a view are what the rules know of the elements before it (ISO/IEC 9075:1992,
--- 11.19).
+-- The meanings of names to a view are what the rules know of the elements before it (ISO/IEC 9075:1992, 11.19).
 use Rattle.std.proofs.Common.{◌≡◌, ℕ, suc, ◌+◌, ◌<◌, Bool, true, false, not, ◌&&◌, ◌||◌, List, [], ◌∷◌, arith, length, map, Option, Some, None, refl, sym, ap, subst, ◌∙◌}
 use Rattle.std.proofs.lemmas.Bool.{eqb-true}
 use Rattle.std.proofs.lemmas.List.{length-map}

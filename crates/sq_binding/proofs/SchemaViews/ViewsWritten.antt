@@ -1,6 +1,5 @@
--- A view that CREATE VIEW made is the written one (ISO/IEC 9075:1992, 7.9 and 11.19). It has its query with names placed, the names
--- of its columns, the leaf under it, and the conditions that new and changed rows have to meet. Its columns have the kinds of its
--- query's.
+-- A view that CREATE VIEW made is the written one (ISO/IEC 9075:1992, 7.9 and 11.19). It has its query with names placed, the names of its
+-- columns, and the leaf under it. It has the conditions that new and changed rows have to meet. Its columns have the kinds of its query's.
 use Rattle.std.proofs.Common.{◌≡◌, Bool, true, false, not, ◌&&◌, List, [], ◌∷◌, arith, length, map, Option, Some, None, Ok, Err, refl, sym, ap, subst, ◌∙◌}
 use Rattle.std.specs.Prelude.{◌==◌, if◌then◌else◌, is_none}
 use Rattle.std.proofs.lemmas.Bool.{eqb-true}

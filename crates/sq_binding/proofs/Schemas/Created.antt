@@ -1,5 +1,4 @@
--- A catalog with one more base table is the catalog of the elements with its CREATE TABLE (ISO/IEC 9075:1992,
--- 11.3).
+-- A catalog with one more base table is the catalog of the elements with its CREATE TABLE (ISO/IEC 9075:1992, 11.3).
 use Rattle.std.proofs.Common.{◌≡◌, ℕ, suc, ◌+◌, Bool, true, false, cond, not, ◌&&◌, ◌||◌, List, [], ◌∷◌, ◌++◌, arith, length, map, Option, Some, None, Ok, refl, sym, ap, subst, ◌∙◌}
 use Rattle.std.proofs.lemmas.List.{length-append, length-map}
 use Rattle.std.proofs.lemmas.List.Folds.{find-append}

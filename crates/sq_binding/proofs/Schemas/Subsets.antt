@@ -1,5 +1,4 @@
--- Lists of distinct numbers: two of one length have the same members if the members of one are among the members of the
--- other.
+-- Lists of distinct numbers: two of one length have the same members if the members of one are among the members of the other.
 use Rattle.std.proofs.Common.{◌≡◌, ℕ, suc, ◌≤◌, ◌<◌, Bool, true, false, ◌&&◌, ◌||◌, List, [], ◌∷◌, length, arith, refl, sym, ap, ◌∙◌}
 use Rattle.std.proofs.lemmas.Bool.{eq-eqb, eqb-true, false≢true, and_parts, or_parts}
 use Rattle.std.specs.List.{list_all, list_any}

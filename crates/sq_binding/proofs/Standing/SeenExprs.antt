@@ -1,5 +1,4 @@
--- The tree by place of a bound value expression is the tree of the part that the definitions see (ISO/IEC 9075:1992, 6.5 and
--- 6.11).
+-- The tree by place of a bound value expression is the tree of the part that the definitions see (ISO/IEC 9075:1992, 6.5 and 6.11).
 use Rattle.std.proofs.Common.{◌≡◌, ℕ, List, [], ◌∷◌, map, Option, Some, None, refl, sym, ap, subst, ◌∙◌}
 use Rattle.std.specs.Option.{option_map}
 use Rattle.std.specs.Prelude.{fold, slice_index_or}

@@ -1,5 +1,4 @@
--- The parts of bound conditions and query specifications that the definitions see, level
--- by level.
+-- The parts of bound conditions and query specifications that the definitions see, level by level.
 use Rattle.std.proofs.Common.{◌≡◌, ℕ, Bool, List, Option, Some, None, sym, ◌∙◌, ap, map}
 use Rattle.std.specs.Option.{option_map}
 use Rattle.sq_tree.specs.declared.cond.Comparison.{Comparison}

@@ -1,5 +1,5 @@
--- The meanings of names, as the definitions of binding see them: tables whose columns have known kinds, and base tables under the ones
--- that may be changed.
+-- The meanings of names, as the definitions of binding see them. They are tables whose columns have known kinds, and base tables under
+-- the ones that may be changed.
 use Rattle.std.proofs.Common.{◌≡◌, ℕ, zero, suc, Bool, true, List, [], ◌∷◌, map, Option, Some, None, Ok, sym, ap, subst, ◌∙◌}
 use Rattle.std.proofs.lemmas.Bool.{eqb-true, and_parts}
 use Rattle.std.proofs.lemmas.Simd.{map-map}

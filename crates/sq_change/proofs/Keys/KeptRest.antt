@@ -1,5 +1,4 @@
--- The rest that the changes of a statement leave alone: no other key loses values, and the rows that are put
--- in stay.
+-- The rest that the changes of a statement leave alone: no other key loses values, and the rows that are put in stay.
 use Rattle.std.proofs.Common.{◌≡◌, ℕ, true, Option, Result, Ok, Err, subst}
 use Rattle.std.specs.Prelude.{IfOk, Vec}
 use Rattle.std.specs.declared.alloc.AllocError.{AllocError}

@@ -1,5 +1,4 @@
--- The values that a column can store: values of a kind that may be stored there (ISO/IEC 9075:1992, 9.2, 13.8 to
--- 13.10).
+-- The values that a column can store: values of a kind that may be stored there (ISO/IEC 9075:1992, 9.2, 13.8 to 13.10).
 use Rattle.std.proofs.Common.{◌≡◌, List, [], ◌∷◌, map, refl, sym, ap, subst, ◌∙◌, Ok, Err, inl, inr}
 use Rattle.std.specs.Prelude.{IsTrue}
 use Rattle.std.specs.List.{AllZip}

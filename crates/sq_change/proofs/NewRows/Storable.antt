@@ -1,5 +1,4 @@
--- The values that well-formed insert and update statements give may be stored in their columns (ISO/IEC 9075:1992, 11.5,
--- 13.8 to 13.10).
+-- The values that well-formed insert and update statements give may be stored in their columns (ISO/IEC 9075:1992, 11.5, 13.8 to 13.10).
 use Rattle.std.proofs.Common.{◌≡◌, ℕ, zero, suc, ◌<◌, List, [], ◌∷◌, length, get_or, false, sym, ap, subst, ◌∙◌, Ok, Err, arith}
 use Rattle.std.specs.List.{AllByRecursion, AllZip}
 use Rattle.sq_lex.specs.declared.name.Name.{Name}

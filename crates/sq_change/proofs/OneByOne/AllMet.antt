@@ -1,5 +1,4 @@
--- Elements that are tested in turn: all of them meet the test, or the result is the status that is due if one does
--- not.
+-- Elements that are tested in turn: all of them meet the test, or the result is the status that is due if one does not.
 use Rattle.std.proofs.Common.{◌≡◌, ℕ, ◌+◌, ◌<◌, ◌≤◌, Bool, true, false, ◌&&◌, List, [], ◌∷◌, length, take, get_or, refl, sym, ap, subst, ◌∙◌, Result, Ok, Err}
 use Rattle.std.specs.List.{list_all}
 use Rattle.std.specs.Result.{IsErrAnd}

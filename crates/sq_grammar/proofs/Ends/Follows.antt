@@ -1,5 +1,4 @@
--- The tokens that may not follow a tree, so that a parser ends at the end of its tokens: the ones that would go on
--- with it.
+-- The tokens that may not follow a tree, so that a parser ends at the end of its tokens: the tokens that would go on with it.
 use Rattle.std.proofs.Common.{◌≡◌, Bool, false, ◌||◌, None}
 use Rattle.std.proofs.lemmas.Bool.{or_parts}
 use Rattle.sq_lex.specs.declared.lexeme.Lexeme.TheVariants as lexeme

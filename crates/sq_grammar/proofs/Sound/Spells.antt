@@ -1,5 +1,4 @@
--- The tree that a parser has read is spelled by the tokens that it took, and opens no more brackets at once
--- than it may.
+-- The tree that a parser has read is spelled by the tokens that it took, and opens no more brackets at once than it may.
 use Rattle.std.proofs.Common.{◌≡◌, ℕ, zero, suc, ◌+◌, ◌-◌, ◌<◌, ◌≤◌, max, Bool, true, false, cond, List, [], ◌∷◌, ◌++◌, length, map, Option, Some, None, Result, Ok, Err, nat_lt, nat_eq, refl, sym, ◌∙◌, ap, subst, arith, append_assoc, append-nil}
 use Rattle.std.specs.List.{flat_map}
 use Rattle.std.specs.Prelude.{◌⊎◌}

@@ -1,5 +1,4 @@
--- The tokens of a predicate after its first expression are read as it, over a parser of the tokens after
--- a bracket.
+-- The tokens of a predicate after its first expression are read as it, over a parser of the tokens after a bracket.
 use Rattle.std.proofs.Common.{◌≡◌, ℕ, suc, ◌<◌, max, Bool, true, false, [], ◌∷◌, ◌++◌, Option, Some, None, refl, arith, append_assoc}
 use Rattle.sq_lex.specs.declared.lexeme.Lexeme.TheVariants as lexeme
 use Rattle.sq_lex.specs.declared.symbol.Symbol.TheVariants as symbol

@@ -1,5 +1,4 @@
--- The answers of the private functions of LIKE, and the facts that they keep from
--- item to item.
+-- The answers of the private functions of LIKE, and the facts that they keep from item to item.
 use Rattle.std.specs.Prelude.{ℕ, ◌≡◌, ◌==◌, Bool, true, false, Result, Ok, Err, List, length, drop, slice_index_or, ◌+◌, ◌≤◌}
 use Rattle.sq_value.specs.Pattern.{can_be_cut}
 use Rattle.sq_value.specs.declared.fault.LikeFault.{LikeFault}

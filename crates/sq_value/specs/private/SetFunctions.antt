@@ -1,5 +1,4 @@
--- The answers of the private functions of the set functions, and the facts that they keep from
--- value to value.
+-- The answers of the private functions of the set functions, and the facts that they keep from value to value.
 use Rattle.std.specs.Prelude.{ℕ, ℤ, pos, Option, Some, None, is_some, Bool, List, [], ◌∷◌, if◌then◌else◌}
 use Rattle.sq_value.specs.Number.{Number}
 use Rattle.sq_value.specs.SetFunctions.{number_in, is_null, surpasses}
