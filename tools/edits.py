@@ -223,6 +223,11 @@ def logic():
     return subprocess.run(["rt", "version"], capture_output=True, text=True, check=True).stdout.split()[-1]
 
 
+def in_one_line(text):
+    """A text without its line breaks. Where lines end is no part of a verdict."""
+    return re.sub(r"\s*\n\s*", " ", text).strip()
+
+
 def sum_of(edit):
     """A sum of what an edit's verdict stands on."""
     texts = [edit.text]
@@ -235,7 +240,7 @@ def sum_of(edit):
             texts.append(text_of(traits(edit.crate)[trait]))
     known = definitions(texts)
     texts += [f"{file.relative_to(ROOT)}\n{known[file]}" for file in sorted(known)]
-    return hashlib.sha256("\0".join([logic(), *texts]).encode()).hexdigest()[:32]
+    return hashlib.sha256("\0".join([logic(), *map(in_one_line, texts)]).encode()).hexdigest()[:32]
 
 
 # -- Stamps
