@@ -1,16 +1,16 @@
 -- Trees whose columns are the same in two environments mean the same in both (ISO/IEC 9075:1992, 6.4 and 7.6).
-use Rattle.std.proofs.Common.{◌≡◌, ℕ, suc, List, [], ◌∷◌, Option, refl, ap}
+use Rattle.std.proofs.Common.{◌≡◌, ℕ, suc, List, ◌∷◌, Option, refl, ap}
 use Rattle.std.specs.Prelude.{⊤, slice_get}
 use Rattle.std.specs.Option.{option_and_then}
 use Rattle.sq_lex.specs.declared.name.Name.{Name}
 use Rattle.sq_value.specs.declared.value.Value.{Value}
 use Rattle.sq_meaning.specs.Status.{Outcome, well_formed}
 use Rattle.sq_meaning.specs.Syntax.{SelectList, all_columns, expressions, Cond, Clause, Select, absent, present}
-use Rattle.sq_meaning.specs.Environment.{Row, Line, Input, Scope, Env, Place}
+use Rattle.sq_meaning.specs.Environment.{Row, Input, Scope, Env, Place}
 use Rattle.sq_meaning.specs.Placed.{Placed, by_place, placed_value}
 use Rattle.sq_meaning.specs.Query.{truth, rows}
 use Rattle.sq_meaning.proofs.Parts.{ExprParts, CondParts, SelectParts, ListHas, ClauseHas}
-use Rattle.sq_meaning.proofs.Related.{FindTheSame, GroupsAlike, ReadTheSame}
+use Rattle.sq_meaning.proofs.Related.{FindTheSame, GroupsAlike, ReadTheSame, alike_beside}
 use Rattle.sq_meaning.proofs.Related as related
 use Rattle.sq_bound.specs.Columns.{ExprReads, ListReads, CondReads, CondsRead, ClauseReads, SelectReads}
 
@@ -73,13 +73,6 @@ pub record AreAlike (P : ℕ → Place → Type 0) (Around Here : ℕ → Scopes
   pub column : (deep : ℕ) (p : Place) (xs ys : Scopes) → Here deep xs ys → P deep p → value_there p xs ≡ value_there p ys
   pub nearest : (deep : ℕ) (xs ys : Scopes) → Here deep xs ys → GroupsAlike (Here deep) xs ys
 
--- the same in one call
-alike_in_call : (R : Scopes → Scopes → Type 0) (Call : Type 0) → Call → (xs ys : Scopes) → GroupsAlike R xs ys
-    → GroupsAlike (λ us vs. R us vs × Call) xs ys
-alike_in_call R Call c [] [] h = tt
-alike_in_call R Call c (s ∷ xs) (t ∷ ys) h = (h.0, λ line. (h.1 line, c))
-alike_in_call R Call c _ _ h = absurd h
-
 module _ {T : Type 0} (rows_of : T → Outcome (List Row)) (inputs : List Input) (name : Name)
     (P : ℕ → Place → Type 0) (Around Here : ℕ → Scopes → Scopes → Type 0) (alike : AreAlike P Around Here) where
   abbrev in_scopes : Scopes → Env (Unit {0})
@@ -98,7 +91,7 @@ module _ {T : Type 0} (rows_of : T → Outcome (List Row)) (inputs : List Input)
     inputs = λ n p env other r h. ap (placed_value p) (h.1.0);
     users = λ n env other r h. h.1.1;
     groups = λ n env other h.
-        alike_in_call (Here n) (OneCall env other) h.1 env.scopes other.scopes (alike.nearest n env.scopes other.scopes h.0);
+        alike_beside (Here n) (OneCall env other) h.1 env.scopes other.scopes (alike.nearest n env.scopes other.scopes h.0);
   }
 
   find : FindTheSame (by_place rows_of) (by_place rows_of) (λ from. ⊤) There

@@ -1,17 +1,16 @@
 -- A reading that differs in the rows of tables alone gives the same values, and the same truth where no table is read or the tables
 -- that are read have the same rows (ISO/IEC 9075:1992, 6.11, 7.9 and clause 8).
-use Rattle.std.proofs.Common.{◌≡◌, ℕ, false, List, [], ◌∷◌, ◌++◌, Option, refl, subst}
+use Rattle.std.proofs.Common.{◌≡◌, ℕ, false, List, [], ◌∷◌, ◌++◌, refl, subst}
 use Rattle.std.specs.Prelude.{⊤}
-use Rattle.sq_tree.specs.declared.cond.Comparison.{Comparison}
 use Rattle.sq_meaning.specs.Status.{Outcome, each}
 use Rattle.sq_meaning.specs.Syntax.{Naming, Expr, column, SelectList, all_columns, expressions, Cond, Conds, Clause, Select}
 use Rattle.sq_meaning.specs.Environment.{Row, Line, Scope, Env, within}
 use Rattle.sq_meaning.specs.Expression.{Reading, value}
-use Rattle.sq_meaning.specs.Query.{compared, like_truth, list_functions, clause_functions, scopes_of, listed_values, truth, clause_truth, rows}
+use Rattle.sq_meaning.specs.Query.{list_functions, clause_functions, scopes_of, listed_values, truth, clause_truth, rows}
 use Rattle.sq_meaning.specs.Target.{has_subquery, have_subquery}
 use Rattle.sq_meaning.proofs.AnswerLaws.{all_true}
-use Rattle.sq_meaning.proofs.Parts.{CondParts, SelectParts, ListHas, ClauseHas, any_escape, any_expr, plain_cond, no_select}
-use Rattle.sq_meaning.proofs.Related.{FindTheSame, GroupsAlike, ReadTheSame, among, clause_same, compared_same, like_same, listed_same, rows_same, scopes_same, truth_same, value_same}
+use Rattle.sq_meaning.proofs.Parts.{CondParts, SelectParts, ClauseHas, any_expr, plain_cond, no_select}
+use Rattle.sq_meaning.proofs.Related.{FindTheSame, GroupsAlike, ReadTheSame, among, clause_same, rows_same, scopes_same, truth_same, value_same, values_same}
 
 module _ {N : Naming} (m : Reading N) (others : N.Table → Outcome (List Row)) where
   -- the reading with these rows
@@ -42,27 +41,15 @@ module _ {N : Naming} (m : Reading N) (others : N.Table → Outcome (List Row)) 
   pub value_over : (e : Expr N) (env : Env N.Item) → value m e env ≡ value over e env
   value_over e env = value_same m over Any Same any_expr reads 0 e tt env env refl
 
-  pub compared_over : (op : Comparison) (a b : Expr N) (env : Env N.Item) → compared m op a b env ≡ compared over op a b env
-  compared_over op a b env = compared_same m over Any Same any_expr reads 0 op a b tt tt env env refl
-
-  pub like_over : (text pattern : Expr N) (escape : Option (Expr N)) (env : Env N.Item)
-      → like_truth m text pattern escape env ≡ like_truth over text pattern escape env
-  like_over text pattern escape env =
-      like_same m over Any Same any_expr reads 0 text pattern escape tt tt (any_escape escape) env env refl
-
-  any_list : (list : SelectList N) → ListHas Any 0 list
-  any_list all_columns = tt
-  any_list (expressions es) = all_true es
-
   pub scopes_over : (list : SelectList N) (by : List N.Column) (having : Clause N) (heads : List N.Item) (lines : List Line)
       (env : Env N.Item) → scopes_of m list by having heads lines env ≡ scopes_of over list by having heads lines env
   scopes_over list by having heads lines env =
       scopes_same m over Any Same any_expr reads 0 list by having (all_true (list_functions list ++ clause_functions having))
       (all_true by) heads lines env env (λ s. refl)
 
-  pub listed_over : (list : SelectList N) (s : Scope N.Item) (env : Env N.Item)
-      → listed_values m list (within s env) ≡ listed_values over list (within s env)
-  listed_over list s env = listed_same m over Any Same any_expr reads 0 list (any_list list) s env env refl
+  pub listed_over : (list : SelectList N) (env : Env N.Item) → listed_values m list env ≡ listed_values over list env
+  listed_over all_columns env = refl
+  listed_over (expressions es) env = values_same m over Any Same any_expr reads 0 es (all_true es) env env refl
 
   -- ---- where the tables that are read have the same rows
 

@@ -71,6 +71,38 @@ any_expr = record {
   of_bracketed = λ n e h. tt;
 }
 
+pub any_list : {N : Naming} (n : ℕ) (list : SelectList N) → ListHas {N = N} (λ n e. ⊤) n list
+any_list n all_columns = tt
+any_list n (expressions es) = all_true es
+
+any_clause : {N : Naming} (n : ℕ) (c : Clause N) → ClauseHas {N = N} (λ n c. ⊤) n c
+any_clause n absent = tt
+any_clause n (present c) = tt
+
+-- so has each condition and each query specification
+pub any_cond : {N : Naming} → CondParts {N = N} (λ n e. ⊤) (λ n c. ⊤) (λ n cs. ⊤) (λ n q. ⊤)
+any_cond = record {
+  of_compare = λ n op a b h. (tt, tt);
+  of_scalar = λ n op a q h. (tt, tt);
+  of_quantified = λ n op k a q h. (tt, tt);
+  of_between = λ n a low high h. (tt, tt, tt);
+  of_among = λ n a q h. (tt, tt);
+  of_list = λ n a es h. (tt, all_true es);
+  of_like = λ n text pattern escape h. (tt, tt, any_escape escape);
+  of_null = λ n a h. tt;
+  of_exists = λ n q h. tt;
+  of_negated = λ n c h. tt;
+  of_conjunction = λ n cs h. tt;
+  of_disjunction = λ n cs h. tt;
+  of_first = λ n c cs h. (tt, tt);
+}
+
+pub any_select : {N : Naming} → SelectParts {N = N} (λ n e. ⊤) (λ n c. ⊤) (λ n q. ⊤) (λ from. ⊤)
+any_select = record {
+  of_select = λ n distinct list from filter by having h.
+      (tt, any_list (suc n) list, any_clause (suc n) filter, all_true by, any_clause (suc n) having);
+}
+
 -- a condition without a subquery
 pub plain_cond : {N : Naming} → CondParts {N = N} (λ n e. ⊤) (λ n c. has_subquery c ≡ false) (λ n cs. have_subquery cs ≡ false) (λ n q. ⊥)
 plain_cond = record {

@@ -1,6 +1,6 @@
 -- Two readings give a condition the same truth, and a query specification the same rows, where what is read is the same
 -- (ISO/IEC 9075:1992, 6.4, 7.9 and clause 8).
-use Rattle.std.proofs.Common.{◌≡◌, ℕ, suc, Bool, List, [], ◌∷◌, ◌++◌, map, Option, Some, None, refl, ap, Ok}
+use Rattle.std.proofs.Common.{◌≡◌, ℕ, suc, Bool, List, [], ◌∷◌, ◌++◌, map, Option, Some, None, refl, ap, subst, Ok}
 use Rattle.std.specs.Prelude.{⊤, IfSome, if◌then◌else◌}
 use Rattle.std.specs.List.{AllByRecursion}
 use Rattle.sq_lex.specs.declared.name.Name.{Name}
@@ -43,6 +43,21 @@ GroupsAlike R [] [] = ⊤
 GroupsAlike R (s ∷ xs) (t ∷ ys) =
     (s.group ≡ t.group) × ((line : Line) → R (alone s.items line ∷ xs) (alone t.items line ∷ ys))
 GroupsAlike R _ _ = ⊥
+
+-- the same scopes
+pub alike_itself : {H : Type 0} (xs ys : List (Scope H)) → xs ≡ ys → GroupsAlike (λ us vs. us ≡ vs) xs ys
+alike_itself {H} xs ys h = subst (λ (zs : List (Scope H)). GroupsAlike (λ us vs. us ≡ vs) xs zs) h (same xs)
+  where
+    same : (zs : List (Scope H)) → GroupsAlike (λ us vs. us ≡ vs) zs zs
+    same [] = tt
+    same (s ∷ zs) = (refl, λ line. refl)
+
+-- what holds beside R, too
+pub alike_beside : {H : Type 0} (R : List (Scope H) → List (Scope H) → Type 0) (Q : Type 0) → Q → (xs ys : List (Scope H))
+    → GroupsAlike R xs ys → GroupsAlike (λ us vs. R us vs × Q) xs ys
+alike_beside R Q q [] [] h = tt
+alike_beside R Q q (s ∷ xs) (t ∷ ys) h = (h.0, λ line. (h.1 line, q))
+alike_beside R Q q _ _ h = absurd h
 
 -- an environment with other scopes
 abbrev pub among : {H : Type 0} → Env H → List (Scope H) → Env H
