@@ -48,7 +48,7 @@ pub columns_of_named : (columns : List ℕ) (ss : List Slot) (hash : ℕ) (e : E
 columns_of_named columns ss hash e q h n = columns_of_slot columns ss e.at q h (slot_of_named ss hash e q n)
 
 -- an entry of a row with the key names it
-is_named : (columns : List ℕ) (key : List Value) (ss : List Slot) (hash j : ℕ) (q : List Value) (e : Entry) → slot_at ss j ≡ Some q → pointwise is_same key (in_columns q columns) ≡ true → is_entry hash j e ≡ true → names_key columns key ss hash e ≡ true
+pub is_named : (columns : List ℕ) (key : List Value) (ss : List Slot) (hash j : ℕ) (q : List Value) (e : Entry) → slot_at ss j ≡ Some q → pointwise is_same key (in_columns q columns) ≡ true → is_entry hash j e ≡ true → names_key columns key ss hash e ≡ true
 is_named columns key ss hash j q e s same h =
     let under : nat_eq e.hash hash ≡ true = both_left (nat_eq e.hash hash) (nat_eq e.at j) h in
     let place : nat_eq e.at j ≡ true = both_right (nat_eq e.hash hash) (nat_eq e.at j) h in
@@ -72,7 +72,7 @@ names_another columns key at ss hash j q (e ∷ es) other s same h = by_test (is
     or_left (names_other columns key at ss hash e) (list_any (names_other columns key at ss hash) es) (and_from _ _ elsewhere (is_named columns key ss hash j q e s same t)))
     (λ f. or_right (names_other columns key at ss hash e) (list_any (names_other columns key at ss hash) es) (names_another columns key at ss hash j q es other s same (or_rest (is_entry hash j e) (list_any (is_entry hash j) es) f h)))
 
-row_of_slot : (columns : List ℕ) (key : List Value) (s : Slot) → slot_has_key columns key s ≡ true → (q : List Value) × (s ≡ Some q) × (pointwise is_same key (in_columns q columns) ≡ true)
+pub row_of_slot : (columns : List ℕ) (key : List Value) (s : Slot) → slot_has_key columns key s ≡ true → (q : List Value) × (s ≡ Some q) × (pointwise is_same key (in_columns q columns) ≡ true)
 row_of_slot columns key None h = cc
 row_of_slot columns key (Some q) h = (q, refl, h)
 
@@ -87,7 +87,7 @@ other_row columns key at ss hash (e ∷ es) h = by_test (names_other columns key
 
 -- ---- a row in a slot has its entry under the hash of a key that is the same
 
-entry_under : (index : Index) (key : List Value) (ss : List Slot) (hash j : ℕ) (q : List Value) → hash ≡ hash_of key → slots_hold (is_in index) 0 ss ≡ true → slot_at ss j ≡ Some q → pointwise is_same key (in_columns q index.columns) ≡ true
+pub entry_under : (index : Index) (key : List Value) (ss : List Slot) (hash j : ℕ) (q : List Value) → hash ≡ hash_of key → slots_hold (is_in index) 0 ss ≡ true → slot_at ss j ≡ Some q → pointwise is_same key (in_columns q index.columns) ≡ true
     → list_any (is_entry hash j) (bucket_of index hash) ≡ true
 entry_under index key ss hash j q e h s same =
     let under : hash ≡ hash_of (in_columns q index.columns) = e ∙ same_hash key (in_columns q index.columns) same in

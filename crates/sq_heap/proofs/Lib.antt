@@ -5,6 +5,7 @@ pub mod Columns
 pub mod Distinct
 pub mod Entering
 pub mod Entries
+pub mod FoundRows
 pub mod Heap
 pub mod Holds
 pub mod KeyAt

@@ -4,6 +4,7 @@ pub mod Chain
 pub mod Entered
 pub mod Heap
 pub mod Index
+pub mod Lookup
 pub mod Room
 pub mod Slots
 pub mod Store

@@ -14,6 +14,7 @@ ghost use Rattle.sq_heap.specs.Undo.{fits};
 
 use crate::hash::{hash_of_key, hash_of_row};
 use crate::index::{Entry, Index};
+use crate::slots::row_in;
 use crate::undo::Undo;
 use sq_store::are_same;
 use sq_value::{Key, Row, Value};
@@ -90,12 +91,11 @@ fn among<'a>(
 }
 
 /// The row in the slot that an entry under a hash names.
-#[tactic(auto, using(crate::proofs::Rows::slot_is, crate::proofs::Rows::slot_past))]
-fn row_of<'a>(slots: &'a [Option<Row>], entry: Entry, hash: u64) -> Option<&'a Row>
+pub(crate) fn row_of<'a>(slots: &'a [Option<Row>], entry: Entry, hash: u64) -> Option<&'a Row>
     ensures { option_copied result ≡ named slots.now hash entry }
 {
-    if entry.hash == hash && entry.at < slots.len() {
-        slots[entry.at].as_ref()
+    if entry.hash == hash {
+        row_in(slots, entry.at)
     } else {
         None
     }

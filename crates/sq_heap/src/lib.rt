@@ -5,6 +5,7 @@ mod hash;
 mod index;
 mod indexes;
 mod keys;
+mod lookup;
 mod mark;
 mod slots;
 mod store;

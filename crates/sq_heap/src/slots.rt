@@ -56,15 +56,10 @@ impl Slots {
     }
 
     /// The row in a slot.
-    #[tactic(auto, using(crate::proofs::Rows::slot_is, crate::proofs::Rows::slot_past))]
     pub(crate) fn get(&self, at: usize) -> Option<&Row>
         ensures { option_copied result ≡ slot_at self.now.list.items at }
     {
-        if at < self.list.len() {
-            self.list[at].as_ref()
-        } else {
-            None
-        }
+        row_in(self.list.as_slice(), at)
     }
 
     /// The row under a number.
@@ -166,6 +161,18 @@ impl Slots {
         let old = mem::replace(&mut self.list[at], slot);
         self.counts[at / BLOCK] = self.counts[at / BLOCK] - rows_of(&old) + come;
         old
+    }
+}
+
+/// The row in a slot.
+#[tactic(auto, using(crate::proofs::Rows::slot_is, crate::proofs::Rows::slot_past))]
+pub(crate) fn row_in(slots: &[Option<Row>], at: usize) -> Option<&Row>
+    ensures { option_copied result ≡ slot_at slots.now at }
+{
+    if at < slots.len() {
+        slots[at].as_ref()
+    } else {
+        None
     }
 }
 

@@ -20,8 +20,8 @@ use std::alloc::{AllocError, Global};
 
 /// A store that keeps each table as slots by number, and what undoes the changes since the last commit.
 ///
-/// `apply`, `take_back`, `commit` and `rollback` cost what changes, and `find_key` and `has_row` look at the rows with the hash
-/// of the values (`has_row` where `new` was given its columns; else at all rows). An index that is full is made anew over the
+/// `apply`, `take_back`, `commit` and `rollback` cost what changes, and `find_key`, `has_row` and `find_rows` look at the rows
+/// with the hash of the values. If `new` was not given the columns, `has_row` looks at all rows and `find_rows` at none. An index that is full is made anew over the
 /// whole table, which falls to each change as a part that doesn't grow with the table. `next_from` passes at most the slots
 /// of two blocks, and the blocks between that have no rows.
 #[derive(Drop)]
@@ -117,6 +117,23 @@ impl Store for HeapStore {
 
     fn has_row(&self, table: usize, columns: &[usize], values: &Key) -> bool {
         self.tables[table].has_row(columns, values)
+    }
+
+    fn find_rows(
+        &self,
+        alloc: Global,
+        table: usize,
+        columns: &[usize],
+        several: &[Row],
+        meter: &mut Meter,
+    ) -> Result<Option<Vec<(u64, &Row)>>, AllocError> {
+        match self.tables[table].find_rows(alloc, columns, several)? {
+            Some(rows) => {
+                meter.hand_out_all(rows.len());
+                Ok(Some(rows))
+            }
+            None => Ok(None),
+        }
     }
 
     #[tactic(auto, using(crate::proofs::Heap::slots_within, crate::proofs::Heap::map_at))]

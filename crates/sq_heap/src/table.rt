@@ -1,9 +1,10 @@
 //! A table as slots with indexes, and what undoes its changes.
 
-ghost use Rattle.std.specs.Prelude.{◌≡◌, ◌<◌, ◌≤◌, ◌+◌, ◌-◌, ◌++◌, ◌^◌, [], ℕ, false, true, drop, is_some, length, slice_index_or, slice_set, take, vec_capacity, vec_len, IfOk, MatchOption, None, Some, OnErr, OnOk};
+ghost use Rattle.std.specs.Prelude.{◌≡◌, ◌<◌, ◌≤◌, ◌+◌, ◌-◌, ◌++◌, ◌^◌, [], ℕ, false, true, drop, is_some, length, slice_index_or, slice_set, take, vec_capacity, vec_len, IfOk, IfSome, MatchOption, None, Some, OnErr, OnOk};
 ghost use Rattle.std.specs.List.{list_all};
 ghost use Rattle.sq_store.specs.Content.{changed, changed_by, inserted, removed, replaced};
-ghost use Rattle.sq_store.specs.Keys.{are_distinct, has_distinct_keys, have_keys, with_key};
+ghost use Rattle.sq_store.specs.Found.{numbered_in};
+ghost use Rattle.sq_store.specs.Keys.{are_distinct, has_distinct_keys, have_keys, with_key, with_one_of};
 ghost use Rattle.sq_heap.specs.Alone.{all_alone, slots_have};
 ghost use Rattle.sq_heap.specs.Entered.{change_holds, changes_hold};
 ghost use Rattle.sq_heap.specs.Index.{in_all, keys_of, slot_holds, slots_hold, undo_holds};
@@ -15,6 +16,7 @@ ghost use Rattle.sq_heap.specs.Undo.{GoesBack, back, fits};
 use crate::index::Index;
 use crate::indexes::{empty_indexes, enter_changes, index_of, index_on};
 use crate::keys::{are_alone, first_with, has_row, is_in_slots};
+use crate::lookup::all_with;
 use crate::slots::Slots;
 use crate::undo::Undo;
 use sq_items::Items;
@@ -333,6 +335,23 @@ impl HeapTable {
         match index_on(self.indexes.as_slice(), columns) {
             Some(place) => has_row(slots, &self.indexes[place], values),
             None => is_in_slots(slots, columns, values),
+        }
+    }
+
+    /// The rows with one of several lists of values in these columns; `None` if there is no index on them.
+    pub(crate) fn find_rows(
+        &self,
+        alloc: Global,
+        columns: &[usize],
+        several: &[Row],
+    ) -> Result<Option<Vec<(u64, &Row)>>, AllocError>
+        ensures { IfOk result (λ found. IfSome found (λ rows. numbered_in rows
+            ≡ with_one_of (table_of self.now.slots.list.items) columns.now several.now)) }
+    {
+        let slots = self.slots.as_slice();
+        match index_on(self.indexes.as_slice(), columns) {
+            Some(place) => Ok(Some(all_with(alloc, slots, &self.indexes[place], several)?)),
+            None => Ok(None),
         }
     }
 

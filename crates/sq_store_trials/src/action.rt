@@ -28,10 +28,12 @@ pub(crate) fn number(value: u32) -> Value {
     Value::Num(Decimal::new(value as i64, 0))
 }
 
-fn row(alloc: Global, first: u32, second: u32) -> Result<Row, AllocError> {
+/// A row of numbers.
+pub(crate) fn row_of(alloc: Global, values: &[u32]) -> Result<Row, AllocError> {
     let mut row = Row::new(alloc);
-    row.push(number(first))?;
-    row.push(number(second))?;
+    for value in values {
+        row.push(number(*value))?;
+    }
     Ok(row)
 }
 
@@ -42,10 +44,10 @@ pub(crate) fn changes_of(alloc: Global, steps: [Step; 3]) -> Result<Vec<Change>,
         match step {
             Step::Nothing => {}
             Step::Insert(first, second) => {
-                changes.push(Change::Insert(row(alloc, first, second)?))?
+                changes.push(Change::Insert(row_of(alloc, &[first, second])?))?
             }
             Step::Replace(at, first, second) => {
-                changes.push(Change::Replace(at, row(alloc, first, second)?))?
+                changes.push(Change::Replace(at, row_of(alloc, &[first, second])?))?
             }
             Step::Remove(at) => changes.push(Change::Remove(at))?,
         }

@@ -1,6 +1,6 @@
 //! What a store shows of its content.
 
-use crate::action::number;
+use crate::action::{number, row_of};
 use sq_store::{Meter, Store};
 use sq_value::{Key, Row, Value};
 use std::alloc::{AllocError, Global};
@@ -53,8 +53,39 @@ fn numbers_of<S: Store>(
     Ok(numbers)
 }
 
+/// The numbers of the rows with 10, 11 or 30 in the second column, as the store answers at once; 0 where it does not.
+fn looked_up<S: Store>(
+    alloc: Global,
+    store: &S,
+    meter: &mut Meter,
+) -> Result<Vec<u64>, AllocError> {
+    let mut numbers = Vec::new(alloc);
+    if store.table_count() == 0 {
+        return Ok(numbers);
+    }
+    let several = several(alloc)?;
+    match store.find_rows(alloc, 0, &[1], several.as_slice(), meter)? {
+        Some(rows) => {
+            for (at, _) in rows {
+                numbers.push(at)?;
+            }
+        }
+        None => numbers.push(0)?,
+    }
+    Ok(numbers)
+}
+
+/// The lists of values that are looked up.
+fn several(alloc: Global) -> Result<Vec<Row>, AllocError> {
+    let mut several = Vec::new(alloc);
+    for value in [10, 11, 30] {
+        several.push(row_of(alloc, &[value])?)?;
+    }
+    Ok(several)
+}
+
 /// Which rows a store finds: the first number from each number on, the number under which the first key
-/// finds each value, and the one under which the second key finds each row.
+/// finds each value, the one under which the second key finds each row, and the rows that are looked up.
 pub(crate) fn found_in<S: Store>(alloc: Global, store: &S) -> Result<Vec<u64>, AllocError> {
     let mut meter = Meter::new();
     let mut numbers = numbers_of(alloc, store, &mut meter)?;
@@ -64,11 +95,12 @@ pub(crate) fn found_in<S: Store>(alloc: Global, store: &S) -> Result<Vec<u64>, A
     for at in 1..=MOST {
         numbers.push(found_again(alloc, store, at, &mut meter)?)?;
     }
+    numbers.extend_from_slice(looked_up(alloc, store, &mut meter)?.as_slice())?;
     Ok(numbers)
 }
 
-/// Prints the rows, the first number from each number on, where the first key finds each value, and how
-/// many rows were handed out for that.
+/// Prints the rows, the first number from each number on, where the first key finds each value, the rows that
+/// are looked up, and how many rows were handed out for that.
 pub(crate) fn show<S: Store>(rt: &impl Print, alloc: Global, store: &S) -> io::Result<()> {
     let mut meter = Meter::new();
     println!(rt; "  content {:?}", content_of(alloc, store)?)?;
@@ -78,6 +110,7 @@ pub(crate) fn show<S: Store>(rt: &impl Print, alloc: Global, store: &S) -> io::R
             println!(rt; "  key {value}: {at}")?;
         }
     }
+    println!(rt; "  with 10, 11 or 30 {:?}", looked_up(alloc, store, &mut meter)?)?;
     println!(rt; "  handed out {}", meter.count())
 }
 

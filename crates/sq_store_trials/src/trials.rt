@@ -13,7 +13,7 @@ use std::io;
 const NONE: Step = Step::Nothing;
 
 /// What is done to each store, one after the other.
-const ACTIONS: [Action; 17] = [
+const ACTIONS: [Action; 19] = [
     Action::Apply([
         Step::Insert(1, 10),
         Step::Insert(2, 20),
@@ -22,6 +22,12 @@ const ACTIONS: [Action; 17] = [
     Action::Apply([Step::Insert(4, 10), NONE, NONE]),
     Action::Attempt([Step::Insert(2, 40), Step::Remove(2), NONE]),
     Action::Commit,
+    Action::Apply([Step::Replace(3, 3, 10), Step::Replace(1, 1, 30), NONE]),
+    Action::Apply([
+        Step::Replace(3, 3, 30),
+        Step::Replace(3, 3, 10),
+        Step::Replace(2, 2, 11),
+    ]),
     Action::Apply([Step::Replace(1, 2, 11), Step::Replace(2, 1, 21), NONE]),
     Action::Apply([Step::Replace(9, 9, 9), Step::Remove(9), NONE]),
     Action::Apply([
