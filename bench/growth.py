@@ -227,6 +227,22 @@ def fetched_and_updated(n):
                "CALL M.OPX;\n" + calls("FEX (*, *); CALL M.UPX", keys(n), "R"), Beside(work, None))
 
 
+def opened_and_updated(n):
+    """The cursor's condition reads the column that the positioned UPDATE assigns, and is true of each row."""
+    query = "SELECT K, A FROM R WHERE A >= 0"
+    procedures = "PROCEDURE UPX (SQLCODE); UPDATE R SET A = A + 1 WHERE CURRENT OF X;\nPROCEDURE CLX (SQLCODE); CLOSE X;\n"
+
+    def work(db):
+        answers = []
+        for _ in keys(n):
+            key, number = db.execute(query).fetchone()
+            answers += [key, number]
+            db.execute("UPDATE R SET A = A + 1 WHERE K = ?", (key,))
+        return answers + answers_to(db, [query.prepared() for query in sums_of("R")])
+    return Row({"R": pairs(n)}, cursor(query) + procedures,
+               calls("OPX; CALL M.FEX (*, *); CALL M.UPX; CALL M.CLX", keys(n), "R"), Beside(work, None))
+
+
 def select_from(table):
     return f"PROCEDURE ONE (SQLCODE, :K INTEGER, :A INTEGER); SELECT A INTO :A FROM {table} WHERE K = :K;\n"
 
@@ -420,6 +436,7 @@ ROWS = {
     "SELECT INTO by key": lambda n: selected("R", n),
     "SELECT INTO by key from a view": lambda n: selected("V", n),
     "OPEN, FETCH, CLOSE by key": opened,
+    "OPEN, FETCH, positioned UPDATE of the tested column, CLOSE": opened_and_updated,
     "OPEN, two FETCHes, CLOSE of a UNION of two lookups by key": united,
     "UPDATE by key through a view": updated_through_a_view,
     "INSERT from a query by key": inserted_from_a_query,

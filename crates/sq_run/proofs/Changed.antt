@@ -9,6 +9,7 @@ pub mod Inserts
 pub mod Levels
 pub mod NewValues
 pub mod NotNull
+pub mod PassedRows
 pub mod Performed
 pub mod Retrieved
 pub mod RowsAgain

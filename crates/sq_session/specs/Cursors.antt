@@ -1,11 +1,12 @@
 -- The cursors of a session, one for each declared cursor: closed, or open over what the declaration says
 -- (ISO/IEC 9075:1992, 4.21).
-use Rattle.std.specs.Prelude.{◌≡◌, ◌≤◌, ◌<◌, ⊤, ℕ, Bool, true, false, ◌&&◌, if◌then◌else◌, nat_eq, List, [], ◌∷◌, fold, length, slice_get, slice_set, IfSome}
+use Rattle.std.specs.Prelude.{◌≡◌, ◌≤◌, ◌<◌, ⊤, ℕ, Bool, true, false, ◌&&◌, if◌then◌else◌, nat_eq, nat_le, nat_lt, List, [], ◌∷◌, fold, length, slice_get, slice_set, Option, IfSome}
 use Rattle.std.specs.List.{AllByRecursion, AllZip}
 use Rattle.sq_value.specs.declared.domain.Kind.{Kind}
 use Rattle.sq_value.specs.declared.value.Value.{Value}
 use Rattle.sq_store.specs.Content.{Content, table_at}
 use Rattle.sq_meaning.specs.WellFormed.{AreRowsOf, IsRowOf}
+use Rattle.sq_meaning.specs.Words.{is_some_and}
 use Rattle.sq_bound.specs.Fits.{AreInDomains, holds, keys_of_bases}
 use Rattle.sq_bound.specs.WellFormed.{IsCursor, TableKinds, kinds_of_results}
 use Rattle.sq_bound.specs.declared.names.BaseTable.{BaseTable}
@@ -13,6 +14,8 @@ use Rattle.sq_bound.specs.declared.query.BoundCursor.{BoundCursor}
 use Rattle.sq_bound.specs.declared.statement.BoundStatement.{BoundStatement}
 use Rattle.sq_bound.specs.declared.statement.BoundUpdate.{BoundUpdate}
 use Rattle.sq_bound.specs.declared.statement.BoundStatement.TheVariants as statement
+use Rattle.sq_bound.specs.declared.statement.ChangeTarget.{ChangeTarget}
+use Rattle.sq_bound.specs.declared.statement.ChangeTarget.TheVariants as target
 use Rattle.sq_module.specs.declared.program.DeclaredCursor.{DeclaredCursor}
 use Rattle.sq_change.specs.Constraints.{constraints_hold}
 use Rattle.sq_change.specs.Statement.{base_of}
@@ -126,6 +129,10 @@ IsWhole columns bases declared s =
 
 -- ---- an UPDATE
 
+-- Whether a row with this number is left to a walk: the number lies from the walk's place on, and before its mark.
+abbrev pub is_left : WalkingCursor → ℕ → Bool
+is_left c number = nat_le c.next number && nat_lt number c.mark
+
 -- The numbers of the rows in these tables that a walking cursor has still to come to.
 abbrev pub numbers_left : DeclaredCursor → Content → WalkingCursor → List ℕ
 numbers_left d tables c =
@@ -139,20 +146,32 @@ listed d tables c = record { table = c.table; numbers = numbers_left d tables c;
 abbrev pub reads : BoundUpdate → DeclaredCursor → WalkingCursor → Bool
 reads u d c = nat_eq c.table (base_of u.target) && one_reads u.assignments (conditions_in d.cursor.body)
 
--- After an UPDATE a walking cursor that reads what changed goes on over the numbers of its rows; any other
--- cursor stays as it is.
-abbrev pub goes_on : BoundUpdate → Content → DeclaredCursor → CursorState → CursorState
-goes_on u tables d cursor.Closed = cursor.Closed
-goes_on u tables d (cursor.Rows c) = cursor.Rows c
-goes_on u tables d (cursor.Numbers c) = cursor.Numbers c
-goes_on u tables d (cursor.Walking c) =
-    if reads u d c then cursor.Numbers (listed d tables c) else cursor.Walking c
+-- Whether an UPDATE may change a row that is left to a walk over its base table. Which rows a searched one
+-- changes isn't known before; a positioned one changes the row under this number, which its cursor is on.
+abbrev pub may_change_left : ChangeTarget → Option ℕ → WalkingCursor → Bool
+may_change_left (target.Searched t) on c = true
+may_change_left (target.Positioned p) on c = is_some_and (is_left c) on
+
+-- A walk is listed before an UPDATE that may change which rows it reaches: one of a column that its conditions
+-- read, and of a row that may be left to it.
+abbrev pub is_listed : BoundUpdate → Option ℕ → DeclaredCursor → WalkingCursor → Bool
+is_listed u on d c = reads u d c && may_change_left u.target on c
+
+-- After an UPDATE a walking cursor that was listed goes on over the numbers of its rows; any other cursor stays
+-- as it is.
+abbrev pub goes_on : BoundUpdate → Option ℕ → Content → DeclaredCursor → CursorState → CursorState
+goes_on u on tables d cursor.Closed = cursor.Closed
+goes_on u on tables d (cursor.Rows c) = cursor.Rows c
+goes_on u on tables d (cursor.Numbers c) = cursor.Numbers c
+goes_on u on tables d (cursor.Walking c) =
+    if is_listed u on d c then cursor.Numbers (listed d tables c) else cursor.Walking c
 
 -- All cursors after an UPDATE.
-abbrev pub go_on : BoundUpdate → Content → List DeclaredCursor → List CursorState → List CursorState
-go_on u tables [] cs = cs
-go_on u tables (d ∷ ds) [] = []
-go_on u tables (d ∷ ds) (c ∷ cs) = goes_on u tables d c ∷ go_on u tables ds cs
+abbrev pub go_on : BoundUpdate → Option ℕ → Content → List DeclaredCursor → List CursorState
+    → List CursorState
+go_on u on tables [] cs = cs
+go_on u on tables (d ∷ ds) [] = []
+go_on u on tables (d ∷ ds) (c ∷ cs) = goes_on u on tables d c ∷ go_on u on tables ds cs
 
 -- ---- lists that are made before an UPDATE, and put in place of walks after it
 

@@ -157,15 +157,15 @@ UpdateComesTo s u values on tables done =
     (shown : Shown) → IsShown (seen_in s u.caller values tables) shown
     → done ≡ update_outcome shown (seen_in s u.caller values tables) s.bases u.statement on
 
--- The state in which walking cursors that read what an UPDATE changes go on over the numbers that were left to
--- them before it.
-abbrev pub walks_listed : Updating → State → State
-walks_listed u s = record s { cursors = go_on u.statement s.tables u.cursors s.cursors }
+-- The state in which walking cursors that may come to what an UPDATE changes go on over the numbers that were
+-- left to them before it; the cursor of a positioned one is on the row of this number.
+abbrev pub walks_listed : Updating → Option ℕ → State → State
+walks_listed u on s = record s { cursors = go_on u.statement on s.tables u.cursors s.cursors }
 
 abbrev pub MayUpdate : Schemas → Updating → List Value → Option ℕ → State → Done → State → Type 0
 MayUpdate s u values on before d after =
     (done : Outcome Content) × UpdateComesTo s u values on before.tables done
-    × Performs done (walks_listed u before) before d after
+    × Performs done (walks_listed u on before) before d after
 
 -- This is the outcome of DELETE; the cursor of a positioned one is on the row of this number.
 abbrev pub DeleteComesTo : Schemas → Caller → List Value → ChangeTarget → Option ℕ → Content

@@ -78,7 +78,7 @@ impl<S: Store> Machine<S> {
             called.now.values.now self.old meter.new) }
     {
         let on = self.current(called, &statement.target)?;
-        let lists = listed_walks(called, statement, self.cursors.as_slice(), &self.store)?;
+        let lists = listed_walks(called, statement, on, self.cursors.as_slice(), &self.store)?;
         let updated = update(
             called.alloc,
             called.catalog,

@@ -1,7 +1,8 @@
 //! Updatable cursors whose conditions answer no status: they read their rows as late as they fetch them.
 //!
 //! Such a cursor yields the same rows as a list of row numbers made at OPEN would, as long as no UPDATE changes what its
-//! conditions read; `walk_list.rt` lists the rows that are left before such an UPDATE.
+//! conditions read in a row that it has still to come to; `walk_list.rt` lists the rows that are left before such an
+//! UPDATE.
 
 ghost use Rattle.std.specs.Prelude.{◌≡◌, ◌≤◌, ◌<◌, ◌+◌, ◌-◌, ℕ, length, IfOk, IfSome, IsSome};
 ghost use Rattle.sq_bound.specs.Fits.{IsBase};

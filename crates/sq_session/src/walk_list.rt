@@ -1,5 +1,6 @@
-//! Before an UPDATE of a column that the conditions of a walking cursor read, the numbers of the rows that are
-//! left to the walk are listed, and a cursor over the list takes its place.
+//! Before an UPDATE that may change which rows a walking cursor reaches, the numbers of the rows that are left to
+//! the walk are listed, and a cursor over the list takes its place. Its conditions read a column that changes, in a
+//! row that is left to it.
 
 ghost use Rattle.std.specs.Prelude.{◌≡◌, ◌&&◌, ◌<◌, length, nat_eq, true, IfOk};
 ghost use Rattle.std.specs.Bool.{then_some};
@@ -11,7 +12,7 @@ ghost use Rattle.sq_change.specs.Statement.{base_of};
 ghost use Rattle.sq_session.specs.Called.{HaveKeptFor};
 ghost use Rattle.sq_session.specs.Kind.{over_of};
 ghost use Rattle.sq_store.specs.Content.{table_at};
-ghost use Rattle.sq_session.specs.Cursors.{AreThere, MayKeep, are_over, go_on, is_over, listed, put_all, reads};
+ghost use Rattle.sq_session.specs.Cursors.{AreThere, MayKeep, are_over, go_on, is_left, is_listed, is_over, listed, may_change_left, put_all, reads};
 ghost use Rattle.sq_session.specs.Reads.{one_reads};
 ghost use Rattle.sq_session.specs.Walk.{AreRowsUnder, IsQuietWith, numbers_meant};
 
@@ -33,11 +34,13 @@ pub(crate) struct ListedCursor {
     pub(crate) cursor: NumbersCursor,
 }
 
-/// The lists of all walking cursors whose conditions read what an UPDATE changes.
+/// The lists of all walking cursors that may come to what an UPDATE changes. The cursor of a positioned one is on
+/// the row of this number.
 #[tactic(auto, using(crate::proofs::OpenCursors::Over::as_many))]
 pub(crate) fn listed_walks<S: Store>(
     called: &Called<'_>,
     statement: &BoundUpdate,
+    on: Option<u64>,
     cursors: &[CursorState],
     store: &S,
 ) -> Result<Vec<ListedCursor>, AllocError>
@@ -48,13 +51,13 @@ pub(crate) fn listed_walks<S: Store>(
     requires domains { AreInDomains called.now.catalog.now.bases (S.content_now store.now) }
     ensures there { IfOk result (λ lists. AreThere (length cursors.now) lists.items) }
     ensures lists { IfOk result (λ lists. put_all cursors.now lists.items
-        ≡ go_on statement.now (S.content_now store.now) called.now.cursors.now cursors.now) }
+        ≡ go_on statement.now on (S.content_now store.now) called.now.cursors.now cursors.now) }
 {
     let mut lists = Vec::new(called.alloc);
     for (number, cursor) in cursors.iter().enumerate() {
         if let CursorState::Walking(walk) = cursor {
             let declared = &called.cursors[number];
-            match listed_walk(called, declared, statement, store, walk)? {
+            match listed_walk(called, declared, statement, on, store, walk)? {
                 Some(list) => lists.push(ListedCursor {
                     number,
                     cursor: list,
@@ -66,12 +69,12 @@ pub(crate) fn listed_walks<S: Store>(
     Ok(lists)
 }
 
-/// A cursor over the numbers of the rows that are left to a walk, if an UPDATE changes what its conditions
-/// read.
+/// A cursor over the numbers of the rows that are left to a walk, if an UPDATE may change which rows these are.
 fn listed_walk<S: Store>(
     called: &Called<'_>,
     declared: &DeclaredCursor,
     statement: &BoundUpdate,
+    on: Option<u64>,
     store: &S,
     walk: &WalkingCursor,
 ) -> Result<Option<NumbersCursor>, AllocError>
@@ -80,14 +83,16 @@ fn listed_walk<S: Store>(
     requires fit { FitsBody called.now.catalog.now.bases declared.now.cursor.body }
     requires kept { MayKeep (column_kinds called.now.catalog.now) declared.now.cursor walk.now.values }
     requires domains { AreInDomains called.now.catalog.now.bases (S.content_now store.now) }
-    ensures { IfOk result (λ list. list ≡ then_some (reads statement.now declared.now walk.now)
+    ensures { IfOk result (λ list. list ≡ then_some (is_listed statement.now on declared.now walk.now)
         (listed declared.now (S.content_now store.now) walk.now)) }
 {
     let query = match &declared.cursor.body {
         CursorBody::Updatable(query) => query,
         CursorBody::Rows(..) => unreachable!(),
     };
-    if !is_read(statement, walk.table, &query.target) {
+    let is_listed = is_read(statement, walk.table, &query.target)
+        && may_change_left(&statement.target, on, walk);
+    if !is_listed {
         return Ok(None);
     }
     let numbers = rest_of_walk(called, declared.user, &query.target, store, walk)?;
@@ -116,6 +121,27 @@ fn base_of(target: &ChangeTarget) -> usize
         ChangeTarget::Searched(target) => target.base,
         ChangeTarget::Positioned(positioned) => positioned.base,
     }
+}
+
+/// Whether an UPDATE may change a row that is left to a walk over its base table. A positioned one changes the row
+/// that its cursor is on.
+fn may_change_left(target: &ChangeTarget, on: Option<u64>, walk: &WalkingCursor) -> bool
+    ensures { result ≡ may_change_left target.now on walk.now }
+{
+    match target {
+        ChangeTarget::Searched(_) => true,
+        ChangeTarget::Positioned(_) => match on {
+            Some(number) => is_left(walk, number),
+            None => false,
+        },
+    }
+}
+
+/// Whether a row with this number is left to a walk.
+fn is_left(walk: &WalkingCursor, number: u64) -> bool
+    ensures { result ≡ is_left walk.now number }
+{
+    walk.next <= number && number < walk.mark
 }
 
 /// The numbers of the rows that are left to a walk of a user's cursor.

@@ -1,6 +1,6 @@
--- A walk whose conditions read no column that an UPDATE gives a value has the same rows after it
--- (ISO/IEC 9075:1992, 13.3, 13.9 and 13.10): each row is under its number as before, and in the columns
--- that the conditions read.
+-- A walk that is not listed before an UPDATE has the same rows after it (ISO/IEC 9075:1992, 13.3, 13.9 and 13.10). If
+-- its conditions read no column that gets a value, each row is under its number as before, and in the columns that the
+-- conditions read. Else the row that changes is not left to it.
 use Rattle.std.proofs.Common.{◌≡◌, ℕ, zero, suc, cond, Bool, true, false, List, [], ◌∷◌, filter, map, Option, Some, None, refl, sym, ap, subst, ◌∙◌, eqb-true, eq-eqb, Ok, Err}
 use Rattle.std.specs.Prelude.{⊤, ◌&&◌, if◌then◌else◌, nat_eq, nat_le, nat_lt, slice_get, slice_set, IfOk}
 use Rattle.std.specs.List.{AllByRecursion, AllZip}
@@ -26,13 +26,14 @@ use Rattle.sq_change.specs.Made.{Seen, Shown, numbered_updated, numbers_changed,
 use Rattle.sq_change.specs.Performed as performed
 use Rattle.sq_change.specs.Statement.{base_of, update_made, with_replaced}
 use Rattle.sq_module.specs.declared.program.DeclaredCursor.{DeclaredCursor}
-use Rattle.sq_session.specs.Cursors.{numbers_left, reads}
+use Rattle.sq_session.specs.Cursors.{is_listed, may_change_left, numbers_left}
 use Rattle.sq_session.specs.Kind.{conditions_in}
 use Rattle.sq_session.specs.Reads.{AreAlike, is_assigned, one_reads}
 use Rattle.sq_session.specs.Walk.{is_meant, numbers_meant, rows_between, rows_from}
 use Rattle.sq_session.specs.declared.walk.WalkingCursor.{WalkingCursor}
 use Rattle.sq_session.proofs.Walks.Unread.{unread}
 use Rattle.sq_run.proofs.Changed.Changes.{base_is_under}
+use Rattle.sq_run.proofs.Changed.PassedRows.{changed_not_left, not_left_same}
 use Rattle.sq_run.proofs.Places.Outcomes.{each_so, if_any, if_each, if_one, if_then, known_of}
 use Rattle.sq_run.proofs.Changed.RowsAgain.{all_there, all_within, row_among}
 
@@ -191,9 +192,9 @@ pub record IsUpdated (shown : Shown) (s : Seen) (u : BoundUpdate) (on : Option �
   pub made : update_made shown s u on ≡ Ok changed
   pub is : after ≡ with_table s.tables (under u.target).table.place (with_replaced (table_at s.tables (under u.target).table.place) changed)
 
--- where a walk's conditions read nothing that changes, it has the same rows
-abbrev pub SameRows : BoundUpdate → Content → Content → Type 0
-SameRows u before after = (d : DeclaredCursor) (c : WalkingCursor) → reads u d c ≡ false
+-- where a walk is not listed, it has the same rows
+abbrev pub SameRows : BoundUpdate → Option ℕ → Content → Content → Type 0
+SameRows u on before after = (d : DeclaredCursor) (c : WalkingCursor) → is_listed u on d c ≡ false
     → numbers_left d before c ≡ numbers_left d after c
 
 module _ (shown : Shown) (s : Seen) (bases : List BaseTable) (u : BoundUpdate) (on : Option ℕ) (after : Content)
@@ -250,10 +251,28 @@ module _ (shown : Shown) (s : Seen) (bases : List BaseTable) (u : BoundUpdate) (
   abbrev rows_left : DeclaredCursor → WalkingCursor → Table → List ℕ
   rows_left d c t = numbers_meant (conditions_in d.cursor.body) c.values d.user c.next c.mark t.rows
 
-  pub unread_rows : SameRows u s.tables after
+  -- the base table after it, of which something is known where it has the changed rows, and where it is as before
+  base_after : (P : List Numbered → Type 0) → P base.rows → P (with_replaced base updated.changed).rows
+      → P (table_at after (base_of u.target)).rows
+  base_after P before now =
+      subst (λ (content : Content). P (table_at content (base_of u.target)).rows) (sym after_is)
+      (same_place P s.tables (base_of u.target) (with_replaced base updated.changed) before now)
+
+  pub unread_rows : SameRows u on s.tables after
   unread_rows d c none = by_table (nat_eq c.table (base_of u.target)) refl none
     where
-      by_table : (b : Bool) → nat_eq c.table (base_of u.target) ≡ b → (b && one_reads u.assignments (conditions_in d.cursor.body)) ≡ false
+      by_reading : (b : Bool) → one_reads u.assignments (conditions_in d.cursor.body) ≡ b → (b && may_change_left u.target on c) ≡ false
+          → rows_left d c base ≡ rows_left d c (table_at after (base_of u.target))
+      by_reading false unread h =
+          meant_alike u.assignments (conditions_in d.cursor.body) unread c.values d.user c.next c.mark base.rows (table_at after (base_of u.target)).rows
+          (base_after (AllZip (IsLike u.assignments) base.rows) (itself_like u.assignments base.rows) rows_like)
+      by_reading true read h =
+          base_after (λ rows. rows_left d c base ≡ numbers_meant (conditions_in d.cursor.body) c.values d.user c.next c.mark rows) refl
+          (not_left_same c (conditions_in d.cursor.body) d.user updated.changed
+          (changed_not_left c shown s u.assignments (base_of u.target) updated.changed u.target on h updated.made) base)
+
+      by_table : (b : Bool) → nat_eq c.table (base_of u.target) ≡ b
+          → ((b && one_reads u.assignments (conditions_in d.cursor.body)) && may_change_left u.target on c) ≡ false
           → rows_left d c (table_at s.tables c.table) ≡ rows_left d c (table_at after c.table)
       by_table false is h =
           ap (rows_left d c) (other_table s.tables (base_of u.target) (with_replaced base updated.changed) c.table (unequal c.table (base_of u.target) is)
@@ -261,7 +280,4 @@ module _ (shown : Shown) (s : Seen) (bases : List BaseTable) (u : BoundUpdate) (
       by_table true is h =
           let here : c.table ≡ base_of u.target = eqb-true c.table (base_of u.target) is in
           subst (λ k. rows_left d c (table_at s.tables k) ≡ rows_left d c (table_at after k)) (sym here)
-          (meant_alike u.assignments (conditions_in d.cursor.body) h c.values d.user c.next c.mark base.rows (table_at after (base_of u.target)).rows
-          (subst (λ (content : Content). AllZip (IsLike u.assignments) base.rows (table_at content (base_of u.target)).rows) (sym after_is)
-          (same_place (AllZip (IsLike u.assignments) base.rows) s.tables (base_of u.target) (with_replaced base updated.changed)
-          (itself_like u.assignments base.rows) rows_like)))
+          (by_reading (one_reads u.assignments (conditions_in d.cursor.body)) refl h)

@@ -11,14 +11,14 @@ use Rattle.sq_bound.specs.declared.statement.BoundUpdate.{BoundUpdate}
 use Rattle.sq_bound.specs.declared.statement.PositionedTarget.{PositionedTarget}
 use Rattle.sq_meaning.specs.Status.{Outcome, and_then}
 use Rattle.sq_module.specs.declared.program.DeclaredCursor.{DeclaredCursor}
-use Rattle.sq_session.specs.Cursors.{go_on, goes_on, listed, reads}
+use Rattle.sq_session.specs.Cursors.{go_on, goes_on, is_listed, listed}
 use Rattle.sq_session.specs.Fetch.{come_to_number, come_to_row, next_walked, over_numbers, over_rows, over_walk, shown_fetched, walked_to}
 use Rattle.sq_session.specs.Kind.{Caller, Fetching, Kind, Opening, Over, Updating, read_parameters}
 use Rattle.sq_session.specs.Open.{IsOpenOver, before_numbers, before_rows, numbers_opened, rows_opened, walk_before}
 use Rattle.sq_session.specs.Parameter.{started_values}
 use Rattle.sq_session.specs.Schemas.{Schemas}
 use Rattle.sq_session.specs.State.{State, all_closed, cursor_at, is_open, off_row, with_cursor}
-use Rattle.sq_session.specs.Step.{Comes, MayCall, MayCloseIf, MayDeleteAt, MayFetchFrom, MayOpenIf, MayStep, MayUpdateAt, OpensAs, Performs, is_on_row, left_row, walks_listed}
+use Rattle.sq_session.specs.Step.{Comes, MayCall, MayCloseIf, MayDeleteAt, MayFetchFrom, MayOpenIf, MayStep, MayUpdateAt, OpensAs, Performs, is_on_row, left_row, on_row, walks_listed}
 use Rattle.sq_session.specs.declared.cursor.CursorState.{CursorState}
 use Rattle.sq_session.specs.declared.cursor.CursorState.TheVariants as cursor
 use Rattle.sq_session.specs.declared.cursor.NumbersCursor.{NumbersCursor}
@@ -125,27 +125,27 @@ performs : (o : Outcome Content) (wanted b : State) (d : Done) (a : State) → A
 performs (Ok tables) wanted b d a so has h = as_it_was (record wanted { tables = tables }) a so h.1
 performs (Err st) wanted b d a so has h = as_it_was b a has h.1
 
-one_goes_on : (u : BoundUpdate) (tables : Content) (d : DeclaredCursor) (c : CursorState) → IsAhead c → IsAhead (goes_on u tables d c)
-one_goes_on u tables d cursor.Closed h = tt
-one_goes_on u tables d (cursor.Rows c) h = tt
-one_goes_on u tables d (cursor.Numbers c) h = tt
-one_goes_on u tables d (cursor.Walking c) h = by_reads (reads u d c)
+one_goes_on : (u : BoundUpdate) (on : Option ℕ) (tables : Content) (d : DeclaredCursor) (c : CursorState) → IsAhead c → IsAhead (goes_on u on tables d c)
+one_goes_on u on tables d cursor.Closed h = tt
+one_goes_on u on tables d (cursor.Rows c) h = tt
+one_goes_on u on tables d (cursor.Numbers c) h = tt
+one_goes_on u on tables d (cursor.Walking c) h = by_listed (is_listed u on d c)
   where
-    by_reads : (is : Bool) → IsAhead (if is then cursor.Numbers (listed d tables c) else cursor.Walking c)
-    by_reads true = tt
-    by_reads false = h
+    by_listed : (is : Bool) → IsAhead (if is then cursor.Numbers (listed d tables c) else cursor.Walking c)
+    by_listed true = tt
+    by_listed false = h
 
-all_go_on : (u : BoundUpdate) (tables : Content) (ds : List DeclaredCursor) (cs : List CursorState) → AreAhead cs → AreAhead (go_on u tables ds cs)
-all_go_on u tables [] cs h = h
-all_go_on u tables (d ∷ ds) [] h = tt
-all_go_on u tables (d ∷ ds) (c ∷ cs) h = (one_goes_on u tables d c h.0, all_go_on u tables ds cs h.1)
+all_go_on : (u : BoundUpdate) (on : Option ℕ) (tables : Content) (ds : List DeclaredCursor) (cs : List CursorState) → AreAhead cs → AreAhead (go_on u on tables ds cs)
+all_go_on u on tables [] cs h = h
+all_go_on u on tables (d ∷ ds) [] h = tt
+all_go_on u on tables (d ∷ ds) (c ∷ cs) h = (one_goes_on u on tables d c h.0, all_go_on u on tables ds cs h.1)
 
-updates : (o : Outcome Content) (u : Updating) (b : State) (d : Done) (a : State) → Ahead b → Performs o (walks_listed u b) b d a → Ahead a
-updates o u b d a has h = performs o (walks_listed u b) b d a (all_go_on u.statement b.tables u.cursors b.cursors has) has h
+updates : (o : Outcome Content) (u : Updating) (on : Option ℕ) (b : State) (d : Done) (a : State) → Ahead b → Performs o (walks_listed u on b) b d a → Ahead a
+updates o u on b d a has h = performs o (walks_listed u on b) b d a (all_go_on u.statement on b.tables u.cursors b.cursors has) has h
 
 update_at : (is : Bool) (schemas : Schemas) (u : Updating) (p : PositionedTarget) (values : List Value) (b : State) (d : Done) (a : State) → Ahead b
     → MayUpdateAt is schemas u p values b d a → Ahead a
-update_at true schemas u p values b d a has h = updates h.0 u b d a has h.2
+update_at true schemas u p values b d a has h = updates h.0 u (on_row b p) b d a has h.2
 update_at false schemas u p values b d a has h = as_it_was b a has h.1
 
 delete_at : (is : Bool) (schemas : Schemas) (caller : Caller) (p : PositionedTarget) (values : List Value) (b : State) (d : Done) (a : State) → Ahead b
@@ -160,7 +160,7 @@ step_ahead schemas (Kind.fetches f) values b d a has h = fetch_from (cursor_at b
 step_ahead schemas (Kind.closes n) values b d a has h = close_if (is_open (cursor_at b n)) n b d a has h
 step_ahead schemas (Kind.selects s) values b d a has h = as_it_was b a has h.0
 step_ahead schemas (Kind.inserts caller i) values b d a has h = performs h.0 b b d a has has h.2
-step_ahead schemas (Kind.updates u) values b d a has h = updates h.0 u b d a has h.2
+step_ahead schemas (Kind.updates u) values b d a has h = updates h.0 u None b d a has h.2
 step_ahead schemas (Kind.deletes caller t) values b d a has h = performs h.0 b b d a has has h.2
 step_ahead schemas (Kind.updates_at u p) values b d a has h = update_at (is_on_row b p) schemas u p values b d a has h
 step_ahead schemas (Kind.deletes_at caller p) values b d a has h = delete_at (is_on_row b p) schemas caller p values b d a has h

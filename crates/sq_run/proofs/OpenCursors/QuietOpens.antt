@@ -29,23 +29,13 @@ use Rattle.sq_query.proofs.Targets.QuietTargets.{are_plain}
 use Rattle.sq_query.proofs.Targets.TargetSearch.{truth_there}
 use Rattle.sq_session.specs.Walk.{AreRowsUnder, IsQuietWith, is_meant, is_yes, no_tables}
 use Rattle.sq_run.proofs.Sites.NoTables.{plain_same}
-use Rattle.sq_run.proofs.OpenCursors.WalkLeft.{all_kept}
+use Rattle.sq_run.proofs.OpenCursors.WalkLeft.{all_kept, filtered_both}
 
 -- ---- rows on which all conditions have a truth
 
 all_pass : (rows : List Numbered) → filter (λ r. true) rows ≡ rows
 all_pass [] = refl
 all_pass (r ∷ rows) = ap (λ l. r ∷ l) (all_pass rows)
-
-filtered_both : (p q : Numbered → Bool) (rows : List Numbered) → filter q (filter p rows) ≡ filter (λ r. p r && q r) rows
-filtered_both p q [] = refl
-filtered_both p q (r ∷ rows) = by_first (p r) (filtered_both p q rows)
-  where
-    by_first : (b : Bool) → filter q (filter p rows) ≡ filter (λ x. p x && q x) rows
-        → filter q (cond b (r ∷ filter p rows) (filter p rows))
-        ≡ cond (b && q r) (r ∷ filter (λ x. p x && q x) rows) (filter (λ x. p x && q x) rows)
-    by_first true e = ap (λ l. cond (q r) (r ∷ l) l) e
-    by_first false e = e
 
 kept_is : (test : Numbered → Outcome Bool) (rows : List Numbered) → AllByRecursion (λ r. HasValue (test r)) rows
     → kept test rows ≡ Ok (filter (λ r. is_yes (test r)) rows)

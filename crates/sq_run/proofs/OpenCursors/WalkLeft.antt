@@ -2,7 +2,7 @@
 -- OPEN fixed (ISO/IEC 9075:1992, 13.3), where these are, but for those that are gone, the numbers of the
 -- rows that the walk still has.
 use Rattle.std.proofs.Common.{◌≡◌, ℕ, ◌+◌, ◌≤◌, ◌<◌, cond, Bool, true, false, List, [], ◌∷◌, drop, filter, map, Option, Some, None, refl, sym, ap, subst, ◌∙◌, arith, leb-true, le-leb, ltb-true}
-use Rattle.std.specs.Prelude.{find, is_some, nat_le, nat_lt, slice_get}
+use Rattle.std.specs.Prelude.{◌&&◌, find, is_some, nat_le, nat_lt, slice_get}
 use Rattle.std.specs.List.{AllByRecursion}
 use Rattle.std.specs.Option.{option_and_then, option_map}
 use Rattle.std.proofs.lemmas.Bool.{false_from_ne_true}
@@ -60,6 +60,17 @@ kept_pass test (r ∷ rows) = by_test (test r) refl (kept_pass test rows)
         → AllByRecursion (λ x. test x ≡ true) (cond b (r ∷ filter test rows) (filter test rows))
     by_test true h others = (h, others)
     by_test false h others = others
+
+-- what passes two tests, one after the other
+pub filtered_both : (p q : Numbered → Bool) (rows : List Numbered) → filter q (filter p rows) ≡ filter (λ r. p r && q r) rows
+filtered_both p q [] = refl
+filtered_both p q (r ∷ rows) = by_first (p r) (filtered_both p q rows)
+  where
+    by_first : (b : Bool) → filter q (filter p rows) ≡ filter (λ x. p x && q x) rows
+        → filter q (cond b (r ∷ filter p rows) (filter p rows))
+        ≡ cond (b && q r) (r ∷ filter (λ x. p x && q x) rows) (filter (λ x. p x && q x) rows)
+    by_first true e = ap (λ l. cond (q r) (r ∷ l) l) e
+    by_first false e = e
 
 found_is : (P : Numbered → Type 0) (test : Numbered → Bool) (rows : List Numbered) (r : Numbered) → AllByRecursion P rows
     → find test rows ≡ Some r → P r

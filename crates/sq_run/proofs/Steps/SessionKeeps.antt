@@ -164,7 +164,7 @@ module _ (texts : List SchemaText) (known : KnownTables) (schemas : Schemas) (of
         → (d : Done) (after : State) → MayUpdate schemas (updating declared caller bound) values None s d after
         → IsSameStep declared d after (change_by r r.state (update_rows r u))
     update_keeps t is_searched base columns stars d after h =
-        update_same s r (updating declared caller bound) call.same schemas values None kept.shown kept.rising u
+        update_same s r (updating declared caller bound) None call.same schemas values kept.shown kept.rising u
         (searched_by r.in_module.authorization u.target)
         (update_alike texts known schemas of declared caller values s r kept call IsNumberOf u bound is target means t is_searched base columns stars)
         (ap (λ o. and_then o (update_outcome (setting r) u)) (searched_rows IsNumberOf update_filter u.target t (subst (IsTargetOf IsNumberOf update_filter u.target) is_searched is.rows)))

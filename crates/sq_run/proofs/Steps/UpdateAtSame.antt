@@ -60,8 +60,8 @@ module _ (s : State) (r : Running) (u : Updating) (same : SameStates u.cursors s
       subst (λ o. Both d after (updated_at (option_map (λ z. n) o))) (sym found) (refused d after h)
   by_row (Some n) on (Some row) found d after h =
       subst (λ o. Both d after (updated_at (option_map (λ z. n) o))) (sym found)
-      (change_same u.cursors s r same (walks_listed u s) r.state h.0 (update_outcome (setting r) x (Which.numbered n)) (alike n row found on h.0 h.1)
-      (rows_update s r u same schemas values (on_row s p) shown rising x (Which.numbered n) (alike n row found on) h.0 h.1) d after h.2)
+      (change_same u.cursors s r same (walks_listed u (on_row s p) s) r.state h.0 (update_outcome (setting r) x (Which.numbered n)) (alike n row found on h.0 h.1)
+      (rows_update s r u (on_row s p) same schemas values shown rising x (Which.numbered n) (alike n row found on) h.0 h.1) d after h.2)
 
   -- A positioned UPDATE keeps what the states are to each other, and ends alike.
   pub update_at_same : (d : Done) (after : State) → MayUpdateAt (is_on_row s p) schemas u p values s d after

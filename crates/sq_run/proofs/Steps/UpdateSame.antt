@@ -1,7 +1,6 @@
 -- UPDATE keeps what the states of a session and of the machine are to each other, and ends alike (ISO/IEC
 -- 9075:1992, 13.9 and 13.10), where it comes to the same tables or the same status. Rows keep their
--- numbers; a walk whose conditions read what changes goes on over the numbers that were left to it, and any
--- other has the same rows.
+-- numbers; a walk that is listed goes on over the numbers that were left to it, and any other has the same rows.
 use Rattle.std.proofs.Common.{◌≡◌, ℕ, zero, suc, ◌≤◌, Bool, true, false, cond, List, [], ◌∷◌, drop, filter, map, Option, Some, refl, sym, ap, subst, ◌∙◌, eqb-true, Ok}
 use Rattle.std.specs.Prelude.{◌==◌, find, if◌then◌else◌, is_some, nat_eq, slice_set, unwrap_or}
 use Rattle.sq_tree.specs.declared.statement.Update.{Update}
@@ -16,7 +15,7 @@ use Rattle.sq_meaning.specs.Machine.{CursorEntry, Running, change_by, setting, u
 use Rattle.sq_bound.specs.declared.statement.BoundUpdate.{BoundUpdate}
 use Rattle.sq_module.specs.declared.program.DeclaredCursor.{DeclaredCursor}
 use Rattle.sq_change.specs.Statement.{base_of}
-use Rattle.sq_session.specs.Cursors.{go_on, goes_on, listed, numbers_left, reads}
+use Rattle.sq_session.specs.Cursors.{go_on, goes_on, is_listed, listed, numbers_left}
 use Rattle.sq_session.specs.Kind.{Updating, conditions_in}
 use Rattle.sq_session.specs.Schemas.{Schemas}
 use Rattle.sq_session.specs.State.{State, is_there, left}
@@ -91,9 +90,9 @@ all_left : {A : Type 0} (xs : List A) → drop 0 xs ≡ xs
 all_left [] = refl
 all_left (x ∷ xs) = refl
 
-module _ (before after : Content) (u : BoundUpdate)
+module _ (before after : Content) (u : BoundUpdate) (on : Option ℕ)
     (there : (k n : ℕ) → is_there (table_at after k) n ≡ is_there (table_at before k) n)
-    (next : (k : ℕ) → (table_at after k).next ≡ (table_at before k).next) (unread : SameRows u before after) where
+    (next : (k : ℕ) → (table_at after k).next ≡ (table_at before k).next) (unread : SameRows u on before after) where
   alike : (k : ℕ) (xs : List ℕ) → filter (is_there (table_at after k)) xs ≡ filter (is_there (table_at before k)) xs
   alike k xs = filters_alike (is_there (table_at before k)) (is_there (table_at after k)) (there k) xs
 
@@ -107,7 +106,7 @@ module _ (before after : Content) (u : BoundUpdate)
   }
 
   walk_stays : (d : DeclaredCursor) (c : WalkingCursor) (x : machine.CursorState)
-      → SameWalk (conditions_in d.cursor.body) d.user (table_at before c.table) c x → (b : Bool) → reads u d c ≡ b
+      → SameWalk (conditions_in d.cursor.body) d.user (table_at before c.table) c x → (b : Bool) → is_listed u on d c ≡ b
       → SameCursor after d (if b then cursor.Numbers (listed d before c) else cursor.Walking c) x
   walk_stays d c x h false is = record {
     numbers = h.numbers;
@@ -132,31 +131,31 @@ module _ (before after : Content) (u : BoundUpdate)
   }
 
   cursor_stays : (d : DeclaredCursor) (c : CursorState) (x : machine.CursorState) → SameCursor before d c x
-      → SameCursor after d (goes_on u before d c) x
+      → SameCursor after d (goes_on u on before d c) x
   cursor_stays d cursor.Closed x h = h
   cursor_stays d (cursor.Rows c) x h = h
   cursor_stays d (cursor.Numbers c) x h = numbers_stay c x h
-  cursor_stays d (cursor.Walking c) x h = walk_stays d c x h (reads u d c) refl
+  cursor_stays d (cursor.Walking c) x h = walk_stays d c x h (is_listed u on d c) refl
 
   pub cursors_stay : (ds : List DeclaredCursor) (cs : List CursorState) (es : List CursorEntry)
-      → AreSame (SameCursor before) ds cs es → AreSame (SameCursor after) ds (go_on u before ds cs) es
+      → AreSame (SameCursor before) ds cs es → AreSame (SameCursor after) ds (go_on u on before ds cs) es
   cursors_stay [] [] [] h = tt
   cursors_stay (d ∷ ds) (c ∷ cs) (e ∷ es) h = (cursor_stays d c e.state h.0, cursors_stay ds cs es h.1)
   cursors_stay _ _ _ h = absurd h
 
 -- ---- the statement
 
-module _ (s : State) (r : Running) (u : Updating) (same : SameStates u.cursors s r.state) where
-  pub rows_replaced : (x : Update) (which : Which) (content : Content) → SameRows u.statement s.tables content
+module _ (s : State) (r : Running) (u : Updating) (on : Option ℕ) (same : SameStates u.cursors s r.state) where
+  pub rows_replaced : (x : Update) (which : Which) (content : Content) → SameRows u.statement on s.tables content
       → update_outcome (setting r) x which ≡ Ok content
-      → SameStates u.cursors (record (walks_listed u s) { tables = content }) (record r.state { tables = content })
+      → SameStates u.cursors (record (walks_listed u on s) { tables = content }) (record r.state { tables = content })
   rows_replaced x which content unread e =
       let replaced_in = updated_is (setting r) x which content e in
       record {
         tables = refl;
         committed = same.committed;
         cursors =
-            cursors_stay s.tables content u.statement
+            cursors_stay s.tables content u.statement on
             (λ k n. ap (λ (c : Content). is_there (table_at c k) n) (replaced_in.is ∙ (λ i. with_table (same.tables i) replaced_in.place (with_replaced (table_at (same.tables i) replaced_in.place) replaced_in.changed)))
             ∙ there_at s.tables replaced_in.place replaced_in.changed k n)
             (λ k. ap (λ (c : Content). (table_at c k).next) (replaced_in.is ∙ (λ i. with_table (same.tables i) replaced_in.place (with_replaced (table_at (same.tables i) replaced_in.place) replaced_in.changed)))
@@ -165,12 +164,12 @@ module _ (s : State) (r : Running) (u : Updating) (same : SameStates u.cursors s
       }
 
   -- what it comes to by place and by name
-  module _ (schemas : Schemas) (values : List Value) (on : Option ℕ) (shown : HasTables schemas s.tables)
+  module _ (schemas : Schemas) (values : List Value) (shown : HasTables schemas s.tables)
       (rising : (place : ℕ) → has_rising_rows (table_at s.tables place) ≡ true) (x : Update) (which : Which)
       (alike : (done : Outcome Content) → UpdateComesTo schemas u values on s.tables done → done ≡ update_outcome (setting r) x which) where
     pub rows_update : (done : Outcome Content) → UpdateComesTo schemas u values on s.tables done → (content : Content)
         → update_outcome (setting r) x which ≡ Ok content
-        → SameStates u.cursors (record (walks_listed u s) { tables = content }) (record r.state { tables = content })
+        → SameStates u.cursors (record (walks_listed u on s) { tables = content }) (record r.state { tables = content })
     rows_update done comes content e =
         let tables = shown u.caller.user in
         rows_replaced x which content
@@ -183,4 +182,4 @@ module _ (s : State) (r : Running) (u : Updating) (same : SameStates u.cursors s
         → SameStates u.cursors after (change_by r r.state (update_rows r x)).0 × SameReply d (change_by r r.state (update_rows r x)).1
     update_same rows_are d after h =
         subst (λ o. SameStates u.cursors after (change_by r r.state o).0 × SameReply d (change_by r r.state o).1) (sym rows_are)
-        (change_same u.cursors s r same (walks_listed u s) r.state h.0 (update_outcome (setting r) x which) (alike h.0 h.1) (rows_update h.0 h.1) d after h.2)
+        (change_same u.cursors s r same (walks_listed u on s) r.state h.0 (update_outcome (setting r) x which) (alike h.0 h.1) (rows_update h.0 h.1) d after h.2)

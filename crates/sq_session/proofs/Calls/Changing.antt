@@ -75,7 +75,7 @@ module _ (s : Schemas) (values : List Value) (b a : State) where
         by (target.Positioned p) is ready h =
             subst (λ (r : Bool). MayUpdateAt r s u p values b d a) (sym ready) (subst (λ (o : Option ℕ). MayUpdate s u values o b d a) is h)
 
-    pub updates_done : (d : Done) → on ≡ number_meant b t → is_ready b t ≡ true → d ≡ ended status.SuccessfulCompletion → a ≡ record (walks_listed u b) { tables = a.tables }
+    pub updates_done : (d : Done) → on ≡ number_meant b t → is_ready b t ≡ true → d ≡ ended status.SuccessfulCompletion → a ≡ record (walks_listed u on b) { tables = a.tables }
         → ((shown : Shown) → IsShown (seen_in s u.caller values b.tables) shown → update_done shown ≡ Ok a.tables)
         → MayStep s (update_kind u t) values b d a
     updates_done d is ready ends same meant = may_update d is ready (Ok a.tables, (λ shown shows. sym (meant shown shows)), (ends, same))

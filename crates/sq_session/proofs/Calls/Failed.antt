@@ -9,7 +9,7 @@ use Rattle.sq_session.specs.Kind.{Caller, Fetching, Kind, Opening, Updating, rea
 use Rattle.sq_session.specs.Parameter.{started_values}
 use Rattle.sq_session.specs.Schemas.{Schemas}
 use Rattle.sq_session.specs.State.{State, committed_state, cursor_at, is_open, rolled_back}
-use Rattle.sq_session.specs.Step.{Comes, Ends, MayCall, MayCloseIf, MayDeleteAt, MayFetchFrom, MayOpenIf, MayStep, MayUpdateAt, OpensAs, Performs, is_on_row, is_success, left_row, walks_listed}
+use Rattle.sq_session.specs.Step.{Comes, Ends, MayCall, MayCloseIf, MayDeleteAt, MayFetchFrom, MayOpenIf, MayStep, MayUpdateAt, OpensAs, Performs, is_on_row, is_success, left_row, on_row, walks_listed}
 use Rattle.sq_session.specs.declared.cursor.CursorState.{CursorState}
 use Rattle.sq_session.specs.declared.cursor.CursorState.TheVariants as cursor
 use Rattle.sq_session.specs.declared.reply.Done.{Done}
@@ -51,7 +51,7 @@ performs (Ok tables) w b d a h e = let k : true ≡ false = subst (λ x. is_succ
 performs (Err st) w b d a h e = same b a h.1
 
 update_at : (r : Bool) (sc : Schemas) (u : Updating) (p : PositionedTarget) (vs : List Value) (b : State) (d : Done) (a : State) → MayUpdateAt r sc u p vs b d a → is_success d.status ≡ false → Kept b a
-update_at true sc u p vs b d a h e = performs h.0 (walks_listed u b) b d a h.2 e
+update_at true sc u p vs b d a h e = performs h.0 (walks_listed u (on_row b p) b) b d a h.2 e
 update_at false sc u p vs b d a h e = same b a h.1
 
 delete_at : (r : Bool) (sc : Schemas) (caller : Caller) (p : PositionedTarget) (vs : List Value) (b : State) (d : Done) (a : State) → MayDeleteAt r sc caller p vs b d a → is_success d.status ≡ false → Kept b a
@@ -69,7 +69,7 @@ step sc (Kind.fetches f) vs b d a h e = fetch_from (cursor_at b f.cursor) f vs b
 step sc (Kind.closes n) vs b d a h e = close_if (is_open (cursor_at b n)) n b d a h
 step sc (Kind.selects s) vs b d a h e = same b a h.0
 step sc (Kind.inserts caller i) vs b d a h e = performs h.0 b b d a h.2 e
-step sc (Kind.updates u) vs b d a h e = performs h.0 (walks_listed u b) b d a h.2 e
+step sc (Kind.updates u) vs b d a h e = performs h.0 (walks_listed u None b) b d a h.2 e
 step sc (Kind.deletes caller t) vs b d a h e = performs h.0 b b d a h.2 e
 step sc (Kind.updates_at u p) vs b d a h e = update_at (is_on_row b p) sc u p vs b d a h e
 step sc (Kind.deletes_at caller p) vs b d a h e = delete_at (is_on_row b p) sc caller p vs b d a h e

@@ -1,6 +1,6 @@
 -- After each statement a session's cursors go over what is declared, and what depends on neither its cursors nor its tables still holds
 -- (ISO/IEC 9075:1992, 4.21 and 13.2 to 13.10).
-use Rattle.std.proofs.Common.{◌≡◌, ℕ, Bool, true, false, List, refl, sym, ap, subst, arith, Ok, Err}
+use Rattle.std.proofs.Common.{◌≡◌, ℕ, Bool, true, false, List, Option, None, refl, sym, ap, subst, arith, Ok, Err}
 use Rattle.std.proofs.lemmas.Grind.{common_steps}
 use Rattle.std.specs.Prelude.{nat_eq, slice_set}
 use Rattle.sq_lex.specs.declared.name.Name.{Name}
@@ -23,7 +23,7 @@ use Rattle.sq_session.specs.Kind.{Caller, Fetching, Over, Updating, caller_of, d
 use Rattle.sq_session.specs.Open.{IsOpenOver, before_numbers, before_rows, numbers_opened, rows_opened, walk_before}
 use Rattle.sq_session.specs.Schemas.{Schemas}
 use Rattle.sq_session.specs.State.{State, all_closed, committed_state, cursor_at, is_open, off_row, rolled_back, with_cursor}
-use Rattle.sq_session.specs.Step.{Comes, MayCloseIf, MayDeleteAt, MayFetchFrom, MayOpenIf, MayStep, MayUpdateAt, OpensAs, Performs, is_on_row, left_row, walks_listed}
+use Rattle.sq_session.specs.Step.{Comes, MayCloseIf, MayDeleteAt, MayFetchFrom, MayOpenIf, MayStep, MayUpdateAt, OpensAs, Performs, is_on_row, left_row, on_row, walks_listed}
 use Rattle.sq_session.specs.declared.cursor.CursorState.{CursorState}
 use Rattle.sq_session.specs.declared.cursor.CursorState.TheVariants as cursor
 use Rattle.sq_session.specs.declared.cursor.NumbersCursor.{NumbersCursor}
@@ -120,10 +120,10 @@ module _ (ds : List DeclaredCursor) (Rest : State → Type 0) (any_cursors : (s 
   performs (Ok tables) wanted b d a so has h = same (record wanted { tables = tables }) a (so.0, any_tables wanted tables so.1) h.1
   performs (Err st) wanted b d a so has h = same b a has h.1
 
-  updates : (o : Outcome Content) (u : Updating) (b : State) (d : Done) (a : State) → StaysOver b → Performs o (walks_listed u b) b d a → StaysOver a
-  updates o u b d a has h =
-      performs o (walks_listed u b) b d a
-      (go_on_over u.statement b.tables u.cursors ds b.cursors has.0, any_cursors b (go_on u.statement b.tables u.cursors b.cursors) has.1) has h
+  updates : (o : Outcome Content) (u : Updating) (on : Option ℕ) (b : State) (d : Done) (a : State) → StaysOver b → Performs o (walks_listed u on b) b d a → StaysOver a
+  updates o u on b d a has h =
+      performs o (walks_listed u on b) b d a
+      (go_on_over u.statement on b.tables u.cursors ds b.cursors has.0, any_cursors b (go_on u.statement on b.tables u.cursors b.cursors) has.1) has h
 
   deletes : (o : Outcome Content) (p : PositionedTarget) (b : State) (d : Done) (a : State) → StaysOver b → Performs o (left_row b p) b d a → StaysOver a
   deletes o p b d a has h =
@@ -132,7 +132,7 @@ module _ (ds : List DeclaredCursor) (Rest : State → Type 0) (any_cursors : (s 
 
   update_at : (is : Bool) (schemas : Schemas) (u : Updating) (p : PositionedTarget) (values : List Value) (b : State) (d : Done) (a : State)
       → StaysOver b → MayUpdateAt is schemas u p values b d a → StaysOver a
-  update_at true schemas u p values b d a has h = updates h.0 u b d a has h.2
+  update_at true schemas u p values b d a has h = updates h.0 u (on_row b p) b d a has h.2
   update_at false schemas u p values b d a has h = same b a has h.1
 
   delete_at : (is : Bool) (schemas : Schemas) (caller : Caller) (p : PositionedTarget) (values : List Value) (b : State) (d : Done) (a : State)
@@ -142,7 +142,7 @@ module _ (ds : List DeclaredCursor) (Rest : State → Type 0) (any_cursors : (s 
 
   of_update : (schemas : Schemas) (u : Updating) (t : ChangeTarget) (values : List Value) (b : State) (d : Done) (a : State) → StaysOver b
       → MayStep schemas (update_kind u t) values b d a → StaysOver a
-  of_update schemas u (target.Searched t) values b d a has h = updates h.0 u b d a has h.2
+  of_update schemas u (target.Searched t) values b d a has h = updates h.0 u None b d a has h.2
   of_update schemas u (target.Positioned p) values b d a has h = update_at (is_on_row b p) schemas u p values b d a has h
 
   of_delete : (schemas : Schemas) (caller : Caller) (t : ChangeTarget) (values : List Value) (b : State) (d : Done) (a : State) → StaysOver b

@@ -1,5 +1,5 @@
 -- Open cursors keep the rows that they have listed, and the values with which they were opened.
-use Rattle.std.proofs.Common.{◌≡◌, ◌≤◌, ℕ, zero, suc, Bool, true, false, if◌then◌else◌, arith, List, [], ◌∷◌, length, get_or, replicate, slice_index_or, slice_set, Ok, Err, refl, ap, sym, subst}
+use Rattle.std.proofs.Common.{◌≡◌, ◌≤◌, ℕ, zero, suc, Bool, true, false, if◌then◌else◌, arith, List, [], ◌∷◌, length, get_or, replicate, slice_index_or, slice_set, Option, None, Ok, Err, refl, ap, sym, subst}
 use Rattle.sq_lex.specs.declared.name.Name.{Name}
 use Rattle.sq_value.specs.declared.value.Value.{Value}
 use Rattle.sq_store.specs.Content.{Content, table_at}
@@ -18,12 +18,12 @@ use Rattle.sq_bound.specs.declared.statement.PositionedTarget.{PositionedTarget}
 use Rattle.sq_module.specs.declared.program.DeclaredCursor.{DeclaredCursor}
 use Rattle.sq_bound.specs.declared.statement.BoundUpdate.{BoundUpdate}
 use Rattle.sq_expression.proofs.Kept.{ok_same}
-use Rattle.sq_session.specs.Cursors.{HasKept, HaveKept, MayKeep, OpenHaveKept, go_on, goes_on, listed, reads}
+use Rattle.sq_session.specs.Cursors.{HasKept, HaveKept, MayKeep, OpenHaveKept, go_on, goes_on, is_listed, listed}
 use Rattle.sq_session.specs.Fetch.{come_to_number, come_to_row, come_to_walk, over_numbers, over_rows, over_walk, place_reached, row_come_to, row_fetched}
 use Rattle.sq_session.specs.Kind.{Caller, Fetching, Updating, caller_of, delete_kind, fetching, kind_of, update_kind, updating}
 use Rattle.sq_session.specs.Schemas.{Schemas}
 use Rattle.sq_session.specs.State.{State, all_closed, committed_state, cursor_at, is_open, next_number, off_row, rolled_back, with_cursor}
-use Rattle.sq_session.specs.Step.{Comes, MayCloseIf, MayDeleteAt, MayFetchFrom, MayStep, MayUpdateAt, Performs, is_on_row, left_row, walks_listed}
+use Rattle.sq_session.specs.Step.{Comes, MayCloseIf, MayDeleteAt, MayFetchFrom, MayStep, MayUpdateAt, Performs, is_on_row, left_row, on_row, walks_listed}
 use Rattle.sq_session.specs.declared.cursor.CursorState.{CursorState}
 use Rattle.sq_session.specs.declared.cursor.CursorState.TheVariants as cursor
 use Rattle.sq_session.specs.declared.cursor.NumbersCursor.{NumbersCursor}
@@ -72,17 +72,17 @@ module _ (columns : TableKinds) where
   listed_kept tables k d w true h = omega arith
   listed_kept tables k d w false h = h
 
-  goes_on_kept : (u : BoundUpdate) (tables : Content) (k : BoundCursor) (d : DeclaredCursor) (c : CursorState) → HasKept columns k c → HasKept columns k (goes_on u tables d c)
-  goes_on_kept u tables k d cursor.Closed h = h
-  goes_on_kept u tables k d (cursor.Rows c) h = h
-  goes_on_kept u tables k d (cursor.Numbers c) h = h
-  goes_on_kept u tables k d (cursor.Walking c) h = listed_kept tables k d c (reads u d c) h
+  goes_on_kept : (u : BoundUpdate) (on : Option ℕ) (tables : Content) (k : BoundCursor) (d : DeclaredCursor) (c : CursorState) → HasKept columns k c → HasKept columns k (goes_on u on tables d c)
+  goes_on_kept u on tables k d cursor.Closed h = h
+  goes_on_kept u on tables k d (cursor.Rows c) h = h
+  goes_on_kept u on tables k d (cursor.Numbers c) h = h
+  goes_on_kept u on tables k d (cursor.Walking c) h = listed_kept tables k d c (is_listed u on d c) h
 
-  go_on_kept : (u : BoundUpdate) (tables : Content) (es ds : List DeclaredCursor) (cs : List CursorState) → HaveKept columns ds cs → HaveKept columns ds (go_on u tables es cs)
-  go_on_kept u tables [] ds cs h = h
-  go_on_kept u tables (e ∷ es) ds [] h = h
-  go_on_kept u tables (e ∷ es) [] (c ∷ cs) h = absurd h
-  go_on_kept u tables (e ∷ es) (d ∷ ds) (c ∷ cs) h = (goes_on_kept u tables d.cursor e c h.0, go_on_kept u tables es ds cs h.1)
+  go_on_kept : (u : BoundUpdate) (on : Option ℕ) (tables : Content) (es ds : List DeclaredCursor) (cs : List CursorState) → HaveKept columns ds cs → HaveKept columns ds (go_on u on tables es cs)
+  go_on_kept u on tables [] ds cs h = h
+  go_on_kept u on tables (e ∷ es) ds [] h = h
+  go_on_kept u on tables (e ∷ es) [] (c ∷ cs) h = absurd h
+  go_on_kept u on tables (e ∷ es) (d ∷ ds) (c ∷ cs) h = (goes_on_kept u on tables d.cursor e c h.0, go_on_kept u on tables es ds cs h.1)
 
   off_kept : (k : BoundCursor) (c : CursorState) → HasKept columns k c → HasKept columns k (off_row c)
   off_kept k cursor.Closed h = h
@@ -155,8 +155,8 @@ module _ (columns : TableKinds) where
       subst (λ (cs : List CursorState). HaveKept columns ds cs) (sym cursors) wanted
   performs ds (Err st) w b d a wanted has h = same ds b a has h.1
 
-  updates : (ds : List DeclaredCursor) (o : Outcome Content) (u : Updating) (b : State) (d : Done) (a : State) → HaveKept columns ds b.cursors → Performs o (walks_listed u b) b d a → HaveKept columns ds a.cursors
-  updates ds o u b d a has h = performs ds o (walks_listed u b) b d a (go_on_kept u.statement b.tables u.cursors ds b.cursors has) has h
+  updates : (ds : List DeclaredCursor) (o : Outcome Content) (u : Updating) (on : Option ℕ) (b : State) (d : Done) (a : State) → HaveKept columns ds b.cursors → Performs o (walks_listed u on b) b d a → HaveKept columns ds a.cursors
+  updates ds o u on b d a has h = performs ds o (walks_listed u on b) b d a (go_on_kept u.statement on b.tables u.cursors ds b.cursors has) has h
 
   deletes : (ds : List DeclaredCursor) (o : Outcome Content) (p : PositionedTarget) (b : State) (d : Done) (a : State) → HaveKept columns ds b.cursors → Performs o (left_row b p) b d a → HaveKept columns ds a.cursors
   deletes ds o p b d a has h =
@@ -164,7 +164,7 @@ module _ (columns : TableKinds) where
       (put_like ds b.cursors p.cursor (cursor_at b p.cursor) (off_row (cursor_at b p.cursor)) has refl (λ k is. off_kept k (cursor_at b p.cursor) is)) has h
 
   update_at : (ds : List DeclaredCursor) (r : Bool) (sc : Schemas) (u : Updating) (p : PositionedTarget) (vs : List Value) (b : State) (d : Done) (a : State) → HaveKept columns ds b.cursors → MayUpdateAt r sc u p vs b d a → HaveKept columns ds a.cursors
-  update_at ds true sc u p vs b d a has h = updates ds h.0 u b d a has h.2
+  update_at ds true sc u p vs b d a has h = updates ds h.0 u (on_row b p) b d a has h.2
   update_at ds false sc u p vs b d a has h = same ds b a has h.1
 
   delete_at : (ds : List DeclaredCursor) (r : Bool) (sc : Schemas) (caller : Caller) (p : PositionedTarget) (vs : List Value) (b : State) (d : Done) (a : State) → HaveKept columns ds b.cursors → MayDeleteAt r sc caller p vs b d a → HaveKept columns ds a.cursors
@@ -172,7 +172,7 @@ module _ (columns : TableKinds) where
   delete_at ds false sc caller p vs b d a has h = same ds b a has h.1
 
   of_update : (sc : Schemas) (ds : List DeclaredCursor) (u : Updating) (t : ChangeTarget) (vs : List Value) (b : State) (d : Done) (a : State) → HaveKept columns ds b.cursors → MayStep sc (update_kind u t) vs b d a → HaveKept columns ds a.cursors
-  of_update sc ds u (target.Searched t) vs b d a has h = updates ds h.0 u b d a has h.2
+  of_update sc ds u (target.Searched t) vs b d a has h = updates ds h.0 u None b d a has h.2
   of_update sc ds u (target.Positioned p) vs b d a has h = update_at ds (is_on_row b p) sc u p vs b d a has h
 
   of_delete : (sc : Schemas) (ds : List DeclaredCursor) (caller : Caller) (t : ChangeTarget) (vs : List Value) (b : State) (d : Done) (a : State) → HaveKept columns ds b.cursors → MayStep sc (delete_kind caller t) vs b d a → HaveKept columns ds a.cursors

@@ -1,5 +1,5 @@
 -- Each cursor goes over what the declared one does.
-use Rattle.std.proofs.Common.{if◌then◌else◌, ◌≡◌, ◌<◌, ℕ, zero, suc, Bool, true, false, List, [], ◌∷◌, length, get_or, replicate, slice_index_or, slice_set, refl, ap, subst, arith}
+use Rattle.std.proofs.Common.{if◌then◌else◌, ◌≡◌, ◌<◌, ℕ, zero, suc, Bool, true, false, List, [], ◌∷◌, length, get_or, replicate, slice_index_or, slice_set, Option, refl, ap, subst, arith}
 use Rattle.std.proofs.lemmas.Bool.{and_parts, eqb-true}
 use Rattle.sq_store.specs.Content.{Content}
 use Rattle.sq_bound.specs.Fits.{FitsBody, holds}
@@ -10,7 +10,7 @@ use Rattle.sq_module.specs.Program.{CursorsFit}
 use Rattle.sq_module.specs.declared.program.DeclaredCursor.{DeclaredCursor}
 use Rattle.sq_bound.specs.declared.statement.BoundUpdate.{BoundUpdate}
 use Rattle.sq_change.proofs.Changes.Held.{is_there}
-use Rattle.sq_session.specs.Cursors.{are_over, go_on, goes_on, is_over, is_over_numbers, is_over_table, is_updatable, listed, reads}
+use Rattle.sq_session.specs.Cursors.{are_over, go_on, goes_on, is_listed, is_over, is_over_numbers, is_over_table, is_updatable, listed}
 use Rattle.sq_session.specs.Kind.{Over, columns_at, columns_of, over_at, over_of}
 use Rattle.sq_session.specs.State.{all_closed, off_row}
 use Rattle.sq_session.specs.declared.cursor.CursorState.{CursorState}
@@ -142,19 +142,19 @@ listed_over : (o : Over) (tables : Content) (d : DeclaredCursor) (w : WalkingCur
 listed_over o tables d w true h = as_numbers o w.table h
 listed_over o tables d w false h = h
 
-goes_on_over : (u : BoundUpdate) (tables : Content) (o : Over) (d : DeclaredCursor) (c : CursorState) → is_over o c ≡ true → is_over o (goes_on u tables d c) ≡ true
-goes_on_over u tables o d cursor.Closed h = h
-goes_on_over u tables o d (cursor.Rows c) h = h
-goes_on_over u tables o d (cursor.Numbers c) h = h
-goes_on_over u tables o d (cursor.Walking c) h = listed_over o tables d c (reads u d c) h
+goes_on_over : (u : BoundUpdate) (on : Option ℕ) (tables : Content) (o : Over) (d : DeclaredCursor) (c : CursorState) → is_over o c ≡ true → is_over o (goes_on u on tables d c) ≡ true
+goes_on_over u on tables o d cursor.Closed h = h
+goes_on_over u on tables o d (cursor.Rows c) h = h
+goes_on_over u on tables o d (cursor.Numbers c) h = h
+goes_on_over u on tables o d (cursor.Walking c) h = listed_over o tables d c (is_listed u on d c) h
 
-pub go_on_over : (u : BoundUpdate) (tables : Content) (es ds : List DeclaredCursor) (cs : List CursorState) → are_over ds cs ≡ true → are_over ds (go_on u tables es cs) ≡ true
-go_on_over u tables [] ds cs h = h
-go_on_over u tables (e ∷ es) ds [] h = h
-go_on_over u tables (e ∷ es) [] (c ∷ cs) h = some_over c cs h
-go_on_over u tables (e ∷ es) (d ∷ ds) (c ∷ cs) h =
+pub go_on_over : (u : BoundUpdate) (on : Option ℕ) (tables : Content) (es ds : List DeclaredCursor) (cs : List CursorState) → are_over ds cs ≡ true → are_over ds (go_on u on tables es cs) ≡ true
+go_on_over u on tables [] ds cs h = h
+go_on_over u on tables (e ∷ es) ds [] h = h
+go_on_over u on tables (e ∷ es) [] (c ∷ cs) h = some_over c cs h
+go_on_over u on tables (e ∷ es) (d ∷ ds) (c ∷ cs) h =
     let k = first_over d ds c cs h in
-    next_over d ds (goes_on u tables e c) (go_on u tables es cs) (goes_on_over u tables (over_of d.cursor.body) e c k.0) (go_on_over u tables es ds cs k.1)
+    next_over d ds (goes_on u on tables e c) (go_on u on tables es cs) (goes_on_over u on tables (over_of d.cursor.body) e c k.0) (go_on_over u on tables es ds cs k.1)
 
 -- ---- the base table under an open cursor
 

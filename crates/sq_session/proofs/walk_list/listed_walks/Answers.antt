@@ -2,7 +2,7 @@
 use Rattle.std.proofs.Common.{◌≡◌, ◌<◌, ◌≤◌, ◌∙◌, ◌++◌, ◌∷◌, [], ap, arith, length, true, slice_index_or, subst, sym}
 use Rattle.sq_catalog.specs.Catalog.{column_kinds}
 use Rattle.sq_module.specs.declared.program.DeclaredCursor.{DeclaredCursor}
-use Rattle.sq_session.specs.Cursors.{HasKept, goes_on, is_over, listed, reads}
+use Rattle.sq_session.specs.Cursors.{HasKept, goes_on, is_listed, is_over, listed}
 use Rattle.sq_session.specs.Kind.{over_of}
 use Rattle.sq_session.specs.declared.cursor.CursorState.{CursorState}
 use Rattle.sq_session.specs.declared.cursor.CursorState.TheVariants as cursor
@@ -61,6 +61,7 @@ loop-number-preserved g c =
     let cursors = c.args.cursors.now in
     let tables = g.S.Store.content_now c.args.store.now in
     let u = c.args.statement.now in
+    let on = c.args.on in
     let number = c.loop-number.number in
     let there : number < length declared = omega (arith, as_many declared cursors c.requires.cursors, c.loop-number-test.true) in
     let so_far = c.loop-number.invariant in
@@ -68,27 +69,27 @@ loop-number-preserved g c =
       | in-Walking+in_ok-list+in-Some+in_ok-push-in-Some w ↦ (
           let d = slice_index_or declared number w.index-called-number.result in
           let walks : slice_index_or cursors number c.index-cursors-number.result ≡ cursor.Walking w.in-Walking.walk = sym c.index-cursors-number.is ∙ w.in-Walking.is in
-          let is = some_listed (reads u d w.in-Walking.walk) w.in-Some.list (listed d tables w.in-Walking.walk) (rw w.in-Some.is at w.in_ok-list.ensures) in
-          let goes : goes_on u tables d (slice_index_or cursors number c.index-cursors-number.result) ≡ cursor.Numbers w.in-Some.list =
-          ap (goes_on u tables d) walks ∙ goes_on_listed u tables d w.in-Walking.walk is.0 ∙ ap (λ l. cursor.Numbers l) (sym is.1) in
+          let is = some_listed (is_listed u on d w.in-Walking.walk) w.in-Some.list (listed d tables w.in-Walking.walk) (rw w.in-Some.is at w.in_ok-list.ensures) in
+          let goes : goes_on u on tables d (slice_index_or cursors number c.index-cursors-number.result) ≡ cursor.Numbers w.in-Some.list =
+          ap (goes_on u on tables d) walks ∙ goes_on_listed u on tables d w.in-Walking.walk is.0 ∙ ap (λ l. cursor.Numbers l) (sym is.1) in
           let one : ListedCursor = record { number = number; cursor = w.in-Some.list } in
           let pushed : w.push.new.self.items ≡ c.loop-number.lists.items ++ one ∷ [] = w.in_ok-push-in-Some.ensures.items in
           rw (w.lists-is, pushed) (
-            listed_next u tables declared cursors c.loop-number.lists.items number w.index-called-number.result c.index-cursors-number.result w.in-Some.list there goes so_far.0,
+            listed_next u on tables declared cursors c.loop-number.lists.items number w.index-called-number.result c.index-cursors-number.result w.in-Some.list there goes so_far.0,
             there_more (length cursors) c.loop-number.lists.items one so_far.1 c.loop-number-test.true,
           ))
       | in-Walking+in_ok-list+in-None w ↦ (
           let d = slice_index_or declared number w.index-called-number.result in
           let walks : slice_index_or cursors number c.index-cursors-number.result ≡ cursor.Walking w.in-Walking.walk = sym c.index-cursors-number.is ∙ w.in-Walking.is in
-          let not = none_listed (reads u d w.in-Walking.walk) (listed d tables w.in-Walking.walk) (rw w.in-None.is at w.in_ok-list.ensures) in
-          let stays : goes_on u tables d (slice_index_or cursors number c.index-cursors-number.result) ≡ slice_index_or cursors number c.index-cursors-number.result =
-          ap (goes_on u tables d) walks ∙ goes_on_walking u tables d w.in-Walking.walk not ∙ sym walks in
-          rw w.lists-is (same_next u tables declared cursors _ number w.index-called-number.result c.index-cursors-number.result there stays so_far.0, so_far.1))
+          let not = none_listed (is_listed u on d w.in-Walking.walk) (listed d tables w.in-Walking.walk) (rw w.in-None.is at w.in_ok-list.ensures) in
+          let stays : goes_on u on tables d (slice_index_or cursors number c.index-cursors-number.result) ≡ slice_index_or cursors number c.index-cursors-number.result =
+          ap (goes_on u on tables d) walks ∙ goes_on_walking u on tables d w.in-Walking.walk not ∙ sym walks in
+          rw w.lists-is (same_next u on tables declared cursors _ number w.index-called-number.result c.index-cursors-number.result there stays so_far.0, so_far.1))
       | in_default w ↦ (
           let here = c.index-cursors-number.is in
-          let idle : (d : DeclaredCursor) → goes_on u tables d (slice_index_or cursors number c.index-cursors-number.result) ≡ slice_index_or cursors number c.index-cursors-number.result =
-          λ d. ap (goes_on u tables d) (sym here) ∙ goes_on_same u tables d c.index-cursors-number.result w.in_default.not-Walking ∙ here in
-          rw w.lists-is (idle_next u tables declared cursors _ number c.index-cursors-number.result there idle so_far.0, so_far.1))
+          let idle : (d : DeclaredCursor) → goes_on u on tables d (slice_index_or cursors number c.index-cursors-number.result) ≡ slice_index_or cursors number c.index-cursors-number.result =
+          λ d. ap (goes_on u on tables d) (sym here) ∙ goes_on_same u on tables d c.index-cursors-number.result w.in_default.not-Walking ∙ here in
+          rw w.lists-is (idle_next u on tables declared cursors _ number c.index-cursors-number.result there idle so_far.0, so_far.1))
     ]
 
 pub returns-clause-lists : goal.returns-clause-lists
@@ -96,4 +97,4 @@ returns-clause-lists g c =
     let declared = c.args.called.now.cursors.now in
     let cursors = c.args.cursors.now in
     let enough : length declared ≤ c.loop-number.number = omega (arith, as_many declared cursors c.requires.cursors, c.loop-number-test.false) in
-    listed_all c.args.statement.now (g.S.Store.content_now c.args.store.now) declared cursors _ c.loop-number.number enough c.loop-number.invariant.0
+    listed_all c.args.statement.now c.args.on (g.S.Store.content_now c.args.store.now) declared cursors _ c.loop-number.number enough c.loop-number.invariant.0

@@ -79,9 +79,9 @@ returns-in-Ok-clause-step g c =
     let lists = rw c.as_slice.ensures.value at c.in_ok-lists.ensures.lists in
     let cursors = with_items_is c.self.inside.cursors c.put_lists.new.cursors (search (rules, places, put_as_many)) ∙ (c.put_lists.ensures
     ∙ (ap (λ (cs : List CursorState). put_all cs c.in_ok-lists.lists.items) c.as_mut_slice.ensures.value ∙ (lists
-    ∙ ap (λ (m : State). go_on c.args.statement.now m.tables called.cursors.now m.cursors) c.self.view_is))) in
+    ∙ ap (λ (m : State). go_on c.args.statement.now on m.tables called.cursors.now m.cursors) c.self.view_is))) in
     updates_done schemas values b _ u c.args.statement.now.target on c.successful.result c.in_ok-on.ensures.on (sym c.in_ok-on.ensures.ready) c.successful.ensures
-    (same_but_tables _ (walks_listed u b) (search rules) (search rules) (search rules) cursors)
+    (same_but_tables _ (walks_listed u on b) (search rules) (search rules) (search rules) cursors)
     (subst (λ (m : State). (shown : Shown) → IsShown (seen_in schemas caller values m.tables) shown
     → update_outcome shown (seen_in schemas caller values m.tables) schemas.bases c.args.statement.now on ≡ Ok content) c.self.view_is
     (λ shown is. meant shown is))
