@@ -9,7 +9,7 @@ use Rattle.sq_value.proofs.Truths.{alike, both_left, both_right}
 use Rattle.sq_value.specs.Comparison.{is_same}
 use Rattle.sq_value.specs.Key.{in_columns}
 use Rattle.sq_value.specs.declared.value.Value.{Value}
-use Rattle.sq_store.specs.Keys.{has_one_of}
+use Rattle.sq_store.specs.Found.{has_one_of}
 use Rattle.sq_store.specs.declared.table.Numbered.{Numbered}
 use Rattle.sq_heap.specs.Chain.{is_entry}
 use Rattle.sq_heap.specs.Index.{bucket_of, hash_of, is_in, named, names_key, slot_has_key, slots_hold}

@@ -2,8 +2,7 @@
 
 ghost use Rattle.std.specs.Prelude.{◌≡◌, ◌++◌, ℕ, filter, true, IfOk, OnOk};
 ghost use Rattle.std.specs.List.Sorted.{IsStrictlyIncreasing};
-ghost use Rattle.sq_store.specs.Found.{numbered_in};
-ghost use Rattle.sq_store.specs.Keys.{has_one_of};
+ghost use Rattle.sq_store.specs.Found.{has_one_of, numbered_in};
 ghost use Rattle.sq_heap.specs.Index.{bucket_of, is_in, slots_hold};
 ghost use Rattle.sq_heap.specs.Lookup.{has_place, place_named, places_named, places_of, places_with, row_under, rows_under};
 ghost use Rattle.sq_heap.specs.Slots.{rows_from, slot_at};

@@ -3,8 +3,8 @@
 ghost use Rattle.std.specs.Prelude.{◌≡◌, ◌<◌, ◌≤◌, ◌+◌, ◌-◌, ◌++◌, ◌^◌, [], ℕ, false, true, drop, is_some, length, slice_index_or, slice_set, take, vec_capacity, vec_len, IfOk, IfSome, MatchOption, None, Some, OnErr, OnOk};
 ghost use Rattle.std.specs.List.{list_all};
 ghost use Rattle.sq_store.specs.Content.{changed, changed_by, inserted, removed, replaced};
-ghost use Rattle.sq_store.specs.Found.{numbered_in};
-ghost use Rattle.sq_store.specs.Keys.{are_distinct, has_distinct_keys, have_keys, with_key, with_one_of};
+ghost use Rattle.sq_store.specs.Found.{numbered_in, with_one_of};
+ghost use Rattle.sq_store.specs.Keys.{are_distinct, has_distinct_keys, have_keys, with_key};
 ghost use Rattle.sq_heap.specs.Alone.{all_alone, slots_have};
 ghost use Rattle.sq_heap.specs.Entered.{change_holds, changes_hold};
 ghost use Rattle.sq_heap.specs.Index.{in_all, keys_of, slot_holds, slots_hold, undo_holds};

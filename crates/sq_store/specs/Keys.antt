@@ -1,6 +1,6 @@
 -- Unique keys: of each table, the columns of each of its keys (ISO/IEC 9075:1992, 4.10.2, 11.7). No two rows of a table
 -- have the same values in the columns of a key, the same being not distinct.
-use Rattle.std.specs.Prelude.{ℕ, nat_lt, Bool, true, false, ◌&&◌, not, List, [], ◌∷◌, length, Option, filter, find, map, slice_index_or, Vec}
+use Rattle.std.specs.Prelude.{ℕ, nat_lt, Bool, true, false, ◌&&◌, not, List, [], ◌∷◌, length, Option, find, map, slice_index_or, Vec}
 use Rattle.std.specs.List.{list_all, list_any}
 use Rattle.std.specs.declared.alloc.Global.{Global}
 use Rattle.std.specs.Cmp.Lexicographic.{pointwise}
@@ -24,14 +24,6 @@ has_key columns key r = pointwise is_same key (in_columns r.row columns)
 -- the row with a key
 abbrev pub with_key : Table → List ℕ → List Value → Option Numbered
 with_key t columns key = find (has_key columns key) t.rows
-
--- whether a row has one of several lists of values in some columns
-abbrev pub has_one_of : List ℕ → List (List Value) → Numbered → Bool
-has_one_of columns several r = list_any (λ values. has_key columns values r) several
-
--- the rows that have
-abbrev pub with_one_of : Table → List ℕ → List (List Value) → List Numbered
-with_one_of t columns several = filter (has_one_of columns several) t.rows
 
 -- no row has the key of a later one
 abbrev pub are_distinct : List ℕ → List Numbered → Bool

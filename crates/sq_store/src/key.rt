@@ -7,8 +7,8 @@ ghost use Rattle.std.specs.Option.{option_copied};
 ghost use Rattle.sq_value.specs.Comparison.{is_same};
 ghost use Rattle.sq_value.specs.Key.{in_columns};
 ghost use Rattle.sq_value.specs.declared.value.Value.TheVariants.{Null};
-ghost use Rattle.sq_store.specs.Found.{numbered_in};
-ghost use Rattle.sq_store.specs.Keys.{are_distinct, has_columns, has_key, has_one_of, have_keys};
+ghost use Rattle.sq_store.specs.Found.{has_one_of, numbered_in};
+ghost use Rattle.sq_store.specs.Keys.{are_distinct, has_columns, has_key, have_keys};
 
 use crate::table::Numbered;
 use sq_items::Items;

@@ -1,7 +1,8 @@
 //! Counting the rows that a store hands out.
 
 ghost use Rattle.std.specs.Prelude.{◌≡◌};
-ghost use Rattle.sq_store.specs.Meter.{counted, counted_more};
+ghost use Rattle.sq_store.specs.Meter.{counted};
+ghost use Rattle.sq_store.specs.Found.{counted_more};
 
 use std::marker::Model;
 

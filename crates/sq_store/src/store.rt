@@ -4,9 +4,9 @@ ghost use Rattle.std.specs.Prelude.{◌≡◌, ◌<◌, ◌≤◌, ◌+◌, ◌-
 ghost use Rattle.std.specs.List.{list_all};
 ghost use Rattle.sq_store.specs.Change.{insert_count, rows_put};
 ghost use Rattle.sq_store.specs.Content.{Content, changed_by, first_from, no_rows, row_at, table_at, with_table};
-ghost use Rattle.sq_store.specs.Found.{numbered_in};
-ghost use Rattle.sq_store.specs.Keys.{Keys, are_keyed, has_columns, has_distinct_keys, has_keys, key_at, keys_at, keys_of, with_key, with_one_of};
-ghost use Rattle.sq_store.specs.Meter.{counted, counted_found};
+ghost use Rattle.sq_store.specs.Found.{counted_found, numbered_in, with_one_of};
+ghost use Rattle.sq_store.specs.Keys.{Keys, are_keyed, has_columns, has_distinct_keys, has_keys, key_at, keys_at, keys_of, with_key};
+ghost use Rattle.sq_store.specs.Meter.{counted};
 ghost use Rattle.sq_store.specs.Rising.{all_rising};
 ghost use Rattle.sq_store.specs.declared.store.TheConstants.{MOST_ROW_NUMBERS};
 

@@ -1,7 +1,6 @@
 -- Left open for all_with: its result; answered by FoundRows.
 use Rattle.std.proofs.Common.{◌≡◌, ◌∙◌, ap, filter}
-use Rattle.sq_store.specs.Found.{numbered_in}
-use Rattle.sq_store.specs.Keys.{has_one_of}
+use Rattle.sq_store.specs.Found.{has_one_of, numbered_in}
 use Rattle.sq_heap.specs.Lookup.{has_place, rows_under}
 use Rattle.sq_heap.specs.Slots.{rows_from}
 use Rattle.sq_heap.proofs.FoundRows.{rows_found}

@@ -1,8 +1,7 @@
 -- Left open: the loop's invariant; answered by Filtered.
 use Rattle.std.proofs.Common.{◌∙◌, List, ap}
 use Rattle.sq_value.specs.declared.value.Value.{Value}
-use Rattle.sq_store.specs.Found.{numbered_in}
-use Rattle.sq_store.specs.Keys.{has_one_of}
+use Rattle.sq_store.specs.Found.{has_one_of, numbered_in}
 use Rattle.sq_store.proofs.Filtered.{filtered_on}
 use Rattle.sq_store.proofs.key.all_with.Goals as goal
 

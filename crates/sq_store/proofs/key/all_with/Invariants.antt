@@ -1,6 +1,5 @@
 use Rattle.std.proofs.Common.{◌≡◌, ◌++◌, drop, filter}
-use Rattle.sq_store.specs.Found.{numbered_in}
-use Rattle.sq_store.specs.Keys.{has_one_of}
+use Rattle.sq_store.specs.Found.{has_one_of, numbered_in}
 use Rattle.sq_store.proofs.key.all_with.Given as goal
 
 -- the rows so far, and then those that are left and have
