@@ -1,5 +1,4 @@
 -- A text means by its places what it means by its names.
-pub mod Agreement
 pub mod Bound
 pub mod ColumnKinds
 pub mod Conditions
