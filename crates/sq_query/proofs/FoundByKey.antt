@@ -1,4 +1,4 @@
--- A query has the rows that it has over the one row at most of each table of FROM that was found by a key.
+-- A query has the rows that it has over those rows of each table of FROM that were found by a key.
 pub mod AroundValues
 pub mod FoundRead
 pub mod FoundRows
@@ -8,7 +8,6 @@ pub mod ItemRows
 pub mod ItemSearch
 pub mod ItemValues
 pub mod LeftOut
-pub mod LineKeys
 pub mod LineValues
 pub mod RowTables
 pub mod Rows

@@ -32,9 +32,10 @@ use Rattle.sq_bound.specs.declared.names.BaseTable.{BaseTable}
 use Rattle.sq_expression.specs.Frame.{inputs_of, lent, scopes_beyond}
 use Rattle.sq_expression.specs.declared.table.BaseRows.{BaseRows}
 use Rattle.sq_query.specs.Around.{AreRowsAround, IsAround, IsStanding}
-use Rattle.sq_query.specs.Items.{IsLineAmong, IsRowAmong, items_of, over}
+use Rattle.sq_query.specs.Items.{items_of, over}
 use Rattle.sq_query.specs.Needed.{IsNeeded, NeedsMore, ReadsClause, ReadsCond, clause_tables, conds_tables}
 use Rattle.sq_query.specs.Row.{truth_on_row}
+use Rattle.sq_query.specs.Sought.{IsLineAmong, IsRowAmong}
 use Rattle.sq_query.specs.Table.{AreOfStore, rows_read}
 use Rattle.sq_query.specs.Union.{AreFitting}
 use Rattle.sq_query.specs.declared.around.Around.{Around}

@@ -1,23 +1,19 @@
 -- The key by which a condition names one row of a base table (ISO/IEC 9075:1992, 7.6, 13.7 and 13.10; own rule).
-use Rattle.std.specs.Prelude.{◌≡◌, ◌<◌, ℕ, length, slice_get, slice_index_or, take, true, false, List, [], ◌∷◌, Some, Ok}
-use Rattle.std.specs.List.{AllByRecursion, AllZip, Contains}
+use Rattle.std.specs.Prelude.{◌≡◌, ◌<◌, ℕ, length, take, true, false, List, [], ◌∷◌, Some, Ok}
+use Rattle.std.specs.List.{AllZip, Contains}
 use Rattle.sq_lex.specs.declared.name.Name.{Name}
 use Rattle.sq_value.specs.declared.domain.Kind.{Kind}
-use Rattle.sq_value.specs.Comparison.{is_same}
-use Rattle.sq_value.specs.declared.truth.Truth.TheVariants.{False}
 use Rattle.sq_value.specs.declared.value.Value.{Value}
-use Rattle.sq_value.specs.declared.value.Value.TheVariants.{Null}
 use Rattle.sq_value.specs.SetFunctions.{is_null}
 use Rattle.sq_store.specs.Content.{Content}
 use Rattle.sq_store.specs.Keys.{Keys, keys_at, key_at}
 use Rattle.sq_tree.specs.declared.cond.Comparison.TheVariants.{Equal}
-use Rattle.sq_meaning.specs.Status.{Outcome, well_formed}
+use Rattle.sq_meaning.specs.Status.{Outcome}
 use Rattle.sq_meaning.specs.Syntax.{column, compare}
 use Rattle.sq_meaning.specs.Environment.{Row}
 use Rattle.sq_meaning.specs.Expression as meaning
 use Rattle.sq_meaning.specs.Placed.{by_place}
-use Rattle.sq_meaning.specs.Query.{truth}
-use Rattle.sq_meaning.specs.WellFormed.{Has, HasValue, IsRowOf, IsDeclaredAt, WellFormedCond, kinds_by_place, of_lines}
+use Rattle.sq_meaning.specs.WellFormed.{HasValue, IsDeclaredAt, WellFormedCond, kinds_by_place, of_lines}
 use Rattle.sq_bound.specs.Condition.{PlacedCond, cond_of, test_of}
 use Rattle.sq_bound.specs.Expression.{expr_of}
 use Rattle.sq_bound.specs.Keyed.{names_key}
@@ -26,8 +22,10 @@ use Rattle.sq_bound.specs.declared.condition.BoundCond.{BoundCond, out-BoundCond
 use Rattle.sq_bound.specs.declared.condition.BoundConj.{BoundConj, out-BoundConj}
 use Rattle.sq_bound.specs.declared.condition.BoundTest.{BoundTest}
 use Rattle.sq_bound.specs.declared.condition.TablePlace.{TablePlace}
+use Rattle.sq_bound.specs.declared.condition.TablePlace.TheVariants.{Base}
 use Rattle.sq_bound.specs.declared.expression.BoundExpr.{BoundExpr}
 use Rattle.sq_bound.specs.declared.query.Target.{Target}
+use Rattle.sq_query.specs.Named.{IsFalseBut, IsNamedByOne, IsOneOf}
 use Rattle.sq_query.specs.Row.{outside}
 use Rattle.sq_query.specs.declared.key.KnownKey.{KnownKey}
 use Rattle.sq_query.specs.declared.key.KnownKeys.{KnownKeys}
@@ -94,49 +92,21 @@ Stands columns parameters t c =
 abbrev pub StandsOn : TableKinds → List Kind → TablePlace → BoundCond → Type 0
 StandsOn columns parameters t own = Stands columns parameters t (cond_of [] own)
 
--- a row has none of these values in a column, and not null
-pub record HasOther (row : Row) (n : ℕ) (vs : List Value) : Type 0 where
-  pub not_null : (x : Value) → well_formed (slice_get row n) ≡ Ok x → is_null x ≡ false
-  pub differs : AllByRecursion (λ v. is_same v (slice_index_or row n Null) ≡ false) vs
-
--- A condition names the rows of its table by values of a column: it is false of each row that has none of them there, and does not end
--- with a status on it, whatever tests stand behind.
-abbrev pub IsFalseBut : List Value → Name → PlacedCond → ℕ → List Value → Type 0
-IsFalseBut parameters user c n vs =
-    (tables : TablePlace → Outcome (List Row)) (columns : TableKinds) (kinds : List Kind) (t : TablePlace)
-    (row : Row)
-    → IsRowOf kinds parameters → Stands columns kinds t c → Has (λ ks. IsRowOf ks row) (columns t)
-    → HasOther row n vs → truth (by_place tables) c (outside (row ∷ []) parameters user) ≡ Ok False
-
--- by one value
-abbrev pub IsFalseUnless : List Value → Name → PlacedCond → ℕ → Value → Type 0
-IsFalseUnless parameters user c n v = IsFalseBut parameters user c n (v ∷ [])
-
--- a condition names rows by values of the only one of these columns
-abbrev pub IsNamedByOne : List Value → Name → PlacedCond → List ℕ → List Value → Type 0
-IsNamedByOne parameters user c columns vs =
-    (n : ℕ) × (columns ≡ n ∷ []) × IsFalseBut parameters user c n vs
-
--- an expression has this value, not null, whatever row there is
-abbrev pub IsKnown : List Value → Name → BoundExpr → Value → Type 0
-IsKnown parameters user e v =
-    ((tables : TablePlace → Outcome (List Row))
-    → meaning.value (by_place tables) (expr_of [] e) (outside [] parameters user) ≡ Ok v)
-    × (is_null v ≡ false)
-
 -- a key of the base table at a place by whose columns a condition on its rows names them, and the values of the columns
 pub record IsKeyOn (place : ℕ) (own : BoundCond) (content : Content) (keys : List Keys)
     (parameters : List Value) (user : Name) (known : KnownKey) : Type 0 where
   pub table : place < length content
   pub key : known.key < length (keys_at keys place)
-  pub named : AllZip (IsFalseUnless parameters user (cond_of [] own)) (key_at keys place known.key) known.values
+  pub named : AllZip (IsOneOf (IsFalseBut (Base place) parameters user (cond_of [] own)))
+      (key_at keys place known.key) known.values
 
 -- a key of one column of the base table at a place, by values of which a condition on its rows names them
 pub record AreKeysOn (place : ℕ) (own : BoundCond) (content : Content) (keys : List Keys)
     (parameters : List Value) (user : Name) (known : KnownKeys) : Type 0 where
   pub table : place < length content
   pub key : known.key < length (keys_at keys place)
-  pub named : IsNamedByOne parameters user (cond_of [] own) (key_at keys place known.key) known.values.items
+  pub named : IsNamedByOne (IsFalseBut (Base place) parameters user (cond_of [] own))
+      (key_at keys place known.key) known.values.items
 
 -- the key that is noted for a target: by it the target's own condition names a row
 pub record IsKeyOf (t : Target) (content : Content) (keys : List Keys) (parameters : List Value) (user : Name)

@@ -5,12 +5,14 @@ pub mod Key
 pub mod Keyed
 pub mod MayRead
 pub mod Meant
+pub mod Named
 pub mod Needed
 pub mod Order
 pub mod Row
 pub mod Search
 pub mod Several
 pub mod Shown
+pub mod Sought
 pub mod Table
 pub mod Target
 pub mod Union

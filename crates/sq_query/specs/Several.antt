@@ -34,6 +34,10 @@ abbrev pub rows_with : Content → List Keys → ℕ → KnownKeys → List Numb
 rows_with content keys place known =
     filter (has_one_of (key_at keys place known.key) known.values.items) (table_at content place).rows
 
+-- those, without their numbers
+abbrev pub rows_by_values : Content → List Keys → ℕ → KnownKeys → List Row
+rows_by_values content keys place known = map (λ r. r.row) (rows_with content keys place known)
+
 -- rows whose numbers rise, and one more at its place, unless a row with its number is there
 abbrev pub added : Numbered → List Numbered → List Numbered
 added r [] = r ∷ []

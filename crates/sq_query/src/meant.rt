@@ -21,7 +21,7 @@ ghost use Rattle.sq_query.specs.Target.{AreNumbersOf, AreRowsThere, HasTargetRow
 
 use crate::inputs::Inputs;
 use crate::key::{KnownKey, known_key};
-use crate::named::key_of_condition;
+use crate::named_keys::key_of_condition;
 use crate::several::rows_by_values;
 use crate::target::meets_target;
 use sq_bound::{Names, Target};

@@ -8,18 +8,21 @@ ghost use Rattle.sq_store.specs.Content.{table_at};
 ghost use Rattle.sq_store.specs.Keys.{has_key, key_at, keys_at};
 ghost use Rattle.sq_store.specs.declared.table.Numbered.{Numbered};
 ghost use Rattle.sq_bound.specs.Fits.{IsBase, keys_of_bases, not_nulls_hold};
+ghost use Rattle.sq_expression.specs.Frame.{lent};
 ghost use Rattle.sq_query.specs.Needed.{FindsConds};
-ghost use Rattle.sq_query.specs.Several.{AreKeysUnder, IsPlaceFor, added, rows_with};
+ghost use Rattle.sq_query.specs.Several.{AreKeysUnder, IsPlaceFor, added, rows_by_values, rows_with};
 ghost use Rattle.sq_query.specs.Table.{numbered_in, numbered_row};
 ghost use Rattle.sq_query.specs.Target.{HasTargetRows, conditions_of};
 
 use crate::key::{KnownKey, KnownKeys};
-use crate::named::{alone, keys_of_condition};
+use crate::named::alone;
+use crate::named_keys::keys_of_condition;
 use crate::scan::{rows_among, rows_by_scan};
 use sq_bound::{Names, Target};
-use sq_expression::{Context, Fault};
+use sq_expression::{BaseRows, Context, Fault};
 use sq_store::{Meter, Store};
 use sq_value::{Row, Value};
+use std::alloc::{AllocError, Global};
 
 /// The rows that a target means, where no key names one: those among the rows with one of several keys, if its condition names them so, or
 /// those among all rows.
@@ -70,6 +73,44 @@ fn keys_under<S: Store>(
     } else {
         Ok(None)
     }
+}
+
+/// The rows of a base table that have one of some keys, without their numbers.
+pub(crate) fn base_by_values<'a, S: Store>(
+    base: usize,
+    known: &KnownKeys,
+    store: &'a S,
+    call: &Context<'_>,
+    meter: &mut Meter,
+) -> Result<BaseRows<'a>, Fault>
+    requires table { base < length (S.content_now store.now) }
+    requires key { known.now.key < length (keys_at (S.key_columns store.now) base) }
+    ensures place { IfOk result (λ found. found.place ≡ base) }
+    ensures rows { IfOk result (λ found. lent found.rows.items
+        ≡ rows_by_values (S.content_now store.now) (S.key_columns store.now) base known.now) }
+    ensures memory { IfErr result (λ fault. fault ≡ Fault.NoMemory) }
+{
+    let numbered = rows_with(base, known, store, call, meter)?;
+    let rows = without_numbers(call.alloc, numbered.as_slice());
+    drop(numbered);
+    Ok(BaseRows {
+        place: base,
+        rows: rows?,
+    })
+}
+
+/// The rows without their numbers.
+fn without_numbers<'a>(
+    alloc: Global,
+    numbered: &[(u64, &'a Row)],
+) -> Result<Vec<&'a Row>, AllocError>
+    ensures { IfOk result (λ rows. rows.items ≡ map (λ (found : ℕ × Bor (List AnyValue)). found.1) numbered.now) }
+{
+    let mut rows = Vec::new(alloc);
+    for found in numbered {
+        rows.push(found.1)?;
+    }
+    Ok(rows)
 }
 
 /// The rows of a base table that have one of some keys, in the order of their numbers.

@@ -16,7 +16,8 @@ use Rattle.sq_expression.specs.Frame.{inputs_of, lent}
 use Rattle.sq_expression.specs.declared.fault.Fault.{Fault}
 use Rattle.sq_expression.specs.declared.table.BaseRows.{BaseRows}
 use Rattle.sq_expression.specs.declared.table.ViewRows.{ViewRows}
-use Rattle.sq_query.specs.Items.{found_of, is_found, is_left, over, rows_or}
+use Rattle.sq_query.specs.Items.{is_found, is_left, over, rows_or}
+use Rattle.sq_query.specs.Sought.{found_of}
 use Rattle.sq_query.specs.Needed.{AreKnown, IsNeeded, ReadsSelect}
 use Rattle.sq_query.specs.Search.{IsReadFor}
 use Rattle.sq_query.specs.Table.{ReadsAsMeant, rows_among, rows_read}

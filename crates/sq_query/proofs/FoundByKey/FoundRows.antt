@@ -1,5 +1,5 @@
--- A query specification has the rows that it has over the one row at most of each base table in its FROM clause that its WHERE clause names
--- by a key (ISO/IEC 9075:1992, 7.4 to 7.6).
+-- A query specification has the rows that it has over those rows of each base table in its FROM clause that its WHERE clause names by values
+-- of a key (ISO/IEC 9075:1992, 7.4 to 7.6).
 use Rattle.std.proofs.Common.{◌≡◌, ◌∙◌, ◌<◌, ◌⊎◌, inl, inr, ℕ, Bool, true, false, true≢false, List, [], ◌∷◌, cond, length, map, nat_eq, nat_lt, slice_get, slice_index_or, Option, Some, None, refl, sym, ap, subst, arith, Ok, Err}
 use Rattle.std.specs.Prelude.{IfSome, filter, if◌then◌else◌}
 use Rattle.std.specs.Cmp.Lexicographic.{pointwise}
@@ -8,23 +8,24 @@ use Rattle.std.proofs.lemmas.Bool.{eqb-true}
 use Rattle.sq_lex.specs.declared.name.Name.{Name}
 use Rattle.sq_value.specs.Comparison.{is_same}
 use Rattle.sq_value.specs.Key.{in_columns}
+use Rattle.sq_value.specs.SetFunctions.{is_null}
 use Rattle.sq_value.specs.declared.domain.Kind.{Kind}
 use Rattle.sq_value.specs.declared.value.Value.{Value}
 use Rattle.sq_value.specs.declared.value.Value.TheVariants.{Null}
 use Rattle.sq_store.specs.Content.{Content, table_at}
-use Rattle.sq_store.specs.Keys.{Keys, are_keyed, has_key, key_at}
+use Rattle.sq_store.specs.Keys.{Keys, are_keyed, has_key, key_at, keys_at}
 use Rattle.sq_store.specs.declared.table.Numbered.{Numbered}
 use Rattle.sq_store.specs.declared.table.Table.{Table}
 use Rattle.sq_meaning.specs.Environment.{Env, Line, Row, Scope, alone, within}
 use Rattle.sq_meaning.specs.Placed.{by_place}
 use Rattle.sq_meaning.specs.Query.{clause_truth, is_true, rows}
 use Rattle.sq_meaning.specs.Rows.{product}
-use Rattle.sq_meaning.specs.Status.{Outcome, and_then, not_well_formed}
+use Rattle.sq_meaning.specs.Status.{Outcome, and_then, not_well_formed, well_formed}
 use Rattle.sq_meaning.specs.Sure.{IsSureOutcome}
 use Rattle.sq_meaning.specs.Tables.{rows_in}
 use Rattle.sq_meaning.specs.WellFormed.{AreRowsOf, Answers, Fits, Has, HasValue, IsDeclaredAt, IsRowOf, WellFormedClause, WellFormedSelect, WellFormedTable, kinds_by_place, of_lines}
 use Rattle.sq_meaning.proofs.AnswerLaws.{all_true, all_weaker, fits_there}
-use Rattle.sq_bound.specs.Condition.{clause_of, select_of}
+use Rattle.sq_bound.specs.Condition.{clause_of, cond_of, select_of}
 use Rattle.sq_bound.specs.Fits.{has_its_values, keys_of_bases, not_nulls_hold}
 use Rattle.sq_bound.specs.Noted.{AreNotedTests, HasNotes, IsNoted, IsNotedTest, SelectIsNoted, may_fail}
 use Rattle.sq_bound.specs.WellFormed.{BasesAreThere, Levels, TableKinds}
@@ -42,13 +43,17 @@ use Rattle.sq_expression.specs.Frame.{inputs_of, lent, scopes_beyond}
 use Rattle.sq_expression.specs.declared.table.BaseRows.{BaseRows}
 use Rattle.sq_expression.proofs.Kept.{ok_same}
 use Rattle.sq_query.specs.Around.{AreRowsAround, IsAround, IsStanding, beneath}
-use Rattle.sq_query.specs.Items.{AreSureTests, IsByKey, IsKnownOn, IsLineAmong, IsNoneNeeded, IsReadOf, IsRowAmong, found_of, is_empty_item, items_of, over, rows_or}
+use Rattle.sq_query.specs.Items.{IsByKey, IsNamed, IsNoneNeeded, IsReadOf, is_empty_item, items_of, over, rows_or}
+use Rattle.sq_query.specs.Named.{AreTrusted, AreTrustedIn, HasOther, IsFalseOn, IsOneOf, IsTrusted, StandsOnLines}
 use Rattle.sq_query.specs.Needed.{IsNeeded, ReadsInside}
+use Rattle.sq_query.specs.Several.{has_one_of}
+use Rattle.sq_query.specs.Sought.{IsRowAmong, found_of}
 use Rattle.sq_query.specs.Table.{AreOfStore, stored_rows}
 use Rattle.sq_query.specs.Union.{AreFitting}
 use Rattle.sq_query.specs.declared.around.Around.{Around}
 use Rattle.sq_query.specs.declared.around.Standing.{Standing}
 use Rattle.sq_query.specs.declared.around.Standing.TheVariants.{OnNoLine}
+use Rattle.sq_query.specs.declared.named.Sure.TheVariants.{Noted}
 use Rattle.sq_query.specs.declared.needed.Needed.{Needed}
 use Rattle.sq_query.proofs.FoundByKey.ItemRows.{all_if, all_stay, contained, fewer_fit, filter_mapped, filter_nothing, filter_one, found_none, no_line_among, one_of_all, only_item, row_lacks, rows_mapped, same_over_lines, where_in, zip_at, zip_weaker}
 use Rattle.sq_query.proofs.Keys.KeyColumns.{key_not_null, key_value, rows_have_values}
@@ -56,8 +61,7 @@ use Rattle.sq_query.proofs.Keys.KeyLacked.{lacked}
 use Rattle.sq_query.proofs.Keys.KeyNames.{element_at}
 use Rattle.sq_query.proofs.Keys.KeyOut.{all_both}
 use Rattle.sq_query.proofs.Keys.KeyTests.{if_some}
-use Rattle.sq_query.proofs.Keys.EqualTests.{test_false}
-use Rattle.sq_query.proofs.FoundByKey.LineKeys.{part_false, where_false}
+use Rattle.sq_query.proofs.Keys.KeysSearch.{none_same, only_one}
 use Rattle.sq_query.proofs.Needs.NeededViews.{inside_weaker}
 use Rattle.sq_query.proofs.Keys.OnlyOne.{at_most_one, distinct_at}
 use Rattle.sq_query.proofs.FoundByKey.LeftOut.{kept_thinned, lines_are, stays}
@@ -116,10 +120,9 @@ module _ (bases : List BaseTable) (columns : TableKinds) (content : Content) (ke
   where_well : (now : TablePlace → Outcome (List Row)) → WellFormedClause (by_place now) (kinds_by_place columns parameters) (IsDeclaredAt parameters) (of_lines ts ∷ around) (where_in q)
   where_well now = (subst (WellFormedSelect (by_place now) (kinds_by_place columns parameters) (IsDeclaredAt parameters) around) (select_of-out q) (stands now)).2
 
-  tests_noted : (own : BoundCond) (term : BoundConj) → (out-BoundSpecification q).condition ≡ Some own → (out-BoundCond own).terms ≡ term ∷ [] → AllByRecursion IsNotedTest (out-BoundConj term).tests
-  tests_noted own term is only =
-      let notes : HasNotes own = if_some HasNotes (out-BoundSpecification q).condition own (select_itself IsNoted q notes).tests is in
-      (subst (AllByRecursion AreNotedTests) only notes).0
+  -- its tests are noted as they are
+  where_noted : (own : BoundCond) → (out-BoundSpecification q).condition ≡ Some own → HasNotes own
+  where_noted own is = if_some HasNotes (out-BoundSpecification q).condition own (select_itself IsNoted q notes).tests is
 
   over_sure : (found : List BaseRows) (t : TablePlace) → may_fail t ≡ false → IsSureOutcome (over found tables t)
   over_sure found (View n) h = absurd (true≢false h)
@@ -170,16 +173,21 @@ module _ (bases : List BaseTable) (columns : TableKinds) (content : Content) (ke
 
     -- ---- some rows of it are left out
 
-    abbrev has_key_of : IsByKey q r.item content keys found a values caller own → Row → Bool
-    has_key_of k row = pointwise is_same k.known.values (in_columns row (key_at keys place k.known.key))
+    abbrev IsFalse : BoundCond → ℕ → List Value → Type 0
+    IsFalse c = IsFalseOn r.item ts found a values caller (AreTrustedIn Noted c) (cond_of [] c)
 
-    few_by_key : (k : IsByKey q r.item content keys found a values caller own) → lent own.rows.items ≡ filter (has_key_of k) all_rows
-    few_by_key k =
-        k.are
+    abbrev has_named : (c : BoundCond) → IsNamed (IsFalse c) content keys own → Row → Bool
+    has_named c (inl k) row = pointwise is_same k.0.values (in_columns row (key_at keys place k.0.key))
+    has_named c (inr k) row = list_any (λ v. pointwise is_same (v ∷ []) (in_columns row (key_at keys place k.0.key))) k.0.values.items
+
+    few_named : (c : BoundCond) (k : IsNamed (IsFalse c) content keys own) → lent own.rows.items ≡ filter (has_named c k) all_rows
+    few_named c (inl k) =
+        k.1.are
         ∙ ap (map (λ (s : Numbered). s.row))
-        (sym (filter_one (has_key (key_at keys place k.known.key) k.known.values) (table_at content place).rows
-        (at_most_one (key_at keys place k.known.key) k.known.values (table_at content place).rows (distinct_at keys content place k.known.key keyed r.there k.named.key))))
-        ∙ sym (filter_mapped (λ (s : Numbered). s.row) (has_key_of k) (table_at content place).rows)
+        (sym (filter_one (has_key (key_at keys place k.0.key) k.0.values) (table_at content place).rows
+        (at_most_one (key_at keys place k.0.key) k.0.values (table_at content place).rows (distinct_at keys content place k.0.key keyed r.there k.1.named.key))))
+        ∙ sym (filter_mapped (λ (s : Numbered). s.row) (has_named c (inl k)) (table_at content place).rows)
+    few_named c (inr k) = k.1.are ∙ sym (filter_mapped (λ (s : Numbered). s.row) (has_named c (inr k)) (table_at content place).rows)
 
     few_none : IsNoneNeeded q found a own → lent own.rows.items ≡ filter (λ (row : Row). false) all_rows
     few_none n = n.none ∙ sym (filter_nothing all_rows)
@@ -209,7 +217,7 @@ module _ (bases : List BaseTable) (columns : TableKinds) (content : Content) (ke
     next_fits = by r.rows
       where
         by : IsByKey q r.item content keys found a values caller own ⊎ IsNoneNeeded q found a own → AreFitting columns next
-        by (inl k) = fewer (has_key_of k) (few_by_key k)
+        by (inl k) = fewer (has_named k.condition k.named) (few_named k.condition k.named)
         by (inr n) = fewer (λ row. false) (few_none n)
 
     -- what stands elsewhere is read as before
@@ -261,42 +269,49 @@ module _ (bases : List BaseTable) (columns : TableKinds) (content : Content) (ke
       -- ---- by a key
 
       module _ (k : IsByKey q r.item content keys found a values caller own) where
-        abbrev key_columns : List ℕ
-        key_columns = key_at keys place k.known.key
+        where_stands : StandsOnLines columns parameters around ts (cond_of [] k.condition)
+        where_stands f = subst (λ (c : Option BoundCond). WellFormedClause (by_place f) (kinds_by_place columns parameters) (IsDeclaredAt parameters) (of_lines ts ∷ around) (clause_of [] c)) k.is_where (where_well f)
 
-        no_tests : (tests : List BoundTest) (test : BoundTest) → tests ≡ [] → Contains tests test → ⊥
-        no_tests tests test none among = let within : among.0 < length tests = among.1 in let less : among.0 < 0 = subst (λ (l : List BoundTest). among.0 < length l) none within in omega (arith, less)
+        trusted : AreTrustedIn Noted k.condition columns now
+        trusted =
+            all_weaker AreNotedTests (λ term. AreTrusted Noted (out-BoundConj term).tests columns now)
+            (λ term noted. all_weaker IsNotedTest (λ test. IsTrusted Noted test columns now) (λ test h e. record { fitting = fitting; bases = over_sure found; sure = h.sure e [] tt }) (out-BoundConj term).tests noted)
+            (out-BoundCond k.condition).terms (where_noted k.condition k.is_where)
 
-        out_by_key : (line : Line) → AllZip IsIn ts line → (row : Row) → slice_get line r.item ≡ Some row → has_key_of k row ≡ false → wanted line ≡ Ok false
-        out_by_key line is row at_item lacks = by k.named.sure
-          where
-            f : (n : ℕ) × (v : Value) × Contains key_columns n × IsKnownOn q r.item k.named.tests found a values caller n v × (is_same v (slice_index_or row n Null) ≡ false)
-            f = lacked {R = IsKnownOn q r.item k.named.tests found a values caller} key_columns k.known.values row k.named.compared lacks
+        module _ (line : Line) (is : AllZip IsIn ts line) (row : Row) (at_item : slice_get line r.item ≡ Some row) where
+          has_values : has_its_values base.0 row ≡ true
+          has_values =
+              let there = zip_at IsIn ts line r.item (Base place) is r.at in
+              let e = there.2 in let same : there.0 ≡ row = cc in subst (λ (s : Row). has_its_values base.0 s ≡ true) same (there.1.2 refl)
 
-            fits : AllZip (λ t other. Has (λ ks. IsRowOf ks other) (columns t)) ts line
-            fits = zip_weaker IsIn (λ t other. Has (λ ks. IsRowOf ks other) (columns t)) (λ t other p. p.0) ts line is
+          not_null : (key : ℕ) → key < length (keys_at keys place) → (n : ℕ) (x : Value) → Contains (key_at keys place key) n → well_formed (slice_get row n) ≡ Ok x → is_null x ≡ false
+          not_null key within n x among cell = key_value base.0 (key_at keys place key) row (key_not_null bases keys place base.0 key keys_are base.1 within) has_values n x among cell
 
-            among : IsLineAmong found ts line
-            among = zip_weaker IsIn (IsRowAmong found) (λ t other p. p.1) ts line is
+          out_so : (n : ℕ) (vs : List Value) → IsFalse k.condition n vs → HasOther row n vs → wanted line ≡ Ok false
+          out_so n vs h other =
+              ap (λ (c : Option BoundCond). is_true (clause_truth (by_place now) (clause_of [] c) (beneath scopes line values caller))) k.is_where
+              ∙ ap is_true (h columns parameters around now scopes line row
+              (record {
+                given = given;
+                is_around = is_around;
+                rows_around = rows_around;
+                fits = zip_weaker IsIn (λ t other. Has (λ ks. IsRowOf ks other) (columns t)) (λ t other p. p.0) ts line is;
+                among = zip_weaker IsIn (IsRowAmong found) (λ t other p. p.1) ts line is;
+              }) where_stands trusted at_item other)
 
-            there : (other : Row) × IsIn (Base place) other × (slice_get line r.item ≡ Some other)
-            there = zip_at IsIn ts line r.item (Base place) is r.at
-
-            has_values : has_its_values base.0 row ≡ true
-            has_values = let e = there.2 in let same : there.0 ≡ row = cc in subst (λ (s : Row). has_its_values base.0 s ≡ true) same (there.1.2 refl)
-
-            by : (k.named.tests ≡ []) ⊎ AreSureTests q k.named.tests → wanted line ≡ Ok false
-            by (inl none) = absurd (no_tests k.named.tests f.3.test none f.3.among)
-            by (inr s) =
-                let here = beneath scopes line values caller in
-                let clause = subst (λ (c : Option BoundCond). WellFormedClause (by_place now) (kinds_by_place columns parameters) (IsDeclaredAt parameters) (of_lines ts ∷ around) (clause_of [] c)) s.is_where (where_well now) in
-                ap (λ (c : Option BoundCond). is_true (clause_truth (by_place now) (clause_of [] c) here)) s.is_where
-                ∙ where_false now columns parameters values caller given fitting (over_sure found) around scopes (rows_around now) ts line fits s.own s.term s.only_term clause (tests_noted s.own s.term s.is_where s.only_term) k.named.tests s.firsts f.3.test f.3.among
-                (part_false now columns parameters values caller given fitting (over_sure found) around scopes (rows_around now) ts line fits f.3.by_test.depth f.3.by_test.part f.3.test f.3.by_test.stands
-                (λ test_well answers.
-                test_false now columns parameters values caller given fitting around scopes (rows_around now) ts line fits r.item f.0 row at_item f.1 f.3.by_test.same.1
-                (λ x cell. key_value base.0 key_columns row (key_not_null bases keys place base.0 k.known.key keys_are base.1 k.named.key) has_values f.0 x f.2 cell) f.4
-                f.3.by_test.expr f.3.by_test.part f.3.by_test.is (f.3.by_test.same.0 now scopes line is_around among) test_well answers))
+          out_named : (named : IsNamed (IsFalse k.condition) content keys own) → has_named k.condition named row ≡ false → wanted line ≡ Ok false
+          out_named (inl (known, h)) lacks =
+              let f = lacked {R = IsOneOf (IsFalse k.condition)} (key_at keys place known.key) known.values row h.named.named lacks in
+              out_so f.0 (f.1 ∷ []) f.3 (record { not_null = λ x cell. not_null known.key h.named.key f.0 x f.2 cell; differs = (f.4, tt) })
+          out_named (inr (known, h)) lacks =
+              let n = h.named.named.0 in
+              let only = h.named.named.1 in
+              let own_row : Numbered = record { number = 0; row = row } in
+              out_so n known.values.items h.named.named.2
+              (record {
+                not_null = λ x cell. not_null known.key h.named.key n x (only_one (key_at keys place known.key) n only) cell;
+                differs = none_same n known.values.items own_row (ap (λ (ns : List ℕ). has_one_of ns known.values.items own_row) (sym only) ∙ lacks);
+              })
 
       -- ---- where there is no line
 
@@ -312,5 +327,5 @@ module _ (bases : List BaseTable) (columns : TableKinds) (content : Content) (ke
       one_more = by r.rows
         where
           by : IsByKey q r.item content keys found a values caller own ⊎ IsNoneNeeded q found a own → rows (by_place now) (select_of q) (env scopes) ≡ rows (by_place next) (select_of q) (env scopes)
-          by (inl k) = same_next (has_key_of k) (few_by_key k) (out_by_key k)
+          by (inl k) = same_next (has_named k.condition k.named) (few_named k.condition k.named) (λ line is row at_item. out_named k line is row at_item k.named)
           by (inr n) = same_next (λ row. false) (few_none n) (λ line is row at_item lacks. absurd (no_line n line is))

@@ -1,7 +1,8 @@
 -- Rows of base tables that were found one after another.
-use Rattle.std.proofs.Common.{◌≡◌, ◌∙◌, List, [], ◌∷◌, ◌++◌, Option, Some, None, refl, sym, ap, subst}
-use Rattle.std.specs.Prelude.{IfSome, option_to_list}
+use Rattle.std.proofs.Common.{◌≡◌, ◌∙◌, List, [], ◌∷◌, ◌++◌, Option, Some, None, Result, Vec, Global, refl, sym, ap, subst, Ok, Err}
+use Rattle.std.specs.Prelude.{IfOk, IfSome, option_to_list}
 use Rattle.std.proofs.lemmas.List.{append_assoc}
+use Rattle.sq_expression.specs.declared.fault.Fault.{Fault}
 use Rattle.sq_expression.specs.declared.table.BaseRows.{BaseRows}
 use Rattle.sq_query.specs.Items.{AreMore, Grows}
 
@@ -27,3 +28,7 @@ module _ (Step : List BaseRows → BaseRows → Type 0) where
     second.1 ∙ ap (λ (l : List BaseRows). second.0 ++ l) first.1 ∙ sym (append_assoc second.0 first.0 before),
     more_more before first.0 second.0 first.2 (subst (λ (l : List BaseRows). AreMore Step l second.0) first.1 second.2),
   )
+
+  pub grown_then : (before now : List BaseRows) → Grows Step before now → (r : Result (Vec BaseRows Global) Fault) → IfOk r (λ found. Grows Step now found.items) → IfOk r (λ found. Grows Step before found.items)
+  grown_then before now first (Err e) second = tt
+  grown_then before now first (Ok found) second = grown_more before now found.items first second

@@ -16,7 +16,8 @@ use Rattle.sq_expression.specs.Frame.{lent, scopes_beyond}
 use Rattle.sq_expression.specs.declared.table.BaseRows.{BaseRows}
 use Rattle.sq_query.specs.Around.{IsStanding}
 use Rattle.sq_query.specs.Inner.{AreOfOtherParts, AreOnlyRows, IsLineBeneath, IsOnlyRow}
-use Rattle.sq_query.specs.Items.{IsLineAmong, IsRowFound, found_of, is_empty_item, is_found, is_left, items_of}
+use Rattle.sq_query.specs.Items.{is_empty_item, is_found, is_left, items_of}
+use Rattle.sq_query.specs.Sought.{IsLineAmong, IsRowFound, found_of}
 use Rattle.sq_query.specs.Needed.{Adds, IsNeeded, NeedsMore, NeedsNone, ReadsCond, ReadsConds, conds_tables, places_in, with_table}
 use Rattle.sq_query.specs.declared.around.Around.{Around}
 use Rattle.sq_query.specs.declared.around.Standing.{Standing}

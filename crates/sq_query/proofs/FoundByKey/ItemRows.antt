@@ -23,7 +23,8 @@ use Rattle.sq_bound.specs.declared.condition.TablePlace.TheVariants.{Base, View}
 use Rattle.sq_bound.proofs.ConditionLaws.{select_of-out}
 use Rattle.sq_expression.specs.declared.table.BaseRows.{BaseRows}
 use Rattle.sq_expression.specs.Frame.{lent}
-use Rattle.sq_query.specs.Items.{IsLineAmong, IsOnce, IsRowAmong, found_of, is_empty_item, is_empty_of, is_found, is_of_base, items_of, over}
+use Rattle.sq_query.specs.Items.{IsOnce, is_empty_item, is_empty_of, is_found, is_of_base, items_of, over}
+use Rattle.sq_query.specs.Sought.{IsLineAmong, IsRowAmong, found_of}
 use Rattle.sq_query.specs.Needed.{ReadsInside}
 use Rattle.sq_query.proofs.Keys.OnlyOne.{AtMostOne}
 use Rattle.sq_query.proofs.Keys.KeySearch.{no_element}

@@ -31,7 +31,8 @@ use Rattle.sq_expression.specs.declared.fault.Fault.{Fault}
 use Rattle.sq_expression.specs.declared.table.BaseRows.{BaseRows}
 use Rattle.sq_query.specs.Around.{AreRowsAround, IsAround, IsStanding}
 use Rattle.sq_query.specs.Inner.{IsInStore, IsLineBeneath, ReadsAround, ServesCond, ServesLine, ServesSelect, StandsSelect, around_tables}
-use Rattle.sq_query.specs.Items.{AreMore, Grows, IsLineAmong, IsReadOf, IsRowAmong, items_of, over}
+use Rattle.sq_query.specs.Items.{AreMore, Grows, IsReadOf, items_of, over}
+use Rattle.sq_query.specs.Sought.{IsLineAmong, IsRowAmong}
 use Rattle.sq_query.specs.Needed.{Adds, IsNeeded, ReadsClause, inside_tables}
 use Rattle.sq_query.specs.Search.{IsWhere}
 use Rattle.sq_query.specs.Union.{AreFitting}

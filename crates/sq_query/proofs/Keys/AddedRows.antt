@@ -3,7 +3,7 @@ use Rattle.std.proofs.Common.{◌≡◌, ◌∙◌, ℕ, zero, suc, ◌+◌, ◌
 use Rattle.std.specs.Prelude.{IfOk, filter, if◌then◌else◌, nat_lt}
 use Rattle.std.specs.List.{AllByRecursion, insert, list_any}
 use Rattle.std.proofs.lemmas.Bool.{eq-eqb, le-ltb, lt-ltb, ne_eqb}
-use Rattle.std.proofs.lemmas.List.{take_more}
+use Rattle.std.proofs.lemmas.List.{map-append, take_more}
 use Rattle.std.proofs.lemmas.List.Folds.{list_any-append}
 use Rattle.sq_value.specs.declared.value.Value.{Value}
 use Rattle.sq_store.specs.Keys.{has_key}
@@ -12,6 +12,7 @@ use Rattle.sq_store.specs.declared.table.Numbered.{Numbered}
 use Rattle.sq_meaning.specs.Environment.{Row}
 use Rattle.sq_bound.proofs.QuietTruths.{both_right}
 use Rattle.sq_condition.proofs.Conditions.{neither_left, neither_right}
+use Rattle.sq_expression.specs.Frame.{lent}
 use Rattle.sq_query.specs.Several.{added, has_one_of}
 use Rattle.sq_query.specs.Table.{numbered_row}
 use Rattle.sq_query.proofs.Targets.NumbersThere.{all_from}
@@ -150,3 +151,18 @@ pub put_there : {E : Type 0} (done : Result (Unit {0}) E) (r : ℕ × Bor Row) (
 put_there (Err e) r place old seen_then new put same is = tt
 put_there (Ok d) r place old seen_then new put same is =
     ap (map numbered_row) put ∙ subst (λ (l : List (ℕ × Bor Row)). map numbered_row (insert l place r) ≡ added (numbered_row r) (map numbered_row l)) same is
+
+-- ---- without their numbers
+
+pub unnumbered : (xs : List (ℕ × Bor Row)) (i : ℕ) (x : ℕ × Bor Row) (rows next : List (Bor Row)) → i < length xs → x ≡ slice_index_or xs i x → next ≡ rows ++ x.1 ∷ [] → rows ≡ map (λ (y : ℕ × Bor Row). y.1) (take i xs) → next ≡ map (λ (y : ℕ × Bor Row). y.1) (take (i + 1) xs)
+unnumbered xs i x rows next within at grown so_far =
+    let row_in : ℕ × Bor Row → Bor Row = λ y. y.1 in
+    grown ∙ ap (λ (l : List (Bor Row)). l ++ x.1 ∷ []) so_far
+    ∙ sym (ap (map row_in) (take_more xs i x within ∙ ap (λ (y : ℕ × Bor Row). take i xs ++ y ∷ []) (sym at)) ∙ map-append row_in (take i xs) (x ∷ []))
+
+lent_rows : (xs : List (ℕ × Bor Row)) → lent (map (λ (y : ℕ × Bor Row). y.1) xs) ≡ map (λ (r : Numbered). r.row) (map numbered_row xs)
+lent_rows [] = refl
+lent_rows (x ∷ xs) = ap (λ (l : List Row). x.1.now ∷ l) (lent_rows xs)
+
+pub rows_without : (found : List Numbered) (xs ys : List (ℕ × Bor Row)) (rows : List (Bor Row)) → map numbered_row xs ≡ found → ys ≡ xs → rows ≡ map (λ (y : ℕ × Bor Row). y.1) ys → lent rows ≡ map (λ (r : Numbered). r.row) found
+rows_without found xs ys rows are same is = ap lent is ∙ lent_rows ys ∙ ap (λ (l : List (ℕ × Bor Row)). map (λ (r : Numbered). r.row) (map numbered_row l)) same ∙ ap (map (λ (r : Numbered). r.row)) are

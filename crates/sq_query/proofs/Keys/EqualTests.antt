@@ -37,7 +37,7 @@ use Rattle.sq_bound.proofs.ColumnTests.{compared}
 use Rattle.sq_bound.proofs.ConditionLaws.{predicate_of-Bracketed, test_of-out}
 use Rattle.sq_expression.specs.Frame.{inputs_of}
 use Rattle.sq_query.specs.Around.{beneath}
-use Rattle.sq_query.specs.Items.{IsBracketed, IsEqualTo}
+use Rattle.sq_query.specs.Named.{IsBracketed, IsEqualTo}
 use Rattle.sq_query.specs.Union.{AreFitting}
 use Rattle.sq_query.proofs.Keys.KeyLacked.{outcomes_differ}
 use Rattle.sq_query.proofs.Keys.KeyTests.{in_row}

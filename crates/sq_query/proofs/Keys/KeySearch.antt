@@ -83,7 +83,7 @@ module _ (tables : TablePlace → Outcome (List Row)) (columns : TableKinds) (pa
   left_out : (row : Row) → IsRowOf (base_kinds b) row → has_its_values b row ≡ true → pointwise is_same known.values (in_columns row own_columns) ≡ false
       → is_true (truth (by_place tables) (cond_of [] own) (outside (row ∷ []) values caller)) ≡ Ok false
   left_out row is_row has_values lacks =
-      ap is_true (false_without values caller (cond_of [] own) own_columns known.values k.named tables columns parameters (Base place) row given stands (subst (Has (λ ks. IsRowOf ks row)) (sym kinds_are) is_row)
+      ap is_true (false_without values caller (Base place) (cond_of [] own) own_columns known.values k.named tables columns parameters row given stands (subst (Has (λ ks. IsRowOf ks row)) (sym kinds_are) is_row)
       (key_value b own_columns row (key_not_null bases keys place b known.key keys_are at k.key) has_values) lacks)
 
   -- ---- over all rows

@@ -1,15 +1,30 @@
 -- The keys of a base table by which a condition on its rows names them.
-use Rattle.std.proofs.Common.{◌≡◌, ◌∙◌, ℕ, ◌<◌, List, length, Option, Some, None, Result, sym, ap, subst, Ok, Err}
-use Rattle.std.specs.Prelude.{IfOk, IfSome}
+use Rattle.std.proofs.Common.{◌≡◌, ◌∙◌, ℕ, ◌<◌, List, [], ◌∷◌, length, Option, Some, None, Result, sym, ap, subst, Ok, Err}
+use Rattle.std.specs.Prelude.{⊤, IfOk, IfSome}
+use Rattle.std.specs.List.{AllZip}
 use Rattle.sq_lex.specs.declared.name.Name.{Name}
 use Rattle.sq_value.specs.declared.value.Value.{Value}
 use Rattle.sq_store.specs.Content.{Content}
 use Rattle.sq_store.specs.Keys.{Keys, key_at, keys_at}
+use Rattle.sq_meaning.specs.Environment.{Row}
+use Rattle.sq_meaning.specs.Status.{Outcome}
+use Rattle.sq_bound.specs.Condition.{cond_of}
+use Rattle.sq_bound.specs.WellFormed.{TableKinds}
 use Rattle.sq_bound.specs.declared.condition.BoundCond.{BoundCond}
+use Rattle.sq_bound.specs.declared.condition.TablePlace.{TablePlace}
+use Rattle.sq_bound.specs.declared.condition.TablePlace.TheVariants.{Base}
 use Rattle.sq_expression.specs.declared.fault.Fault.{Fault}
-use Rattle.sq_query.specs.Key.{IsKeyOn, IsNamedBy}
+use Rattle.sq_expression.specs.declared.table.BaseRows.{BaseRows}
+use Rattle.sq_query.specs.Key.{AreKeysOn, IsKeyOn, IsNamedBy}
+use Rattle.sq_query.specs.Named.{AreKeysBy, IsFalseBut, IsFalseOf, IsFalseOn, IsKeyBy, IsOneOf}
+use Rattle.sq_query.specs.Sought.{IsOfRow, nothing_around}
+use Rattle.sq_query.specs.declared.around.Around.{Around}
 use Rattle.sq_query.specs.declared.key.KnownKey.{KnownKey}
-use Rattle.sq_query.proofs.Keys.KeyOut.{named_so}
+use Rattle.sq_query.specs.declared.key.KnownKeys.{KnownKeys}
+use Rattle.sq_query.specs.declared.named.Sure.TheVariants.{Unnoted}
+use Rattle.sq_query.specs.declared.sought.Sought.{Sought}
+use Rattle.sq_query.proofs.Keys.KeyOut.{named_so, zip_weaker}
+use Rattle.sq_query.proofs.Keys.NamedRows.{none_trusted_in}
 
 -- a condition that names a row by the columns of a key does so by a key of the base table
 pub key_on : (place : ℕ) (own : BoundCond) (content : Content) (keys : List Keys) (parameters : List Value) (user : Name) (key : ℕ) (columns : List ℕ) (r : Result (Option KnownKey) Fault) → place < length content
@@ -22,7 +37,43 @@ key_on place own content keys parameters user key columns (Ok (Some known)) ther
   record {
     table = there;
     key = subst (λ (k : ℕ). k < length (keys_at keys place)) (sym h.0) within;
-    named = named_so parameters user own (key_at keys place known.key) known.values
+    named = named_so parameters user (Base place) own (key_at keys place known.key) known.values
         (subst (λ (cs : List ℕ). IsNamedBy cs own parameters user known.values) (are ∙ ap (key_at keys place) (sym h.0)) h.1);
   },
 )
+
+-- a key of a base table whose columns are these
+pub key_named : (IsFalse : ℕ → List Value → Type 0) (keys : List Keys) (place key : ℕ) (columns : List ℕ) (o : Option KnownKey) → key < length (keys_at keys place) → columns ≡ key_at keys place key → IfSome o (λ known. (known.key ≡ key) × AllZip (IsOneOf IsFalse) columns known.values)
+    → IfSome o (IsKeyBy IsFalse keys place)
+key_named IsFalse keys place key columns None within are h = tt
+key_named IsFalse keys place key columns (Some known) within are h = record {
+  key = subst (λ (k : ℕ). k < length (keys_at keys place)) (sym h.0) within;
+  named = subst (λ (cs : List ℕ). AllZip (IsOneOf IsFalse) cs known.values) (are ∙ ap (key_at keys place) (sym h.0)) h.1;
+}
+
+-- a condition that names rows of a table alone, of which nothing is known
+module _ (place : ℕ) (own : BoundCond) (content : Content) (keys : List Keys) (parameters : List Value) (user : Name) (s : Sought) (is : IsOfRow (Base place ∷ []) s) (there : place < length content) where
+  abbrev Known : TableKinds → (TablePlace → Outcome (List Row)) → Type 0
+  Known columns tables = ⊤
+
+  row_false : (n : ℕ) (vs : List Value) → IsFalseOf s Unnoted parameters user own n vs → IsFalseBut (Base place) parameters user (cond_of [] own) n vs
+  row_false n vs h =
+      subst (λ (item : ℕ). IsFalseOn item (Base place ∷ []) [] nothing_around parameters user Known (cond_of [] own) n vs) is.item
+      (subst (λ (ts : List TablePlace). IsFalseOn s.item ts [] nothing_around parameters user Known (cond_of [] own) n vs) is.tables_are
+      (subst (λ (found : List BaseRows). IsFalseOn s.item s.tables.now found nothing_around parameters user Known (cond_of [] own) n vs) is.none
+      (subst (λ (a : Around). IsFalseOn s.item s.tables.now s.found.now a parameters user Known (cond_of [] own) n vs) is.outside
+      (λ columns kinds levels tables scopes line row on stands known at other. h columns kinds levels tables scopes line row on stands (none_trusted_in own columns tables) at other))))
+
+  pub key_of_row : (r : Result (Option KnownKey) Fault) → IfOk r (λ found. IfSome found (IsKeyBy (IsFalseOf s Unnoted parameters user own) keys place)) → IfOk r (λ found. IfSome found (IsKeyOn place own content keys parameters user))
+  key_of_row (Err e) h = tt
+  key_of_row (Ok None) h = tt
+  key_of_row (Ok (Some known)) h = record {
+    table = there;
+    key = h.key;
+    named = zip_weaker (IsOneOf (IsFalseOf s Unnoted parameters user own)) (IsOneOf (IsFalseBut (Base place) parameters user (cond_of [] own))) (λ n v f. row_false n (v ∷ []) f) (key_at keys place known.key) known.values h.named;
+  }
+
+  pub keys_of_row : (r : Result (Option KnownKeys) Fault) → IfOk r (λ found. IfSome found (AreKeysBy (IsFalseOf s Unnoted parameters user own) keys place)) → IfOk r (λ found. IfSome found (AreKeysOn place own content keys parameters user))
+  keys_of_row (Err e) h = tt
+  keys_of_row (Ok None) h = tt
+  keys_of_row (Ok (Some known)) h = record { table = there; key = h.key; named = (h.named.0, h.named.1, row_false h.named.0 known.values.items h.named.2) }

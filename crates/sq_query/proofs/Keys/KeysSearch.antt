@@ -36,7 +36,7 @@ use Rattle.sq_query.specs.Target.{and_own, chosen, conditions_of, is_true_of, ro
 use Rattle.sq_query.specs.declared.key.KnownKeys.{KnownKeys}
 use Rattle.sq_query.proofs.Keys.KeyColumns.{key_not_null, key_value, rows_have_values}
 use Rattle.sq_query.proofs.Keys.KeyNames.{base_under}
-use Rattle.sq_query.proofs.Keys.KeyOut.{all_both}
+use Rattle.sq_query.proofs.Keys.KeyOut.{all_both, on_row}
 use Rattle.sq_query.proofs.Keys.KeyedRows.{there_so}
 use Rattle.sq_query.proofs.FoundByKey.LeftOut.{kept_filtered}
 use Rattle.sq_query.proofs.Targets.TargetKeys.{own_on_base}
@@ -89,14 +89,14 @@ and_so : (b : Bool) → (b && true) ≡ false → b ≡ false
 and_so true h = cc
 and_so false h = refl
 
-none_same : (n : ℕ) (values : List Value) (r : Numbered) → has_one_of (n ∷ []) values r ≡ false → AllByRecursion (λ v. is_same v (slice_index_or r.row n Null) ≡ false) values
+pub none_same : (n : ℕ) (values : List Value) (r : Numbered) → has_one_of (n ∷ []) values r ≡ false → AllByRecursion (λ v. is_same v (slice_index_or r.row n Null) ≡ false) values
 none_same n [] r none = tt
 none_same n (v ∷ values) r none = (
   and_so (is_same v (slice_index_or r.row n Null)) (neither_left (has_key (n ∷ []) (v ∷ []) r) (has_one_of (n ∷ []) values r) none),
   none_same n values r (neither_right (has_key (n ∷ []) (v ∷ []) r) (has_one_of (n ∷ []) values r) none),
 )
 
-only_one : (columns : List ℕ) (n : ℕ) → columns ≡ n ∷ [] → Contains columns n
+pub only_one : (columns : List ℕ) (n : ℕ) → columns ≡ n ∷ [] → Contains columns n
 only_one columns n is = subst (λ (ns : List ℕ). Contains ns n) (sym is) (0, omega arith, refl)
 
 -- ---- the rows that a target means
@@ -121,7 +121,7 @@ module _ (tables : TablePlace → Outcome (List Row)) (columns : TableKinds) (pa
   row_out r is_row has_values none =
       let n = k.on.named.0 in
       let only = k.on.named.1 in
-      ap is_true (k.on.named.2 tables columns parameters (Base t.base) r.row given (own_on_base columns parameters t k.own well k.is_own) (subst (Has (λ ks. IsRowOf ks r.row)) (sym kinds_are) is_row)
+      ap is_true (on_row values caller (Base t.base) (cond_of [] k.own) n known.values.items k.on.named.2 tables columns parameters r.row given (own_on_base columns parameters t k.own well k.is_own) (subst (Has (λ ks. IsRowOf ks r.row)) (sym kinds_are) is_row)
       (record {
         not_null = λ x there. key_value t.leaf.table key_columns r.row (key_not_null bases keys t.base t.leaf.table known.key keys_are (base_under bases keys t base keys_are) k.on.key) has_values n x (only_one key_columns n only) there;
         differs = none_same n known.values.items r (ap (λ (ns : List ℕ). has_one_of ns known.values.items r) (sym only) ∙ none);

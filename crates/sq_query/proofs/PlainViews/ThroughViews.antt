@@ -194,7 +194,7 @@ module _ (tables : TablePlace → Outcome (List Row)) (columns : TableKinds) (ca
         let cells = in_columns row shown in
         let known_there = null_in_none shown row (neither_right (pointwise is_same wanted cells) (list_any is_null cells) lacks) in
         ap is_true
-        (false_without values caller (cond_of [] own) shown wanted (named_so values caller own shown wanted named) tables columns parameters first row given stands fits
+        (false_without values caller first (cond_of [] own) shown wanted (named_so values caller first own shown wanted named) tables columns parameters row given stands fits
         (λ n x among found. subst (λ (v : Value). is_null v ≡ false) (in_row row n x found) (known_there n among))
         (neither_left (pointwise is_same wanted cells) (list_any is_null cells) lacks))
 

@@ -4,4 +4,4 @@ use Rattle.sq_query.proofs.named.value_by_equality.Goals as goal
 
 pub returns-in-Some-clause-named : goal.returns-in-Some-clause-named
 returns-in-Some-clause-named c =
-    equal_found c.args.call.now.parameters.now c.args.call.now.user c.in-Some.expr.now c.args.column c.args.test.now c.value_on_each_row.result c.in-Some.ensures c.value_on_each_row.ensures.known
+    equal_found c.args.sought.now c.args.call.now.parameters.now c.args.call.now.user c.in-Some.expr.now c.args.column c.args.test.now c.value_on_lines.result c.in-Some.ensures c.value_on_lines.ensures.known
