@@ -17,25 +17,28 @@ use Rattle.sq_expression.specs.declared.context.Context.{Context}
 use Rattle.sq_expression.specs.declared.frame.Frame.{Frame}
 use Rattle.sq_ending.specs.Walk.{IsFirstItem}
 
--- an expression on a line, as a frame sees it
-pub value_seen : (frame : Frame) (context : Context) (line : Line) → scopes_of frame ≡ alone [] line ∷ [] → group_values frame ≡ [] → (e : BoundExpr)
-    → value (reading context) (expr_of [] e) (line_env line None context) ≡ value (reading context) (on_line frame e) (env_of frame context)
-value_seen frame context line scopes functions e =
+-- an expression on a line, as a frame sees it, where the set functions have these values
+pub value_seen : (frame : Frame) (context : Context) (line : Line) (values : List Value) → scopes_of frame ≡ alone [] line ∷ [] → group_values frame ≡ values → (e : BoundExpr)
+    → value (reading context) (expr_of (map literal values) e) (line_env line None context) ≡ value (reading context) (on_line frame e) (env_of frame context)
+value_seen frame context line values scopes functions e =
     let f = sym functions in
     let s = sym scopes in
     (λ i. value (reading context) (expr_of (map literal (f i)) e) (record { scopes = s i; inputs = inputs_of context.parameters.now; user = context.user }))
 
-module _ (value_of : BoundExpr → Outcome Value) (list : List BoundExpr) (i : ℕ) (x : BoundExpr) (within : i < length list) (is : x ≡ get_or list i x) (before : List Value) (fine : each value_of (take i list) ≡ Ok before) where
-  pub item_more : (v : Value) → value_of x ≡ Ok v → (values : List Value) × (each value_of (take (i + 1) list) ≡ Ok values)
-  item_more v has = (
-    before ++ v ∷ [],
-    ap (each value_of) (take_more list i x within ∙ ap (λ (y : BoundExpr). take i list ++ y ∷ []) (sym is))
-        ∙ each-append value_of (take i list) (x ∷ [])
-        ∙ (λ j. both_lists (fine j) (and_then (has j) (λ y. Ok (y ∷ [])))),
-  )
+-- the outcomes along a list, up to an element
+module _ {A B : Type 0} (of : A → Outcome B) (list : List A) (i : ℕ) (x : A) (within : i < length list) (is : x ≡ get_or list i x) (before : List B) (fine : each of (take i list) ≡ Ok before) where
+  pub each_more : (y : B) → of x ≡ Ok y → each of (take (i + 1) list) ≡ Ok (before ++ y ∷ [])
+  each_more y has =
+      ap (each of) (take_more list i x within ∙ ap (λ (z : A). take i list ++ z ∷ []) (sym is))
+      ∙ each-append of (take i list) (x ∷ [])
+      ∙ (λ j. both_lists (fine j) (and_then (has j) (λ z. Ok (z ∷ []))))
 
-  pub item_ends : (status : Status) → value_of x ≡ Err status → IsFirstItem value_of list i status
-  item_ends status ends = record { item = x; at = slice_get_read list (length list) i x refl within is; ends = ends; before = before; fine = fine }
+  pub item_more : (y : B) → of x ≡ Ok y → (ys : List B) × (each of (take (i + 1) list) ≡ Ok ys)
+  item_more y has = (before ++ y ∷ [], each_more y has)
 
-pub items_fine : (value_of : BoundExpr → Outcome Value) (list : List BoundExpr) (i : ℕ) → length list ≤ i → (before : List Value) × (each value_of (take i list) ≡ Ok before) → (before : List Value) × (each value_of list ≡ Ok before)
-items_fine value_of list i past = subst (λ (es : List BoundExpr). (before : List Value) × (each value_of es ≡ Ok before)) (take_all i list past)
+pub item_ends : {A : Type 0} (of : A → Outcome Value) (list : List A) (i : ℕ) (x : A) → i < length list → x ≡ get_or list i x → (before : List Value) → each of (take i list) ≡ Ok before → (status : Status) → of x ≡ Err status
+    → IsFirstItem of list i status
+item_ends of list i x within is before fine status ends = record { item = x; at = slice_get_read list (length list) i x refl within is; ends = ends; before = before; fine = fine }
+
+pub items_fine : {A B : Type 0} (of : A → Outcome B) (list : List A) (i : ℕ) → length list ≤ i → (before : List B) × (each of (take i list) ≡ Ok before) → (before : List B) × (each of list ≡ Ok before)
+items_fine {A} {B} of list i past = subst (λ (es : List A). (before : List B) × (each of es ≡ Ok before)) (take_all i list past)

@@ -1,27 +1,21 @@
 -- The phases of a query specification, in each of which a line may end.
-use Rattle.std.proofs.Common.{◌≡◌, ℕ, zero, suc, Bool, true, List, [], ◌∷◌, ◌++◌, Option, Some, None, Result, sym, ◌∙◌, ap, subst, Ok, Err}
-use Rattle.std.specs.Prelude.{if◌then◌else◌, IfOk, IfSome, IsSomeAnd}
-use Rattle.std.proofs.lemmas.Option.{same_Some}
+use Rattle.std.proofs.Common.{◌≡◌, ℕ, Bool, true, List, [], ◌∷◌, ◌++◌, Option, Some, None, Result, sym, ◌∙◌, ap, subst, Ok, Err}
+use Rattle.std.specs.Prelude.{if◌then◌else◌, IfOk}
 use Rattle.std.specs.declared.alloc.AllocError.{AllocError}
-use Rattle.sq_value.specs.declared.value.Value.{Value}
 use Rattle.sq_meaning.specs.Environment.{Row, Line}
 use Rattle.sq_meaning.specs.Rows.{product}
 use Rattle.sq_meaning.specs.Status.{Outcome, and_then, kept}
 use Rattle.sq_meaning.specs.declared.status.Status.{Status}
 use Rattle.sq_meaning.proofs.OutcomeLaws.{both_lists}
 use Rattle.sq_bound.specs.declared.condition.BoundSpecification.{BoundSpecification, out-BoundSpecification}
-use Rattle.sq_bound.specs.declared.condition.Grouping.{Grouping, out-Grouping}
-use Rattle.sq_bound.specs.declared.expression.Aggregate.{Aggregate}
 use Rattle.sq_bound.specs.declared.expression.BoundExpr.{BoundExpr}
-use Rattle.sq_bound.specs.declared.expression.SetFunctionCall.{SetFunctionCall}
-use Rattle.sq_bound.specs.declared.expression.SetFunctionCall.TheVariants.{Over}
 use Rattle.sq_expression.specs.Fault.{IsRight}
 use Rattle.sq_expression.specs.declared.context.Context.{Context}
 use Rattle.sq_expression.proofs.Kept.{no_status}
 use Rattle.sq_condition.proofs.Joined.{kept-append}
 use Rattle.sq_condition.proofs.Right.{right_same, right_value}
-use Rattle.sq_ending.specs.Ending.{EndsThere, HaveRows, InList, InOperand, InWhere, IsAmongCalls, IsCallEnd, IsCallsPhase, IsClauseEnd, IsListPhase, IsOperandEnd, IsPhaseEnd, Seen, is_listed, is_operand_met, is_wanted, list_of, rows_of, seen_in, value_on}
-use Rattle.sq_ending.specs.Walk.{EndsIn, IsEnd, IsFineOn, IsFirstEnd, IsFirstItem, is_met}
+use Rattle.sq_ending.specs.Ending.{EndsThere, HaveRows, InList, InWhere, IsClauseEnd, IsListPhase, IsPhaseEnd, Seen, is_listed, is_wanted, list_of, rows_of, seen_in, value_on}
+use Rattle.sq_ending.specs.Walk.{EndsIn, IsEnd, IsFineOn, IsFirstEnd, is_met}
 use Rattle.sq_ending.specs.declared.ends.Clause.{Clause}
 use Rattle.sq_ending.specs.declared.ends.Clause.TheVariants as clause
 use Rattle.sq_ending.specs.declared.ends.QueryEnd.{QueryEnd}
@@ -38,7 +32,10 @@ module _ (seen : Seen) (q : BoundSpecification) (items : List (List Row)) where
   in_where (clause.From n) status line h = h
   in_where clause.Where status line h = h
   in_where (clause.Item n) status line (is, h) = let no = h.at in absurd cc
+  in_where (clause.Operand n) status line h = h
   in_where (clause.SetFunction n) status line h = h
+  in_where clause.Having status line h = h
+  in_where (clause.GroupItem n) status line h = h
 
   first_in_where : (c : Clause) (status : Status) (places : List ℕ) → IsFirstEnd (is_met wanted (value_on seen) []) (λ line. EndsIn wanted (value_on seen) [] line c status) items places
       → IsFirstEnd wanted (InWhere seen q c status) items places
@@ -77,7 +74,10 @@ module _ (seen : Seen) (q : BoundSpecification) (items : List (List Row)) where
   in_list (clause.From n) status line never h = h
   in_list clause.Where status line never h = never h
   in_list (clause.Item n) status line never h = h
+  in_list (clause.Operand n) status line never h = h
   in_list (clause.SetFunction n) status line never h = h
+  in_list clause.Having status line never h = h
+  in_list (clause.GroupItem n) status line never h = h
 
   list_found : IsFineOn wanted (product items) → (found : Option QueryEnd) → IsEnd (is_listed seen q) (λ e line. EndsIn wanted (value_on seen) (list_of q) line e.clause e.status) items found → IsPhaseEnd (is_listed seen q) (InList seen q) items found
   list_found fine None h = h
@@ -108,66 +108,6 @@ module _ (seen : Seen) (q : BoundSpecification) (items : List (List Row)) where
   list_phase_of es are r finds =
       list_phase r (subst (λ (xs : List BoundExpr). IsRight (kept wanted (product items)) → IfOk r (IsEnd (is_met wanted (value_on seen) xs) (λ e line. EndsIn wanted (value_on seen) xs line e.clause e.status) items)) are finds)
 
-  -- ---- an operand
-
-  module _ (operand : BoundExpr) where
-    only_item : (value_of : BoundExpr → Outcome Value) (n : ℕ) (status : Status) → IsFirstItem value_of (operand ∷ []) n status → value_of operand ≡ Err status
-    only_item value_of zero status h = ap value_of (same_Some operand h.item h.at) ∙ h.ends
-    only_item value_of (suc n) status h = let none = h.at in absurd cc
-
-    in_operand : (c : Clause) (status : Status) (line : Line) → (wanted line ≡ Err status → ⊥) → EndsIn wanted (value_on seen) (operand ∷ []) line c status → InOperand seen q operand c status line
-    in_operand (clause.From n) status line never h = h
-    in_operand clause.Where status line never h = never h
-    in_operand (clause.Item n) status line never (is, h) = (is, only_item (value_on seen line) n status h)
-    in_operand (clause.SetFunction n) status line never h = h
-
-    operand_found : IsFineOn wanted (product items) → (found : Option QueryEnd) → IsEnd (is_operand_met seen q operand) (λ e line. EndsIn wanted (value_on seen) (operand ∷ []) line e.clause e.status) items found
-        → IsPhaseEnd (is_operand_met seen q operand) (InOperand seen q operand) items found
-    operand_found fine None h = h
-    operand_found fine (Some e) h = record {
-      line = h.line;
-      is = h.is;
-      ended = in_operand e.end.clause e.end.status h.line (line_of_fine h.line h.before h.behind (product items) h.among fine e.end.status) h.ended;
-      before = h.before;
-      behind = h.behind;
-      among = h.among;
-      fine = h.fine;
-    }
-
-    pub operand_phase : (es : List BoundExpr) → es ≡ operand ∷ [] → (r : Result (Option QueryEnd) AllocError)
-        → (IsRight (kept wanted (product items)) → IfOk r (IsEnd (is_met wanted (value_on seen) es) (λ e line. EndsIn wanted (value_on seen) es line e.clause e.status) items))
-        → IsFineOn wanted (product items) → IfOk r (IsPhaseEnd (is_operand_met seen q operand) (InOperand seen q operand) items)
-    operand_phase es are (Err e) finds fine = tt
-    operand_phase es are (Ok found) finds fine =
-        operand_found fine found
-        (subst (λ (xs : List BoundExpr). IsEnd (is_met wanted (value_on seen) xs) (λ e line. EndsIn wanted (value_on seen) xs line e.clause e.status) items found) are (finds (fine_right fine)))
-
-    -- with the status that was asked for
-    first_of : (c : Clause) (own status : Status) (places : List ℕ) → own ≡ status → IsFirstEnd (is_operand_met seen q operand) (InOperand seen q operand c own) items places
-        → IsFirstEnd (is_operand_met seen q operand) (λ line. (wanted line ≡ Ok true) × (value_on seen line operand ≡ Err status)) items places
-    first_of (clause.From n) own status places same h = absurd h.ended
-    first_of clause.Where own status places same h = absurd h.ended
-    first_of (clause.SetFunction n) own status places same h = absurd h.ended
-    first_of (clause.Item n) own status places same h =
-        subst (λ (s : Status). IsFirstEnd (is_operand_met seen q operand) (λ line. (wanted line ≡ Ok true) × (value_on seen line operand ≡ Err s)) items places) same h
-
-    pub call_phase : (aggregate : Aggregate) → aggregate.operand ≡ operand → (call : SetFunctionCall) → call ≡ Over aggregate → (number : ℕ) (status : Status) (found : Option QueryEnd)
-        → IsPhaseEnd (is_operand_met seen q operand) (InOperand seen q operand) items found → (left : Option QueryEnd)
-        → IfSome left (λ e. (e.end.clause ≡ clause.SetFunction number) × (e.end.status ≡ status) × IsSomeAnd found (λ own. (own.end.status ≡ status) × (e.line.items ≡ own.line.items)))
-        → IfSome left (IsCallEnd seen q call items number status)
-    call_phase aggregate is_operand call is number status found h None e = tt
-    call_phase aggregate is_operand call is number status None h (Some e) (in_clause, with, own) = absurd own
-    call_phase aggregate is_operand call is number status (Some f) h (Some e) (in_clause, with, own) = record {
-      is_clause = in_clause;
-      is_status = with;
-      aggregate = aggregate;
-      is = is;
-      first =
-          subst (λ (x : BoundExpr). IsFirstEnd (is_operand_met seen q x) (λ line. (wanted line ≡ Ok true) × (value_on seen line x ≡ Err status)) items e.line.items) (sym is_operand)
-          (subst (IsFirstEnd (is_operand_met seen q operand) (λ line. (wanted line ≡ Ok true) × (value_on seen line operand ≡ Err status)) items) (sym own.1)
-          (first_of f.end.clause f.end.status status f.line.items own.0 h));
-    }
-
 -- ---- the query specification
 
 module _ (context : Context) (q : BoundSpecification) (items : List (List Row)) (are : HaveRows (seen_in context) q items) where
@@ -178,7 +118,10 @@ module _ (context : Context) (q : BoundSpecification) (items : List (List Row)) 
   where_there (clause.From n) status places h = absurd h.ended
   where_there clause.Where status places h = (where_whole context q items are places status h, record { items = items; are = are; first = h })
   where_there (clause.Item n) status places h = absurd h.ended
+  where_there (clause.Operand n) status places h = absurd h.ended
   where_there (clause.SetFunction n) status places h = absurd h.ended
+  where_there clause.Having status places h = absurd h.ended
+  where_there (clause.GroupItem n) status places h = absurd h.ended
 
   pub ends_in_where : (e : QueryEnd) → IsPhaseEnd (is_wanted seen q) (InWhere seen q) items (Some e) → EndsThere seen q (Some e)
   ends_in_where e h = let there = where_there e.end.clause e.end.status e.line.items h in record { whole = there.0; there = there.1 }
@@ -193,46 +136,16 @@ module _ (context : Context) (q : BoundSpecification) (items : List (List Row)) 
             (first_ends (is_listed seen q) (InList seen q (clause.Item n) status) status (λ line ended. item_ends (is_wanted seen q) (value_on seen) (list_of q) n status line ended) items places h),
         record { ungrouped = ungrouped; items = items; are = are; fine = fine; first = h },
       )
+      list_there (clause.Operand n) status places h = absurd h.ended
       list_there (clause.SetFunction n) status places h = absurd h.ended
+      list_there clause.Having status places h = absurd h.ended
+      list_there (clause.GroupItem n) status places h = absurd h.ended
 
       pub ends_in_list : (found : Option QueryEnd) → IsPhaseEnd (is_listed seen q) (InList seen q) items found → EndsThere seen q found
-      ends_in_list None h = record { items = items; are = are; fine = fine; whole = λ is. list_fine context q items are ungrouped fine.0 fine.1 h }
+      ends_in_list None h = list_fine context q items are ungrouped fine.0 fine.1 h
       ends_in_list (Some e) h = let there = list_there e.end.clause e.end.status e.line.items h in record { whole = there.0; there = there.1 }
 
     -- without groups the list was evaluated
     pub ends_in_list_if : (r : Result (Option QueryEnd) AllocError) → (out-BoundSpecification q).grouping ≡ None → IsListPhase seen q items r → IfOk r (EndsThere seen q)
     ends_in_list_if (Ok found) ungrouped h = ends_in_list ungrouped found (h fine)
     ends_in_list_if (Err e) ungrouped h = tt
-
-    module _ (g : Grouping) (grouped : (out-BoundSpecification q).grouping ≡ Some g) where
-      not_ungrouped : (out-BoundSpecification q).grouping ≡ None → ⊥
-      not_ungrouped is = let never = sym is ∙ grouped in cc
-
-      -- no operand has ended
-      pub ends_in_none : EndsThere seen q None
-      ends_in_none = record { items = items; are = are; fine = fine; whole = λ is. absurd (not_ungrouped is) }
-
-      -- the operand of a set function has ended with the status that the query ends with
-      ends_in_call : (status : Status) → rows_of seen q ≡ Err status → (e : QueryEnd) → IsAmongCalls seen q (out-Grouping g).set_functions items status e → EndsThere seen q (Some e)
-      ends_in_call status whole e (number, call, at, h) = record {
-        whole = whole ∙ ap (λ (s : Status). let o : Outcome (List Row) = Err s in o) (sym h.is_status);
-        there =
-            subst (λ (c : Clause). IsClauseEnd seen q c e.line.items e.end.status) (sym h.is_clause)
-            (subst (IsOperandEnd seen q number e.line.items) (sym h.is_status)
-            (record {
-              grouping = g;
-              grouped = grouped;
-              aggregate = h.aggregate;
-              at = at ∙ ap (λ (x : SetFunctionCall). Some x) h.is;
-              items = items;
-              are = are;
-              fine = fine;
-              first = h.first;
-            }));
-      }
-
-      pub ends_in_calls : (status : Status) → rows_of seen q ≡ Err status → (calls : List SetFunctionCall) → calls ≡ (out-Grouping g).set_functions → (r : Result (Option QueryEnd) AllocError) → IsCallsPhase seen q calls items status r
-          → IfOk r (EndsThere seen q)
-      ends_in_calls status whole calls are_calls (Err e) h = tt
-      ends_in_calls status whole calls are_calls (Ok None) h = ends_in_none
-      ends_in_calls status whole calls are_calls (Ok (Some e)) h = ends_in_call status whole e (subst (λ (cs : List SetFunctionCall). IsAmongCalls seen q cs items status e) are_calls (h fine))

@@ -32,11 +32,11 @@ use Rattle.sq_ending.specs.Walk.{IsFineOn, IsFirstEnd, IsFirstItem, is_met, list
 -- ---- outcomes
 
 -- what a value is put in the place of ends as it did
-put_ends : {A B : Type 0} (o : Outcome A) (y : B) (s : Status) → (let p : Outcome B = and_then o (λ x. Ok y) in p) ≡ Err s → o ≡ Err s
+pub put_ends : {A B : Type 0} (o : Outcome A) (y : B) (s : Status) → (let p : Outcome B = and_then o (λ x. Ok y) in p) ≡ Err s → o ≡ Err s
 put_ends (Ok x) y s h = absurd cc
 put_ends (Err t) y s h = cc
 
-put_fine : {A B : Type 0} (o : Outcome A) (y z : B) → (let p : Outcome B = and_then o (λ x. Ok y) in p) ≡ Ok z → (x : A) × (o ≡ Ok x)
+pub put_fine : {A B : Type 0} (o : Outcome A) (y z : B) → (let p : Outcome B = and_then o (λ x. Ok y) in p) ≡ Ok z → (x : A) × (o ≡ Ok x)
 put_fine (Ok x) y z h = (x, refl)
 put_fine {A} (Err t) y z h = absurd cc
 
@@ -47,7 +47,7 @@ at_drop [] n x at = absurd cc
 at_drop {A} (y ∷ xs) zero x at = ap (λ (z : A). z ∷ xs) (same_Some y x at)
 at_drop (y ∷ xs) (suc n) x at = at_drop xs n x at
 
-each_ends : {A B : Type 0} (f : A → Outcome B) (xs : List A) (n : ℕ) (x : A) (before : List B) (s : Status) → slice_get xs n ≡ Some x → f x ≡ Err s → each f (take n xs) ≡ Ok before → each f xs ≡ Err s
+pub each_ends : {A B : Type 0} (f : A → Outcome B) (xs : List A) (n : ℕ) (x : A) (before : List B) (s : Status) → slice_get xs n ≡ Some x → f x ≡ Err s → each f (take n xs) ≡ Ok before → each f xs ≡ Err s
 each_ends f xs n x before s at ends fine =
     ap (each f) (sym (take-append-drop n xs))
     ∙ each-append f (take n xs) (drop n xs)
@@ -65,18 +65,18 @@ first_ends test HasEnded status so tables places h =
 
 -- ---- the list where WHERE is true
 
-module _ (wanted : Line → Outcome Bool) (value_of : Line → BoundExpr → Outcome Value) (list : List BoundExpr) where
-  abbrev shown : Line → Outcome (List Value)
+module _ {A : Type 0} (wanted : A → Outcome Bool) (value_of : A → BoundExpr → Outcome Value) (list : List BoundExpr) where
+  abbrev shown : A → Outcome (List Value)
   shown line = each (value_of line) list
 
-  abbrev met : Line → Outcome Bool
+  abbrev met : A → Outcome Bool
   met = is_met wanted value_of list
 
   -- the lines of which WHERE is true, as far as the list has values on them
-  abbrev IsMetAs : List Line → List Line → Type 0
+  abbrev IsMetAs : List A → List A → Type 0
   IsMetAs ls us = kept met ls ≡ and_then (each shown us) (λ rows. Ok us)
 
-  one_met : (l : Line) (ls ys : List Line) → wanted l ≡ Ok true → IsMetAs ls ys → IsMetAs (l ∷ ls) (l ∷ ys)
+  one_met : (l : A) (ls ys : List A) → wanted l ≡ Ok true → IsMetAs ls ys → IsMetAs (l ∷ ls) (l ∷ ys)
   one_met l ls ys is rest =
       (λ i. and_then (and_then (is i) (listed (value_of l) list)) (λ b. and_then (rest i) (λ zs. Ok (if b then l ∷ zs else zs))))
       ∙ step (shown l) (each shown ys)
@@ -87,7 +87,7 @@ module _ (wanted : Line → Outcome Bool) (value_of : Line → BoundExpr → Out
       step (Ok v) (Err s) = refl
       step (Ok v) (Ok rs) = refl
 
-  none_met : (l : Line) (ls ys : List Line) → wanted l ≡ Ok false → IsMetAs ls ys → IsMetAs (l ∷ ls) ys
+  none_met : (l : A) (ls ys : List A) → wanted l ≡ Ok false → IsMetAs ls ys → IsMetAs (l ∷ ls) ys
   none_met l ls ys is rest =
       (λ i. and_then (and_then (is i) (listed (value_of l) list)) (λ b. and_then (rest i) (λ zs. Ok (if b then l ∷ zs else zs))))
       ∙ step (each shown ys)
@@ -96,19 +96,19 @@ module _ (wanted : Line → Outcome Bool) (value_of : Line → BoundExpr → Out
       step (Err s) = refl
       step (Ok rs) = refl
 
-  next_met : (l : Line) (ls us : List Line) (w : Outcome Bool) (r : Outcome (List Line)) → wanted l ≡ w → ((ys : List Line) → r ≡ Ok ys → IsMetAs ls ys)
+  next_met : (l : A) (ls us : List A) (w : Outcome Bool) (r : Outcome (List A)) → wanted l ≡ w → ((ys : List A) → r ≡ Ok ys → IsMetAs ls ys)
       → and_then w (λ b. and_then r (λ ys. Ok (if b then l ∷ ys else ys))) ≡ Ok us → IsMetAs (l ∷ ls) us
   next_met l ls us (Err s) r is rest h = no_status (IsMetAs (l ∷ ls) us) s us h
   next_met l ls us (Ok b) (Err s) is rest h = no_status (IsMetAs (l ∷ ls) us) s us h
   next_met l ls us (Ok true) (Ok ys) is rest h = subst (IsMetAs (l ∷ ls)) (ok_same (l ∷ ys) us h) (one_met l ls ys is (rest ys refl))
   next_met l ls us (Ok false) (Ok ys) is rest h = subst (IsMetAs (l ∷ ls)) (ok_same ys us h) (none_met l ls ys is (rest ys refl))
 
-  pub met_is : (ls us : List Line) → kept wanted ls ≡ Ok us → kept met ls ≡ and_then (each shown us) (λ rows. Ok us)
+  pub met_is : (ls us : List A) → kept wanted ls ≡ Ok us → kept met ls ≡ and_then (each shown us) (λ rows. Ok us)
   met_is [] us h = subst (IsMetAs []) (ok_same [] us h) refl
   met_is (l ∷ ls) us h = next_met l ls us (wanted l) (kept wanted ls) refl (λ ys is. met_is ls ys is) h
   -- nothing is evaluated behind WHERE where the list has no item
 
-plain_met : (wanted : Line → Outcome Bool) (value_of : Line → BoundExpr → Outcome Value) (line : Line) → is_met wanted value_of [] line ≡ wanted line
+plain_met : {A : Type 0} (wanted : A → Outcome Bool) (value_of : A → BoundExpr → Outcome Value) (line : A) → is_met wanted value_of [] line ≡ wanted line
 plain_met wanted value_of line = by (wanted line)
   where
     by : (o : Outcome Bool) → and_then o (listed (value_of line) []) ≡ o
@@ -116,7 +116,7 @@ plain_met wanted value_of line = by (wanted line)
     by (Ok false) = refl
     by (Err s) = refl
 
-pub plain_walk : (wanted : Line → Outcome Bool) (value_of : Line → BoundExpr → Outcome Value) → is_met wanted value_of [] ≡ wanted
+pub plain_walk : {A : Type 0} (wanted : A → Outcome Bool) (value_of : A → BoundExpr → Outcome Value) → is_met wanted value_of [] ≡ wanted
 plain_walk wanted value_of = λ i line. plain_met wanted value_of line i
 
 -- ---- the whole query specification
@@ -187,7 +187,7 @@ module _ (context : Context) (query : BoundSpecification) where
           (rows_left (out-BoundSpecification query).distinct values.0, list_is ∙ ap left values.1)
 
 -- a line ends where an item of the list does
-pub item_ends : (wanted : Line → Outcome Bool) (value_of : Line → BoundExpr → Outcome Value) (list : List BoundExpr) (number : ℕ) (status : Status) (line : Line)
+pub item_ends : {A : Type 0} (wanted : A → Outcome Bool) (value_of : A → BoundExpr → Outcome Value) (list : List BoundExpr) (number : ℕ) (status : Status) (line : A)
     → (wanted line ≡ Ok true) × IsFirstItem (value_of line) list number status → is_met wanted value_of list line ≡ Err status
 item_ends wanted value_of list number status line (is, h) =
     ap (λ (o : Outcome Bool). and_then o (listed (value_of line) list)) is

@@ -1,20 +1,20 @@
--- Where a query specification outside every query ends with a status, as far as FROM, WHERE, the operands of set functions, and without
--- groups the select list (ISO/IEC 9075:1992, 6.5, 7.4, 7.6, 7.7 and 7.9).
-use Rattle.std.specs.Prelude.{⊤, ◌≡◌, ℕ, Bool, true, List, [], ◌∷◌, length, take, slice_get, Option, None, Some, Result, Ok, Err, IfOk, IfSome}
+-- Where a query specification outside every query ends with a status (ISO/IEC 9075:1992, 6.5, 7.4, and 7.6 to 7.9).
+use Rattle.std.specs.Prelude.{⊤, ◌≡◌, ℕ, Bool, true, List, [], ◌∷◌, ◌++◌, length, map, take, slice_get, Option, None, Some, Result, Ok, Err, IfOk}
 use Rattle.std.specs.declared.alloc.AllocError.{AllocError}
 use Rattle.sq_lex.specs.declared.name.Name.{Name}
 use Rattle.sq_value.specs.declared.domain.Kind.{Kind}
 use Rattle.sq_value.specs.declared.value.Value.{Value}
 use Rattle.sq_store.specs.Content.{Content}
-use Rattle.sq_meaning.specs.Environment.{Row, Line, outermost}
+use Rattle.sq_meaning.specs.Environment.{Row, Line, Env, outermost, within}
 use Rattle.sq_meaning.specs.Expression.{value}
 use Rattle.sq_meaning.specs.Placed.{by_place}
-use Rattle.sq_meaning.specs.Query.{clause_truth, is_true, rows}
+use Rattle.sq_meaning.specs.Query.{clause_truth, group_scope, groups_by, is_true, rows}
 use Rattle.sq_meaning.specs.Rows.{product}
 use Rattle.sq_meaning.specs.Status.{Outcome, each, kept}
 use Rattle.sq_meaning.specs.declared.status.Status.{Status}
-use Rattle.sq_bound.specs.Condition.{select_of}
-use Rattle.sq_bound.specs.Expression.{expr_of}
+use Rattle.sq_bound.specs.Condition.{clause_of, select_of}
+use Rattle.sq_bound.specs.Expression.{PlacedExpr, expr_of, place_meant}
+use Rattle.sq_bound.specs.SetFunction.{call_of}
 use Rattle.sq_bound.specs.WellFormed.{IsSelect, TableKinds}
 use Rattle.sq_bound.specs.declared.condition.BoundSpecification.{BoundSpecification, out-BoundSpecification}
 use Rattle.sq_bound.specs.declared.condition.Grouping.{Grouping, out-Grouping}
@@ -22,7 +22,7 @@ use Rattle.sq_bound.specs.declared.condition.TablePlace.{TablePlace}
 use Rattle.sq_bound.specs.declared.expression.Aggregate.{Aggregate}
 use Rattle.sq_bound.specs.declared.expression.BoundExpr.{BoundExpr}
 use Rattle.sq_bound.specs.declared.expression.SetFunctionCall.{SetFunctionCall}
-use Rattle.sq_bound.specs.declared.expression.SetFunctionCall.TheVariants.{Over}
+use Rattle.sq_bound.specs.declared.expression.SetFunctionCall.TheVariants.{CountRows, Over}
 use Rattle.sq_bound.specs.declared.names.BaseTable.{BaseTable}
 use Rattle.sq_condition.specs.Specification.{items_in, where_of}
 use Rattle.sq_expression.specs.Fault.{IsRight, status_of}
@@ -32,7 +32,7 @@ use Rattle.sq_expression.specs.declared.fault.Fault.{Fault}
 use Rattle.sq_expression.specs.declared.fault.Fault.TheVariants as fault
 use Rattle.sq_query.specs.MayRead.{MayRead}
 use Rattle.sq_query.specs.Row.{outside}
-use Rattle.sq_ending.specs.Walk.{IsFineOn, IsFirstEnd, IsFirstItem, is_met}
+use Rattle.sq_ending.specs.Walk.{IsFineOn, IsFirstEnd, IsFirstItem, is_met, line_at}
 use Rattle.sq_ending.specs.declared.ends.Clause.{Clause}
 use Rattle.sq_ending.specs.declared.ends.Clause.TheVariants as clause
 use Rattle.sq_ending.specs.declared.ends.QueryEnd.{QueryEnd}
@@ -64,9 +64,42 @@ list_of q = (out-BoundSpecification q).list
 abbrev pub is_listed : Seen → BoundSpecification → Line → Outcome Bool
 is_listed seen q = is_met (is_wanted seen q) (value_on seen) (list_of q)
 
--- whether WHERE is true of a line, on which an operand has a value then
-abbrev pub is_operand_met : Seen → BoundSpecification → BoundExpr → Line → Outcome Bool
-is_operand_met seen q operand = is_met (is_wanted seen q) (value_on seen) (operand ∷ [])
+-- ---- groups
+
+-- the set functions of a query specification, in the order of the text
+abbrev pub calls_of : Grouping → List SetFunctionCall
+calls_of g = (out-Grouping g).set_functions
+
+abbrev pub functions_of : Grouping → List PlacedExpr
+functions_of g = map call_of (calls_of g)
+
+-- where a group is seen
+abbrev pub group_in : Seen → List Line → Env (Unit {0})
+group_in seen group = within (group_scope [] group) (outermost (inputs_of seen.values) seen.user)
+
+-- the value of a set function over the lines of a group
+abbrev pub function_on : Seen → List Line → SetFunctionCall → Outcome Value
+function_on seen group call = value (by_place seen.tables) (call_of call) (group_in seen group)
+
+-- the values of all set functions over the lines of a group
+abbrev pub functions_on : Seen → Grouping → List Line → Outcome (List Value)
+functions_on seen g group = each (function_on seen group) (calls_of g)
+
+-- whether HAVING is true of a group
+abbrev pub is_shown : Seen → Grouping → List Line → Outcome Bool
+is_shown seen g group =
+    is_true (clause_truth (by_place seen.tables)
+    (clause_of (functions_of g) (out-Grouping g).having) (group_in seen group))
+
+-- the value of an item of the select list for a group
+abbrev pub item_on : Seen → Grouping → List Line → BoundExpr → Outcome Value
+item_on seen g group e = value (by_place seen.tables) (expr_of (functions_of g) e) (group_in seen group)
+
+-- the lines in groups
+abbrev pub groups_of : Seen → Grouping → List Line → Outcome (List (List Line))
+groups_of seen g lines =
+    groups_by (by_place seen.tables) (map place_meant (out-Grouping g).columns) [] lines
+    (outermost (inputs_of seen.values) seen.user)
 
 -- ---- clause by clause
 
@@ -102,26 +135,104 @@ pub record IsListEnd (seen : Seen) (q : BoundSpecification) (number : ℕ) (plac
       × IsFirstItem (value_on seen line) (list_of q) number status)
       items places
 
--- With groups the operand of each set function is evaluated where WHERE is true, which ends on no line. The operand of the set function
--- with this number ends with the status on the line at these places, and on no line before it.
-pub record IsOperandEnd (seen : Seen) (q : BoundSpecification) (number : ℕ) (places : List ℕ)
-    (status : Status) : Type 0 where
+-- WHERE ends on no line, and the lines of which it is true are in groups. One of these has ended, behind others.
+pub record IsGroupEnd (seen : Seen) (q : BoundSpecification)
+    (HasEnded : Grouping → List (List Row) → (before behind : List (List Line)) → List Line → Type 0)
+    : Type 0 where
   pub grouping : Grouping
   pub grouped : (out-BoundSpecification q).grouping ≡ Some grouping
-  pub aggregate : Aggregate
-  pub at : slice_get (out-Grouping grouping).set_functions number ≡ Some (Over aggregate)
   pub items : List (List Row)
   pub are : HaveRows seen q items
-  pub fine : IsFineOn (is_wanted seen q) (product items)
-  pub first : IsFirstEnd (is_operand_met seen q aggregate.operand)
-      (λ line. (is_wanted seen q line ≡ Ok true) × (value_on seen line aggregate.operand ≡ Err status))
-      items places
+  pub lines : List Line
+  pub left : kept (is_wanted seen q) (product items) ≡ Ok lines
+  pub before : List (List Line)
+  pub group : List Line
+  pub behind : List (List Line)
+  pub among : groups_of seen grouping lines ≡ Ok (before ++ group ∷ behind)
+  pub ended : HasEnded grouping items before behind group
+
+-- the line at these places is the first of a group; a group of no line has no place
+abbrev pub IsOfGroup : List (List Row) → List ℕ → List Line → Type 0
+IsOfGroup items places [] = places ≡ []
+IsOfGroup items places (line ∷ others) = line_at items places ≡ Some line
+
+-- The set functions have values over the groups before. This one is the first that ends over this group, and with the status.
+pub record IsFirstFunction (seen : Seen) (g : Grouping) (before : List (List Line)) (group : List Line)
+    (number : ℕ) (call : SetFunctionCall) (status : Status) : Type 0 where
+  pub values : List (List Value)
+  pub fine : each (functions_on seen g) before ≡ Ok values
+  pub at : slice_get (calls_of g) number ≡ Some call
+  pub ends : function_on seen group call ≡ Err status
+  pub others : List Value
+  pub first : each (function_on seen group) (take number (calls_of g)) ≡ Ok others
+
+-- An operand ends with the status on the line at these places, which is one of a group. It has values on the lines before.
+pub record IsFirstOperand (seen : Seen) (items : List (List Row)) (group : List Line) (operand : BoundExpr)
+    (places : List ℕ) (status : Status) : Type 0 where
+  pub before : List Line
+  pub line : Line
+  pub behind : List Line
+  pub among : group ≡ before ++ line ∷ behind
+  pub is : line_at items places ≡ Some line
+  pub ends : value_on seen line operand ≡ Err status
+  pub values : List Value
+  pub fine : each (λ l. value_on seen l operand) before ≡ Ok values
+
+-- A set function ends, because its operand does on a line of the group.
+abbrev pub InOperand : Seen → ℕ → List ℕ → Status
+    → Grouping → List (List Row) → (before behind : List (List Line)) → List Line → Type 0
+InOperand seen number places status g items before behind group =
+    (a : Aggregate) × IsFirstFunction seen g before group number (Over a) status
+    × IsFirstOperand seen items group a.operand places status
+
+-- the operand of a set function, if it has one, has values on these lines
+abbrev pub HasOperands : Seen → List Line → SetFunctionCall → Type 0
+HasOperands seen group CountRows = ⊤
+HasOperands seen group (Over a) =
+    (values : List Value) × (each (λ l. value_on seen l a.operand) group ≡ Ok values)
+
+-- A set function ends over a group, on whose lines its operand has values.
+abbrev pub InSetFunction : Seen → ℕ → List ℕ → Status
+    → Grouping → List (List Row) → (before behind : List (List Line)) → List Line → Type 0
+InSetFunction seen number places status g items before behind group =
+    (call : SetFunctionCall) × IsFirstFunction seen g before group number call status
+    × HasOperands seen group call × IsOfGroup items places group
+
+-- All set functions have values. HAVING ends of the group, and of none before it.
+abbrev pub InHaving : Seen → List ℕ → Status
+    → Grouping → List (List Row) → (before behind : List (List Line)) → List Line → Type 0
+InHaving seen places status g items before behind group =
+    (values : List (List Value)) × (each (functions_on seen g) (before ++ group ∷ behind) ≡ Ok values)
+    × (left : List (List Line)) × (kept (is_shown seen g) before ≡ Ok left)
+    × (is_shown seen g group ≡ Err status)
+    × IsOfGroup items places group
+
+-- All set functions have values, and HAVING ends of no group. Of this one it is true, and this item of the select list is the first that
+-- ends. No item ends of a group before it.
+pub record InGroupItem (seen : Seen) (list : List BoundExpr) (number : ℕ) (places : List ℕ) (status : Status)
+    (g : Grouping) (items : List (List Row)) (before behind : List (List Line)) (group : List Line)
+    : Type 0 where
+  pub values : List (List Value)
+  pub functions : each (functions_on seen g) (before ++ group ∷ behind) ≡ Ok values
+  pub left : List (List Line)
+  pub having : kept (is_shown seen g) (before ++ group ∷ behind) ≡ Ok left
+  pub shown : is_shown seen g group ≡ Ok true
+  pub first : IsFirstItem (item_on seen g group) list number status
+  pub met : List (List Line)
+  pub fine : kept (is_met (is_shown seen g) (item_on seen g) list) before ≡ Ok met
+  pub of_group : IsOfGroup items places group
 
 abbrev pub IsClauseEnd : Seen → BoundSpecification → Clause → List ℕ → Status → Type 0
 IsClauseEnd seen q (clause.From item) places status = (places ≡ []) × IsFromEnd seen q item status
 IsClauseEnd seen q clause.Where places status = IsWhereEnd seen q places status
 IsClauseEnd seen q (clause.Item number) places status = IsListEnd seen q number places status
-IsClauseEnd seen q (clause.SetFunction number) places status = IsOperandEnd seen q number places status
+IsClauseEnd seen q (clause.Operand number) places status =
+    IsGroupEnd seen q (InOperand seen number places status)
+IsClauseEnd seen q (clause.SetFunction number) places status =
+    IsGroupEnd seen q (InSetFunction seen number places status)
+IsClauseEnd seen q clause.Having places status = IsGroupEnd seen q (InHaving seen places status)
+IsClauseEnd seen q (clause.GroupItem number) places status =
+    IsGroupEnd seen q (InGroupItem seen (list_of q) number places status)
 
 -- ---- the query specification
 
@@ -130,12 +241,9 @@ pub record IsQueryEnd (seen : Seen) (q : BoundSpecification) (e : QueryEnd) : Ty
   pub whole : rows_of seen q ≡ Err e.end.status
   pub there : IsClauseEnd seen q e.end.clause e.line.items e.end.status
 
--- Neither an item of FROM nor WHERE ends with a status, and without groups the query specification has rows.
-pub record IsNoEnd (seen : Seen) (q : BoundSpecification) : Type 0 where
-  pub items : List (List Row)
-  pub are : HaveRows seen q items
-  pub fine : IsFineOn (is_wanted seen q) (product items)
-  pub whole : (out-BoundSpecification q).grouping ≡ None → (found : List Row) × (rows_of seen q ≡ Ok found)
+-- It has rows.
+abbrev pub IsNoEnd : Seen → BoundSpecification → Type 0
+IsNoEnd seen q = (found : List Row) × (rows_of seen q ≡ Ok found)
 
 abbrev pub EndsThere : Seen → BoundSpecification → Option QueryEnd → Type 0
 EndsThere seen q None = IsNoEnd seen q
@@ -202,46 +310,3 @@ abbrev pub IsListPhase : Seen → BoundSpecification → List (List Row)
 IsListPhase seen q items result =
     IsFineOn (is_wanted seen q) (product items)
     → IfOk result (IsPhaseEnd (is_listed seen q) (InList seen q) items)
-
--- how a line ends where an operand is evaluated
-abbrev pub InOperand : Seen → BoundSpecification → BoundExpr → Clause → Status → Line → Type 0
-InOperand seen q operand (clause.Item number) status line =
-    (is_wanted seen q line ≡ Ok true) × (value_on seen line operand ≡ Err status)
-InOperand seen q operand _ status line = ⊥
-
--- an operand over the same lines
-abbrev pub IsOperandPhase : Seen → BoundSpecification → BoundExpr → List (List Row)
-    → Result (Option QueryEnd) AllocError → Type 0
-IsOperandPhase seen q operand items result =
-    IsFineOn (is_wanted seen q) (product items)
-    → IfOk result (IsPhaseEnd (is_operand_met seen q operand) (InOperand seen q operand) items)
-
--- this set function is one over an operand, which is the first to end on a line so
-pub record IsCallEnd (seen : Seen) (q : BoundSpecification) (call : SetFunctionCall) (items : List (List Row))
-    (number : ℕ) (status : Status) (e : QueryEnd) : Type 0 where
-  pub is_clause : e.end.clause ≡ clause.SetFunction number
-  pub is_status : e.end.status ≡ status
-  pub aggregate : Aggregate
-  pub is : call ≡ Over aggregate
-  pub first : IsFirstEnd (is_operand_met seen q aggregate.operand)
-      (λ line. (is_wanted seen q line ≡ Ok true) × (value_on seen line aggregate.operand ≡ Err status))
-      items e.line.items
-
--- a set function, or one of these, whose operand ends with the status
-abbrev pub IsCallPhase : Seen → BoundSpecification → SetFunctionCall → List (List Row) → ℕ → Status
-    → Result (Option QueryEnd) AllocError → Type 0
-IsCallPhase seen q call items number status result =
-    IsFineOn (is_wanted seen q) (product items)
-    → IfOk result (λ found. IfSome found (IsCallEnd seen q call items number status))
-
-abbrev pub IsAmongCalls : Seen → BoundSpecification → List SetFunctionCall → List (List Row) → Status
-    → QueryEnd → Type 0
-IsAmongCalls seen q calls items status e =
-    (number : ℕ) × (call : SetFunctionCall) × (slice_get calls number ≡ Some call)
-    × IsCallEnd seen q call items number status e
-
-abbrev pub IsCallsPhase : Seen → BoundSpecification → List SetFunctionCall → List (List Row) → Status
-    → Result (Option QueryEnd) AllocError → Type 0
-IsCallsPhase seen q calls items status result =
-    IsFineOn (is_wanted seen q) (product items)
-    → IfOk result (λ found. IfSome found (IsAmongCalls seen q calls items status))

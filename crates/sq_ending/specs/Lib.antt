@@ -1,4 +1,9 @@
 pub mod Ending
+pub mod Functions
+pub mod Grouped
+pub mod Groups
 pub mod Inside
+pub mod Kept
 pub mod Read
+pub mod Shown
 pub mod Walk

@@ -1,34 +1,31 @@
 //! Where a query specification ends with a status: in which clause, and on which line.
 
-ghost use Rattle.std.specs.Prelude.{◌≡◌, [], IfOk, IfSome, IsSomeAnd, None, Some, true};
+ghost use Rattle.std.specs.Prelude.{◌≡◌, [], IfOk, None, true};
 ghost use Rattle.sq_meaning.specs.Rows.{product};
 ghost use Rattle.sq_bound.specs.Fits.{keys_of_bases, not_nulls_hold};
-ghost use Rattle.sq_bound.specs.declared.condition.BoundSpecification.{out-BoundSpecification};
 ghost use Rattle.sq_condition.specs.Memo.{Meant};
 ghost use Rattle.sq_condition.specs.Specification.{items_in, rows_meant};
 ghost use Rattle.sq_condition.specs.Subquery.{KnowsQuery, Remembers};
 ghost use Rattle.sq_expression.specs.Fault.{IsRight, status_of};
 ghost use Rattle.sq_expression.specs.Frame.{table_rows};
 ghost use Rattle.sq_query.specs.Needed.{FindsSelect};
-ghost use Rattle.sq_ending.specs.Ending.{Ends, EndsThere, HasItems, HaveRows, IsCallPhase, IsCallsPhase, IsListPhase, IsOperandPhase, IsWherePhase, is_wanted, seen_in};
+ghost use Rattle.sq_ending.specs.Ending.{Ends, EndsThere, HasItems, HaveRows, IsListPhase, IsWherePhase, is_wanted, seen_in};
 ghost use Rattle.sq_ending.specs.Walk.{IsFineOn, tables_in};
 
 use crate::ends::{Clause, ClauseEnd, QueryEnd};
+use crate::grouped::groups_end;
 use crate::needed::tables_needed;
 use crate::read::tables_read;
 use crate::walk::Walk;
-use sq_bound::{BoundExpr, BoundSpecification, Grouping, Names, SetFunctionCall};
-use sq_condition::{Memo, outermost_rows};
+use sq_bound::{BoundSpecification, Names};
+use sq_condition::Memo;
 use sq_expression::{Context, Failure, Fault, rows_at};
-use sq_meaning::Status;
 use sq_query::Inputs;
 use sq_store::Store;
 use sq_value::Row;
 use std::alloc::{AllocError, Global};
-use std::slice::from_ref;
 
-/// Where a query specification inside no other query ends, as far as FROM, WHERE, the operands of set
-/// functions and, without groups, the select list.
+/// Where a query specification inside no other query ends with a status; `None` if it has rows.
 pub fn query_end<N: Names, S: Store>(
     alloc: Global,
     names: &N,
@@ -121,7 +118,7 @@ fn from_end(alloc: Global, item: usize, failure: Failure) -> QueryEnd
     }
 }
 
-/// The first line on which WHERE, a set function's operand or the select list ends, where the items of FROM have these rows.
+/// The same behind FROM, whose items have these rows.
 fn line_end<'m>(
     query: &BoundSpecification,
     items: &[Vec<&'m Row>],
@@ -209,115 +206,4 @@ fn list_end<'m>(
         list: query.list.as_slice(),
     };
     walk.end_behind(&[], items, memo)
-}
-
-/// Where the query ends with a status: the first set function whose operand ends with it on a line.
-fn groups_end<'m>(
-    query: &BoundSpecification,
-    grouping: &Grouping,
-    items: &[Vec<&'m Row>],
-    context: &Context<'m>,
-    memo: &mut Memo<'m>,
-) -> Result<Option<QueryEnd>, AllocError>
-    ensures { Remembers context.now (KnowsQuery context.now query.now) memo.old memo.new
-        ((out-BoundSpecification query.now).grouping ≡ Some grouping.now
-        → IsRight (rows_meant query.now None context.now)
-        → HaveRows (seen_in context.now) query.now (tables_in items.now)
-        → IsFineOn (is_wanted (seen_in context.now) query.now) (product (tables_in items.now))
-        → IfOk result (EndsThere (seen_in context.now) query.now)) }
-{
-    let calls = grouping.set_functions.as_slice();
-    match outermost_rows(query, context) {
-        Ok(rows) => {
-            drop(rows);
-            Ok(None)
-        }
-        Err(Fault::Status(failure)) => {
-            calls_end(query, calls, failure.status(), items, context, memo)
-        }
-        Err(Fault::NoMemory) => Err(AllocError),
-    }
-}
-
-/// The first of these set functions whose operand ends with the status on a line.
-fn calls_end<'m>(
-    query: &BoundSpecification,
-    calls: &[SetFunctionCall],
-    status: Status,
-    items: &[Vec<&'m Row>],
-    context: &Context<'m>,
-    memo: &mut Memo<'m>,
-) -> Result<Option<QueryEnd>, AllocError>
-    ensures { Remembers context.now (KnowsQuery context.now query.now) memo.old memo.new
-        (IsCallsPhase (seen_in context.now) query.now calls.now (tables_in items.now) status result) }
-{
-    for (number, call) in calls.iter().enumerate() {
-        if let Some(end) = call_end(query, call, number, status, items, context, memo)? {
-            return Ok(Some(end));
-        }
-    }
-    Ok(None)
-}
-
-/// The first line on which the operand of a set function ends, if that is with the status.
-fn call_end<'m>(
-    query: &BoundSpecification,
-    call: &SetFunctionCall,
-    number: usize,
-    status: Status,
-    items: &[Vec<&'m Row>],
-    context: &Context<'m>,
-    memo: &mut Memo<'m>,
-) -> Result<Option<QueryEnd>, AllocError>
-    ensures { Remembers context.now (KnowsQuery context.now query.now) memo.old memo.new
-        (IsCallPhase (seen_in context.now) query.now call.now (tables_in items.now) number status result) }
-{
-    match call {
-        SetFunctionCall::Over(aggregate) => {
-            let end = operand_end(query, &aggregate.operand, items, context, memo)?;
-            Ok(with_status(number, status, end))
-        }
-        SetFunctionCall::CountRows => Ok(None),
-    }
-}
-
-/// The first line on which an operand ends.
-fn operand_end<'m>(
-    query: &BoundSpecification,
-    operand: &BoundExpr,
-    items: &[Vec<&'m Row>],
-    context: &Context<'m>,
-    memo: &mut Memo<'m>,
-) -> Result<Option<QueryEnd>, AllocError>
-    ensures { Remembers context.now (KnowsQuery context.now query.now) memo.old memo.new
-        (IsOperandPhase (seen_in context.now) query.now operand.now (tables_in items.now) result) }
-{
-    let walk = Walk {
-        query,
-        context,
-        list: from_ref(operand),
-    };
-    walk.end_behind(&[], items, memo)
-}
-
-/// The end of a set function's operand, if that is with the status.
-fn with_status(number: usize, status: Status, end: Option<QueryEnd>) -> Option<QueryEnd>
-    ensures { IfSome result (λ e. (e.end.clause ≡ Clause.SetFunction number) × (e.end.status ≡ status)
-        × IsSomeAnd end (λ own. (own.end.status ≡ status) × (e.line.items ≡ own.line.items))) }
-{
-    match end {
-        Some(QueryEnd { end, line }) => {
-            if end.status == status {
-                let clause = Clause::SetFunction(number);
-                Some(QueryEnd {
-                    end: ClauseEnd { clause, status },
-                    line,
-                })
-            } else {
-                drop(line);
-                None
-            }
-        }
-        None => None,
-    }
 }

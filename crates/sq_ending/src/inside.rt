@@ -111,7 +111,12 @@ fn view_of<'a, N: Names>(
             Some(TablePlace::View(place)) => view_at(names, *place),
             _ => None,
         },
-        Clause::Where | Clause::Item(_) | Clause::SetFunction(_) => None,
+        Clause::Where
+        | Clause::Item(_)
+        | Clause::Operand(_)
+        | Clause::SetFunction(_)
+        | Clause::Having
+        | Clause::GroupItem(_) => None,
     }
 }
 

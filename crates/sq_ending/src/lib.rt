@@ -2,12 +2,18 @@
 //! 7.4 to 7.9).
 #![tactic(auto)]
 
+mod by_key;
 mod ending;
 mod ends;
+mod functions;
+mod grouped;
+mod groups;
 mod inside;
+mod kept;
 mod needed;
 mod number;
 mod read;
+mod shown;
 mod walk;
 
 pub use ending::query_end;

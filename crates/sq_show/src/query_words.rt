@@ -38,48 +38,76 @@ fn write_view_query<S: Store>(
     write_item(session, view, words)
 }
 
-/// `WHERE, on row 3 of U1.T`, `item 2 of the select list, on row 3 of U1.T`, `operand of set function 1, on row 3 of U1.T`, or
-/// `query of view U1.V`
+/// `WHERE, on row 3 of U1.T`, `HAVING, for the group of row 3 of U1.T`, or `query of view U1.V`
 fn write_clause<S: Store>(
     session: &Session<S>,
     cause: &QueryCause,
     words: &mut Vec<u8>,
 ) -> Result<(), AllocError> {
-    match cause.end.end.end.clause {
-        Clause::From(item) => match cause.tables.as_slice().get(item) {
-            Some(table) => return write_view_query(session, *table, words),
-            None => return words.extend_from_slice(b"FROM"),
-        },
-        Clause::Where => words.extend_from_slice(b"WHERE")?,
-        Clause::Item(number) => write!(
-            words,
-            "item {} of the select list",
-            number.saturating_add(1)
-        )
-        .map_err(|_| AllocError)?,
-        Clause::SetFunction(number) => write!(
-            words,
-            "operand of set function {}",
-            number.saturating_add(1)
-        )
-        .map_err(|_| AllocError)?,
+    let clause = cause.end.end.end.clause;
+    if let Clause::From(item) = clause {
+        return match cause.tables.as_slice().get(item) {
+            Some(table) => write_view_query(session, *table, words),
+            None => words.extend_from_slice(b"FROM"),
+        };
     }
-    write_line(
-        session,
-        cause.tables.as_slice(),
-        cause.end.end.line.as_slice(),
-        words,
-    )
+    write_name(clause, words)?;
+    let line = cause.end.end.line.as_slice();
+    if is_of_group(clause) {
+        words.extend_from_slice(b", for the group of ")?;
+        if line.is_empty() {
+            return words.extend_from_slice(b"no row");
+        }
+    } else {
+        words.extend_from_slice(b", on ")?;
+    }
+    write_line(session, cause.tables.as_slice(), line, words)
 }
 
-/// `, on row 3 of U1.T and row 1 of view U1.V`
+/// `WHERE`, `item 2 of the select list`, `operand of set function 1`, `set function 1` or `HAVING`
+fn write_name(clause: Clause, words: &mut Vec<u8>) -> Result<(), AllocError> {
+    match clause {
+        Clause::From(_) => words.extend_from_slice(b"FROM"),
+        Clause::Where => words.extend_from_slice(b"WHERE"),
+        Clause::Item(number) | Clause::GroupItem(number) => {
+            write_numbered(b"item ", number, b" of the select list", words)
+        }
+        Clause::Operand(number) => {
+            write_numbered(b"operand of set function ", number, b"", words)
+        }
+        Clause::SetFunction(number) => write_numbered(b"set function ", number, b"", words),
+        Clause::Having => words.extend_from_slice(b"HAVING"),
+    }
+}
+
+/// Words with a number, counted from 1, between them.
+fn write_numbered(
+    before: &[u8],
+    number: usize,
+    behind: &[u8],
+    words: &mut Vec<u8>,
+) -> Result<(), AllocError> {
+    words.extend_from_slice(before)?;
+    write!(words, "{}", number.saturating_add(1)).map_err(|_| AllocError)?;
+    words.extend_from_slice(behind)
+}
+
+/// Whether a clause is evaluated for groups, and not on lines.
+fn is_of_group(clause: Clause) -> bool {
+    match clause {
+        Clause::SetFunction(_) | Clause::Having | Clause::GroupItem(_) => true,
+        Clause::From(_) | Clause::Where | Clause::Item(_) | Clause::Operand(_) => false,
+    }
+}
+
+/// `row 3 of U1.T and row 1 of view U1.V`
 fn write_line<S: Store>(
     session: &Session<S>,
     tables: &[TablePlace],
     places: &[usize],
     words: &mut Vec<u8>,
 ) -> Result<(), AllocError> {
-    let mut before: &[u8] = b", on row ";
+    let mut before: &[u8] = b"row ";
     for (table, place) in tables.iter().zip(places) {
         words.extend_from_slice(before)?;
         write!(words, "{} of ", number_of(session, *table, *place)).map_err(|_| AllocError)?;

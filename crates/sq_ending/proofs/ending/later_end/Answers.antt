@@ -4,9 +4,7 @@ use Rattle.sq_ending.proofs.Phases.{ends_in_list_if}
 use Rattle.sq_ending.proofs.ending.later_end.Goals as goal
 
 pub returns-in-Some : goal.returns-in-Some
-returns-in-Some c = λ meant knows memo.
-    let met = c.groups_end.ensures meant knows memo in
-    (met.0, met.1 c.in-Some.is)
+returns-in-Some c = λ meant knows memo. c.groups_end.ensures c.in-Some.is meant knows memo
 
 pub returns-in-None : goal.returns-in-None
 returns-in-None c = λ meant knows memo.
