@@ -44,7 +44,7 @@ place_of_both (y ∷ xs) ys x = by_test (nat_eq x y)
 
 -- ---- places that rise
 
-rises : ℕ → List ℕ → Bool
+abbrev rises : ℕ → List ℕ → Bool
 rises low [] = true
 rises low (x ∷ xs) = nat_le low x && rises (x + 1) xs
 
@@ -91,7 +91,7 @@ first_place n (x ∷ xs) up h = by_test (nat_eq n x)
 
 -- ---- the rows in the slots at rising places
 
-at_number : ℕ → List Value → Numbered
+abbrev at_number : ℕ → List Value → Numbered
 at_number n row = record { number = n + 1; row = row }
 
 later : (n j : ℕ) → n + 1 + j ≡ n + suc j
@@ -104,7 +104,7 @@ kept_row b all n row places ps rest t s e h =
     ∙ ap (λ (c : Bool). cond c (at_number n row ∷ rest) rest) (sym t)
 
 -- where the places are those of the slots that pass a test, the rows are those that pass it
-pub rows_there : (test : Slot → Bool) → test None ≡ false → (all : List Slot) (n : ℕ) (ss : List Slot) (places : List ℕ) → ((j : ℕ) → slot_at all (n + j) ≡ slot_at ss j) → rises n places ≡ true
+rows_there : (test : Slot → Bool) → test None ≡ false → (all : List Slot) (n : ℕ) (ss : List Slot) (places : List ℕ) → ((j : ℕ) → slot_at all (n + j) ≡ slot_at ss j) → rises n places ≡ true
     → ((j : ℕ) → has_place places (n + j) ≡ test (slot_at ss j)) → rows_under all places ≡ filter (λ r. test (Some r.row)) (rows_from (n + 1) ss)
 rows_there test none all n [] [] a up is = refl
 rows_there test none all n [] (p ∷ ps) a up is =

@@ -110,7 +110,10 @@ pub(crate) fn show<S: Store>(rt: &impl Print, alloc: Global, store: &S) -> io::R
             println!(rt; "  key {value}: {at}")?;
         }
     }
-    println!(rt; "  with 10, 11 or 30 {:?}", looked_up(alloc, store, &mut meter)?)?;
+    println!(rt;
+        "  with 10, 11 or 30 {:?}",
+        looked_up(alloc, store, &mut meter)?
+    )?;
     println!(rt; "  handed out {}", meter.count())
 }
 

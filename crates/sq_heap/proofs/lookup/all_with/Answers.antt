@@ -18,5 +18,5 @@ returns c =
     (λ rows h.
     h ∙ ap (rows_under ss) c.as_slice.ensures.value
     ∙ rows_found index ss several places c.requires c.put_in_order.ensures.rising
-    (λ at. c.put_in_order.ensures.same at ∙ ap (λ xs. has_place xs at) c.in_ok-places_of.ensures))
+    (λ at. c.put_in_order.ensures.same at ∙ ap (λ xs. has_place xs at) c.in_ok-places.ensures))
     c.rows_under.ensures
