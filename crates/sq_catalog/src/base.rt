@@ -28,7 +28,7 @@ use crate::bound_reference::{BoundReferences, bound_references};
 use crate::catalog::{Catalog, FullName};
 use crate::check::{CheckedTable, bound_checks};
 use crate::column::{base_columns, columns_of};
-use crate::description::described;
+use crate::description::describe_base;
 use crate::draft::Draft;
 use crate::fault::{ElementFault, refused_if};
 use crate::reference::have_bad_list;
@@ -67,7 +67,7 @@ impl Catalog {
     {
         let columns = columns_of(self.alloc(), draft.columns.as_slice())?;
         match (&*self).checked_base(user, name, columns.as_slice(), &*draft) {
-            Ok(base) => described(self.alloc(), name, columns, base),
+            Ok(base) => describe_base(self.alloc(), name, columns, base),
             Err(fault) => {
                 drop(columns);
                 Err(fault)
@@ -140,7 +140,7 @@ impl Catalog {
         };
         let parts = base_parts(self.alloc(), &table, draft);
         let (bound, parts) = pair_of(bound, parts)?;
-        Ok(assembled(place, draft.keys.primary, bound, parts))
+        Ok(assemble_base(place, draft.keys.primary, bound, parts))
     }
 
     /// The privileges, the number of columns, the place of the table, and how many there are.
@@ -212,8 +212,8 @@ fn base_parts(
     }
 }
 
-/// A base table, and whether the user may make its references.
-fn assembled(
+/// Makes a base table of its parts, and says whether the user may make its references.
+fn assemble_base(
     place: usize,
     primary_key: Option<usize>,
     bound: BoundReferences,

@@ -85,11 +85,11 @@ impl Catalog {
     {
         let user = definition.authorization;
         if let Err(fault) = self.add_user(user) {
-            return Err(placed(fault, text, schema, None));
+            return Err(place_fault(fault, text, schema, None));
         }
         for (number, element) in definition.elements.as_slice().iter().enumerate() {
             if let Err(fault) = self.add_element(user, element) {
-                return Err(placed(fault, text, schema, Some(number)));
+                return Err(place_fault(fault, text, schema, Some(number)));
             }
         }
         Ok(())
@@ -111,8 +111,8 @@ impl Catalog {
     }
 }
 
-/// A fault of an element with the element's place.
-fn placed(fault: ElementFault, text: usize, schema: usize, element: Option<usize>) -> CatalogFault
+/// Adds to an element's fault where the element is.
+fn place_fault(fault: ElementFault, text: usize, schema: usize, element: Option<usize>) -> CatalogFault
     ensures text { IsOfText text result }
     ensures fault { result ≡ placed fault text schema element }
 {

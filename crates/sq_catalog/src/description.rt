@@ -11,7 +11,7 @@ use sq_items::Items;
 use std::alloc::{AllocError, Global};
 
 /// The base table as names see it, whose rows are those of its leaf, and the base table itself.
-pub(crate) fn described(
+pub(crate) fn describe_base(
     alloc: Global,
     name: &FullName,
     columns: Items<Column>,

@@ -81,7 +81,7 @@ fn insert_with_keys(
     ensures keyed { keys_given keys.new.items ≡ keys_of_bases bases.new.items }
     ensures memory { IfErr result (λ fault. fault ≡ NoMemory) }
 {
-    match columns_of_keys(alloc, base.get()) {
+    match key_columns(alloc, base.get().keys.as_slice()) {
         Ok(columns) => insert_with(tables, bases, keys, name, table, base, columns),
         Err(_) => {
             drop(base);
@@ -89,13 +89,6 @@ fn insert_with_keys(
             Err(ElementFault::NoMemory)
         }
     }
-}
-
-/// The columns of each key of a base table.
-fn columns_of_keys(alloc: Global, base: &BaseTable) -> Result<Vec<Vec<usize>>, AllocError>
-    ensures { IfOk result (λ columns. map (λ key. key.items) columns.items ≡ base.now.keys) }
-{
-    key_columns(alloc, base.keys.as_slice())
 }
 
 /// Adds a base table as `insert_base` does, and the columns of its keys.

@@ -19,7 +19,7 @@ ghost use Rattle.sq_catalog.specs.Written.{column_count, names_at};
 use crate::catalog::{Catalog, FullName, full_name};
 use crate::fault::ElementFault;
 use crate::key::is_bad_list;
-use crate::written::{NamedColumns, WrittenReference, names_of, pushed};
+use crate::written::{NamedColumns, WrittenReference, names_of, require_room};
 use sq_bound::{TableDesc, pair_of};
 use sq_items::Items;
 use sq_lex::Name;
@@ -88,7 +88,7 @@ fn add_found<'t>(
 {
     for reference in written {
         let found = found_reference(catalog, own, reference)?;
-        pushed(references.push(found).is_ok())?;
+        require_room(references.push(found).is_ok())?;
     }
     Ok(())
 }

@@ -151,7 +151,7 @@ impl<'t> Written<'t> {
             ++ flat_map (reference_on column.now.name) column.now.constraints) }
         ensures memory { IfErr result (λ fault. fault ≡ NoMemory) }
     {
-        pushed(self.columns.push(column).is_ok())?;
+        require_room(self.columns.push(column).is_ok())?;
         for constraint in column.constraints.as_slice() {
             self.add_constraint(alloc, column.name, constraint)?;
         }
@@ -199,7 +199,7 @@ impl<'t> Written<'t> {
         ensures references { self.new.references ≡ self.old.references }
     {
         let columns = columns?;
-        pushed(
+        require_room(
             self.keys
                 .push(WrittenKey {
                     is_primary,
@@ -223,7 +223,7 @@ impl<'t> Written<'t> {
             ≡ constraints_lent self.old.references.items ++ record { columns = names; to = to.now } ∷ [])) }
     {
         let columns = columns?;
-        pushed(
+        require_room(
             self.references
                 .push(WrittenReference { columns, to })
                 .is_ok(),
@@ -238,12 +238,12 @@ impl<'t> Written<'t> {
             (conditions_lent self.new.checks.items ≡ conditions_lent self.old.checks.items ++ cond.now ∷ []) }
         ensures references { self.new.references ≡ self.old.references }
     {
-        pushed(self.checks.push(cond).is_ok())
+        require_room(self.checks.push(cond).is_ok())
     }
 }
 
 /// Out of memory, unless a push found room.
-pub(crate) fn pushed(found_room: bool) -> Result<(), ElementFault>
+pub(crate) fn require_room(found_room: bool) -> Result<(), ElementFault>
     ensures room { OnOk result (found_room ≡ true) }
     ensures memory { IfErr result (λ fault. fault ≡ NoMemory) }
 {
@@ -345,7 +345,7 @@ pub(crate) fn typed_columns<'t>(
     let mut typed = Vec::new(alloc);
     for definition in definitions {
         let column = typed_column(definition)?;
-        pushed(typed.push(column).is_ok())?;
+        require_room(typed.push(column).is_ok())?;
     }
     Ok(typed)
 }

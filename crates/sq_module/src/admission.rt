@@ -15,7 +15,7 @@ ghost use Rattle.sq_module.specs.FirstRefusal.{IsFaultFor, item_refusal, procedu
 ghost use Rattle.sq_module.specs.Written.{AreOfTexts, IsOfText, IsProcedureOf};
 ghost use Rattle.sq_module.specs.Refusal.{AreAdmissible, IsAdmissible, IsOfModule, IsOfSomeModule, has_open_count};
 
-use crate::declared::{has_bad_status, is_new, listed};
+use crate::declared::{has_bad_status, is_new, list_declarations};
 use crate::items::{cursors_of, procedures_of};
 use crate::opener::Openers;
 use crate::refusal::{ModuleRefusal, SessionFault, refused_at};
@@ -241,7 +241,7 @@ fn is_of_bad_status(alloc: Global, item: &ModuleItem) -> Result<bool, AllocError
 {
     match item {
         ModuleItem::Procedure(procedure) => {
-            let declarations = listed(alloc, &procedure.declarations)?;
+            let declarations = list_declarations(alloc, &procedure.declarations)?;
             Ok(has_bad_status(declarations.as_slice()))
         }
         ModuleItem::Cursor(_) => Ok(false),

@@ -27,14 +27,14 @@ impl<'a> Cursors for ModuleCursors<'a> {
 
     fn cursor(&self, name: Name) -> Option<KnownCursor<'_>> {
         match self.numbers.get(&name) {
-            Some(number) => Some(known(self.cursors, *number)),
+            Some(number) => Some(lend_cursor(self.cursors, *number)),
             None => None,
         }
     }
 }
 
 /// The cursor with this number.
-fn known(cursors: &[DeclaredCursor], number: usize) -> KnownCursor<'_>
+fn lend_cursor(cursors: &[DeclaredCursor], number: usize) -> KnownCursor<'_>
     requires { number < length cursors.now }
     ensures { cursor_at cursors.now number ≡ Some (named_cursor_of result) }
 {

@@ -22,20 +22,20 @@ use std::alloc::{AllocError, Global};
 /// The greatest number of named parameters (own rule).
 const MOST_PARAMETERS: usize = 64;
 
-/// The declarations in their order.
-pub(crate) fn listed(
+/// The declarations in their order, however they are written.
+pub(crate) fn list_declarations(
     alloc: Global,
     declarations: &Declarations,
 ) -> Result<Items<Declaration>, AllocError>
     ensures { IfOk result (λ list. list ≡ declarations_of declarations.now) }
 {
     match declarations {
-        Declarations::Bracketed(list) => bracketed(alloc, &list.first, list.rest.as_slice()),
-        Declarations::Bare(first, rest) => bare(alloc, first, rest.as_slice()),
+        Declarations::Bracketed(list) => list_bracketed(alloc, &list.first, list.rest.as_slice()),
+        Declarations::Bare(first, rest) => list_bare(alloc, first, rest.as_slice()),
     }
 }
 
-fn bracketed(
+fn list_bracketed(
     alloc: Global,
     first: &Declaration,
     rest: &[Declaration],
@@ -50,7 +50,7 @@ fn bracketed(
     Ok(list)
 }
 
-fn bare(
+fn list_bare(
     alloc: Global,
     first: &Declaration,
     rest: &[BareDeclaration],

@@ -17,7 +17,7 @@ ghost use Rattle.sq_module.specs.Written.{Declare, IsCursorIn, IsProcedureOf};
 ghost use Rattle.sq_module.specs.Refusal.{IsOfModule};
 
 use crate::admission::AdmittedProcedure;
-use crate::declared::{listed, parameters_of};
+use crate::declared::{list_declarations, parameters_of};
 use crate::refusal::{SessionFault, refusal_at};
 use indexmap::IndexMap;
 use sq_lex::Name;
@@ -150,7 +150,7 @@ fn add_procedure<'a>(
 {
     match item {
         ModuleItem::Procedure(procedure) => {
-            let one = admitted(alloc, text, place, procedure)?;
+            let one = admit_procedure(alloc, text, place, procedure)?;
             procedures.push(one)?;
             Ok(())
         }
@@ -158,7 +158,8 @@ fn add_procedure<'a>(
     }
 }
 
-fn admitted<'a>(
+/// Checks the parameters of a procedure.
+fn admit_procedure<'a>(
     alloc: Global,
     text: usize,
     place: usize,
@@ -172,7 +173,7 @@ fn admitted<'a>(
     ensures bad { IfErr result (IsFaultAt text place fault.BadParameter
         (has_bad_declared (parameter_declarations procedure.now) ≡ true)) }
 {
-    let declarations = listed(alloc, &procedure.declarations)?;
+    let declarations = list_declarations(alloc, &procedure.declarations)?;
     let parameters = parameters_of(alloc, declarations.as_slice());
     drop(declarations);
     match parameters? {

@@ -93,7 +93,7 @@ impl Program {
                     user: module.user,
                     cursor,
                 })?;
-                named(numbers.insert(name, number).is_ok())?;
+                require_kept(numbers.insert(name, number).is_ok())?;
                 Ok(())
             }
             None => Ok(()),
@@ -112,7 +112,8 @@ fn without_fault<T: Drop>(bound: Result<T, Stop>) -> Result<Option<T>, AllocErro
     }
 }
 
-fn named(is_kept: bool) -> Result<(), AllocError>
+/// Out of memory, unless a value was kept.
+fn require_kept(is_kept: bool) -> Result<(), AllocError>
     ensures { OnOk result (is_kept ≡ true) }
 {
     if is_kept { Ok(()) } else { Err(AllocError) }

@@ -102,7 +102,7 @@ impl Program {
             module: module.name,
             name: admitted.procedure.name,
         };
-        inserted(&mut self.procedures, name, bound)
+        insert_procedure(&mut self.procedures, name, bound)
     }
 }
 
@@ -146,7 +146,7 @@ fn bound_procedure(
 }
 
 /// Gives a value the name of a procedure.
-fn inserted<T: Drop>(
+fn insert_procedure<T: Drop>(
     named: &mut IndexMap<ProcedureName, T>,
     name: ProcedureName,
     value: T,

@@ -16,7 +16,7 @@ ghost use Rattle.sq_perform.specs.Refused.{AreDeclared};
 ghost use Rattle.sq_perform.specs.Texts.{AllSpell, texts};
 ghost use Rattle.sq_perform.specs.declared.fault.Fault.TheVariants.{NoMemory};
 
-use crate::prepare::{built, module_fault, refused_module, schema_fault};
+use crate::prepare::{build_catalog, module_fault, refused_module, schema_fault};
 use crate::refusal::RunFault;
 use crate::texts::{TextFault, read_all};
 use sq_catalog::Catalog;
@@ -95,7 +95,7 @@ pub fn check(alloc: Global, schemas: &[Vec<u8>], modules: &[Vec<u8>]) -> Result<
     // What `run` says of a refusal of a schema or a module.
     ensures refused { IfErr result (IsOpeningFault (texts schemas.now) (texts modules.now)) }
 {
-    match described(alloc, schemas) {
+    match read_definitions(alloc, schemas) {
         Ok(described) => check_over(alloc, described, modules),
         Err(fault) => Err(schema_fault(fault)),
     }
@@ -128,8 +128,8 @@ fn check_over(
     }
 }
 
-/// What the schema texts define, and what is to be said of them.
-fn described(alloc: Global, schemas: &[Vec<u8>]) -> Result<Definitions, TextFault>
+/// The catalog that the schema texts define, and the notes about them.
+fn read_definitions(alloc: Global, schemas: &[Vec<u8>]) -> Result<Definitions, TextFault>
     ensures declared { IfOk result (λ _. AreDeclared (texts schemas.now)) }
     ensures checked { IfOk result (λ d. spec.SchemasAreChecked (texts schemas.now) d.catalog d.notes.items) }
     ensures refused { IfErr result (SomeRefused schema_rule schema_tokens schema_depth (texts schemas.now)) }
@@ -153,7 +153,7 @@ fn described_by(
     ensures refused { IfErr result (SomeRefused schema_rule schema_tokens schema_depth (texts schemas.now)) }
     ensures first { IfErr result (IsSchemaFault (texts schemas.now)) }
 {
-    let catalog = built(alloc, schemas, trees)?;
+    let catalog = build_catalog(alloc, schemas, trees)?;
     match schema_notes(alloc, &catalog, schemas, trees) {
         Ok(notes) => Ok(Definitions { catalog, notes }),
         Err(_) => {
@@ -275,7 +275,7 @@ fn notes_at(
     let mut place = Position::of(text, 0);
     for mark in marks {
         let start = start_of(tokens, mark.token);
-        place = moved(text, byte, place, start);
+        place = move_position(text, byte, place, start);
         byte = start;
         notes.push(note_of(mark, place))?;
     }
@@ -305,18 +305,18 @@ fn note_of(mark: &Mark, place: Position) -> Note
 }
 
 /// The position of a byte, from that of another one.
-fn moved(text: &[u8], from: usize, place: Position, to: usize) -> Position
+fn move_position(text: &[u8], from: usize, place: Position, to: usize) -> Position
     requires { place ≡ position text.now from }
     ensures { result ≡ position text.now to }
 {
     if from > to || to >= text.len() {
         return Position::of(text, to);
     }
-    further(place, Position::of(&text[from..], to - from))
+    advance(place, Position::of(&text[from..], to - from))
 }
 
-/// The position `by` behind `from`, where `by` counts from the start of a text.
-fn further(from: Position, by: Position) -> Position
+/// The position `by` after `from`; `by` counts from the start of a text.
+fn advance(from: Position, by: Position) -> Position
     requires byte { from.byte + by.byte < 2 ^ 64 }
     requires line { from.line + (by.line - 1) < 2 ^ 64 }
     requires column { from.column + (by.column - 1) < 2 ^ 64 }

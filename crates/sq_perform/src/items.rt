@@ -40,13 +40,14 @@ pub(crate) fn action_of<S: Store>(
             module,
             procedure,
             arguments,
-        } => called(alloc, session, *module, *procedure, arguments),
-        ScriptItem::Table { schema, table } => shown(session, *schema, *table),
+        } => find_call(alloc, session, *module, *procedure, arguments),
+        ScriptItem::Table { schema, table } => find_table(session, *schema, *table),
     }
 }
 
+/// An item CALL with its procedure looked up.
 #[tactic(auto, using(crate::proofs::Taken::call_of_known))]
-fn called<S: Store>(
+fn find_call<S: Store>(
     alloc: Global,
     session: &Session<S>,
     module: Name,
@@ -75,7 +76,8 @@ fn called<S: Store>(
     }))
 }
 
-fn shown<S: Store>(session: &Session<S>, user: Name, name: Name) -> Result<Action, ItemFault>
+/// An item TABLE with its table looked up.
+fn find_table<S: Store>(session: &Session<S>, user: Name, name: Name) -> Result<Action, ItemFault>
     ensures action { IfOk result (λ action. item_of action ≡ item_of_script (script.Table user name)) }
     ensures prepared { IfOk result (IsPrepared session.now) }
     ensures taken { IfOk result (λ _. IsTaken session.now (script.Table user name)) }

@@ -86,13 +86,13 @@ fn read_schemas(alloc: Global, schemas: &[Vec<u8>]) -> Result<Catalog, TextFault
     ensures first { IfErr result (IsSchemaFault (texts schemas.now)) }
 {
     let trees = read_all::<SchemaText>(alloc, schemas)?;
-    let answer = built(alloc, schemas, trees.as_slice());
+    let answer = build_catalog(alloc, schemas, trees.as_slice());
     drop(trees);
     answer
 }
 
-/// What the trees of the schema texts define.
-pub(crate) fn built(
+/// The catalog that the trees of the schema texts define, or the first text that is refused.
+pub(crate) fn build_catalog(
     alloc: Global,
     schemas: &[Vec<u8>],
     trees: &[SchemaText],

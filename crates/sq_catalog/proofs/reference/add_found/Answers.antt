@@ -20,8 +20,8 @@ returns-in_err-found-clause-exact c =
     (made_stops (found_reference (declared c.args.catalog.now) own.user (name_in own.full_name) (names_at own.columns.now)) reference_seen c.args.written.now c.loop-reference.reference-index c.reference-item.result
     (map found_seen c.loop-reference.references.items) fault c.loop-reference-test.true c.reference-item.is c.loop-reference.invariant.exact c.in_err-found.ensures.exact)
 
-pub returns-in_err-pushed-clause-exact : goal.returns-in_err-pushed-clause-exact
-returns-in_err-pushed-clause-exact c = handed_on _ _ c.from_residual-in_err-pushed.result c.in_err-pushed.field-0.0 c.from_residual-in_err-pushed.ensures.1 (no_memory _ c.in_err-pushed.field-0.0 c.in_err-pushed.ensures.memory)
+pub returns-in_err-require_room-clause-exact : goal.returns-in_err-require_room-clause-exact
+returns-in_err-require_room-clause-exact c = handed_on _ _ c.from_residual-in_err-require_room.result c.in_err-require_room.field-0.0 c.from_residual-in_err-require_room.ensures.1 (no_memory _ c.in_err-require_room.field-0.0 c.in_err-require_room.ensures.memory)
 
 pub loop-reference-preserved : goal.loop-reference-preserved
 loop-reference-preserved c =
@@ -29,7 +29,7 @@ loop-reference-preserved c =
     let found = c.in_ok-found.found in
     let before : List FoundReference = c.loop-reference.references.items in
     let added : c.push.new.self.items ≡ before ++ found ∷ [] =
-    c.push.ensures.items ∙ ap (λ b. if b then before ++ found ∷ [] else before) (sym c.is_ok.ensures.value ∙ c.in_ok-pushed.ensures.room) in
+    c.push.ensures.items ∙ ap (λ b. if b then before ++ found ∷ [] else before) (sym c.is_ok.ensures.value ∙ c.in_ok-require_room.ensures.room) in
     let IsHere = IsFound c.args.catalog.now.bases (column_count own.columns.now) in
     record {
       found = subst (All IsHere) (sym added) (all_with IsHere before found c.loop-reference.invariant.found c.in_ok-found.ensures.found);

@@ -18,10 +18,10 @@ returns-in_err-column-clause-exact c =
     (made_stops typed_column (λ (w : Bor ColumnDefinition). w.now) c.args.definitions.now c.loop-definition.definition-index c.definition-item.result (map typed_seen c.loop-definition.typed.items) fault
     c.loop-definition-test.true c.definition-item.is c.loop-definition.invariant.exact c.in_err-column.ensures.exact)
 
-pub returns-in_err-pushed-clause-exact : goal.returns-in_err-pushed-clause-exact
-returns-in_err-pushed-clause-exact c =
-    handed_on (λ typed. map typed_seen typed.items) (each typed_column (definitions_lent c.args.definitions.now)) c.from_residual-in_err-pushed.result c.in_err-pushed.field-0.0 c.from_residual-in_err-pushed.ensures.1
-    (no_memory (each typed_column (definitions_lent c.args.definitions.now)) c.in_err-pushed.field-0.0 c.in_err-pushed.ensures.memory)
+pub returns-in_err-require_room-clause-exact : goal.returns-in_err-require_room-clause-exact
+returns-in_err-require_room-clause-exact c =
+    handed_on (λ typed. map typed_seen typed.items) (each typed_column (definitions_lent c.args.definitions.now)) c.from_residual-in_err-require_room.result c.in_err-require_room.field-0.0 c.from_residual-in_err-require_room.ensures.1
+    (no_memory (each typed_column (definitions_lent c.args.definitions.now)) c.in_err-require_room.field-0.0 c.in_err-require_room.ensures.memory)
 
 pub loop-definition-preserved : goal.loop-definition-preserved
 loop-definition-preserved c =
@@ -30,7 +30,7 @@ loop-definition-preserved c =
     let here = c.definition-item.result in
     let i = c.loop-definition.definition-index in
     let added : c.push.new.self.items ≡ before ++ column ∷ [] =
-    c.push.ensures.items ∙ ap (λ b. if b then before ++ column ∷ [] else before) (sym c.is_ok.ensures.value ∙ c.in_ok-pushed.ensures.room) in
+    c.push.ensures.items ∙ ap (λ b. if b then before ++ column ∷ [] else before) (sym c.is_ok.ensures.value ∙ c.in_ok-require_room.ensures.room) in
     record {
       count = ap length added ∙ length-append before (column ∷ []) ∙ ap (λ n. n + 1) c.loop-definition.invariant.count;
       definitions =

@@ -31,7 +31,7 @@ loop-number-preserved c =
 pub returns-in-Err-clause-exact : goal.returns-in-Err-clause-exact
 returns-in-Err-clause-exact c =
     let d = c.args.definition.now in
-    subst (StopsAt (with_parts (parts_of_schema c.args.text (c.args.schema, d)) (declared c.args.self.now))) (sym c.placed.ensures.fault)
+    subst (StopsAt (with_parts (parts_of_schema c.args.text (c.args.schema, d)) (declared c.args.self.now))) (sym c.place_fault.ensures.fault)
     (user_stops c.args.text c.args.schema d (declared c.args.self.now) c.in-Err.fault c.in-Err.ensures.exact)
 
 pub returns-in-Err-add_element-clause-exact : goal.returns-in-Err-add_element-clause-exact
@@ -40,5 +40,5 @@ returns-in-Err-add_element-clause-exact c =
     let lt = rw c.as_slice-element-items.ensures at c.loop-number-test.true in
     let is = rw c.as_slice-element-items.ensures at c.element-item.is in
     let whole = with_parts (parts_of_schema c.args.text (c.args.schema, d)) (declared c.args.self.now) in
-    subst (StopsAt whole) (sym c.placed-in-Err-add_element.ensures.fault)
+    subst (StopsAt whole) (sym c.place_fault-in-Err-add_element.ensures.fault)
     (element_stops c.args.text c.args.schema d whole c.loop-number.number c.element-item.result (declared c.loop-number.self) c.in-Err-add_element.fault lt is c.loop-number.invariant.2 c.in-Err-add_element.ensures.exact)

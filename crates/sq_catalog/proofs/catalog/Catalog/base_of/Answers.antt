@@ -1,4 +1,4 @@
--- Left open: the call of assembled, and the clauses checks and exact; answered by Stored and others.
+-- Left open: the call of assemble_base, and the clauses checks and exact; answered by Stored and others.
 use Rattle.std.proofs.Common.{◌≡◌, List, length, map, ap, Ok, IfOk, sym, subst, ◌∙◌}
 use Rattle.sq_bound.specs.declared.condition.BoundCond.{BoundCond}
 use Rattle.sq_binding.specs.Seen.{cond_seen}
@@ -14,8 +14,8 @@ use Rattle.sq_catalog.proofs.CreateTable.TablesMade.{base_is, base_stop, own_her
 use Rattle.sq_catalog.proofs.OneByOne.Turns.{handed_on}
 use Rattle.sq_catalog.proofs.catalog.Catalog.base_of.Goals as goal
 
-pub assembled-requires-clause-references : goal.assembled-requires-clause-references
-assembled-requires-clause-references c =
+pub assemble_base-requires-clause-references : goal.assemble_base-requires-clause-references
+assemble_base-requires-clause-references c =
     let bound = rw c.in_ok-bound.ensures.values.0 at c.bound_references-bound.ensures.refer in
     let parts = rw c.in_ok-bound.ensures.values.1 at c.base_parts-parts.ensures.count in
     by_keys_at (keys_with c.bases.result.now c.args.draft.now.keys.columns) (length c.in_ok-bound.parts.columns) (length c.args.columns.now) c.in_ok-bound.bound.references
@@ -24,7 +24,7 @@ assembled-requires-clause-references c =
 pub returns-clause-checks : goal.returns-clause-checks
 returns-clause-checks c =
     let parts = rw c.in_ok-bound.ensures.values.1 at c.base_parts-parts.ensures.checks in
-    subst (λ (cs : List BoundCond). AreChecksMade c.args.user c.args.name.now c.args.columns.now (conditions_lent c.args.draft.now.written.checks.items) cs) (sym c.assembled.ensures.parts.checks) parts
+    subst (λ (cs : List BoundCond). AreChecksMade c.args.user c.args.name.now c.args.columns.now (conditions_lent c.args.draft.now.written.checks.items) cs) (sym c.assemble_base.ensures.parts.checks) parts
 
 pub returns-in_err-bound-clause-exact : goal.returns-in_err-bound-clause-exact
 returns-in_err-bound-clause-exact c =
@@ -50,8 +50,8 @@ returns-clause-exact c =
     let references = subst (λ (fs : List FoundReference). Makes (λ bound. (bound.references, bound.are_permitted)) (references_made (bound_reference catalog c.args.user (own_here catalog c.args.user c.args.name.now draft columns before)) (map found_seen fs)) c.bound_references-bound.result)
     c.as_slice.ensures.value c.bound_references-bound.ensures.exact in
     base_is catalog c.args.user c.args.name.now draft columns before c.requires.draft.of c.requires.draft.named c.requires.columns.seen (ap length c.bases.ensures ∙ sym c.next_base-place.ensures.place ∙ c.next_base-place.ensures.exact)
-    c.assembled.result.0 c.assembled.result.1 parts.columns parts.checks
-    (subst (Makes (λ bound. (bound.references, bound.are_permitted)) (references_here catalog c.args.user c.args.name.now draft columns before)) c.in_ok-bound.ensures.values.0 references ∙ (λ i. Ok (sym c.assembled.ensures.references.0 i, sym c.assembled.ensures.references.1 i)))
+    c.assemble_base.result.0 c.assemble_base.result.1 parts.columns parts.checks
+    (subst (Makes (λ bound. (bound.references, bound.are_permitted)) (references_here catalog c.args.user c.args.name.now draft columns before)) c.in_ok-bound.ensures.values.0 references ∙ (λ i. Ok (sym c.assemble_base.ensures.references.0 i, sym c.assemble_base.ensures.references.1 i)))
     (subst (Makes (λ parts. (map cond_seen parts.checks, held_declared draft.columns.items parts.columns)) (parts_here catalog c.args.user c.args.name.now draft columns before)) c.in_ok-bound.ensures.values.1 c.base_parts-parts.ensures.exact)
-    (c.assembled.ensures.place ∙ c.next_base-place.ensures.exact) c.assembled.ensures.parts.columns
-    (c.assembled.ensures.parts.keys ∙ subst (λ r. IfOk r (λ parts. parts.keys ≡ draft.keys.columns)) c.in_ok-bound.ensures.values.1 c.base_parts-parts.ensures.keys) c.assembled.ensures.primary c.assembled.ensures.parts.checks
+    (c.assemble_base.ensures.place ∙ c.next_base-place.ensures.exact) c.assemble_base.ensures.parts.columns
+    (c.assemble_base.ensures.parts.keys ∙ subst (λ r. IfOk r (λ parts. parts.keys ≡ draft.keys.columns)) c.in_ok-bound.ensures.values.1 c.base_parts-parts.ensures.keys) c.assemble_base.ensures.primary c.assemble_base.ensures.parts.checks

@@ -1,4 +1,4 @@
--- Left open: the calls of described and checked_base, and the clauses next, base and exact; answered by Stored, Seen and TablesMade.
+-- Left open: the calls of describe_base and checked_base, and the clauses next, base and exact; answered by Stored, Seen and TablesMade.
 use Rattle.std.proofs.Common.{◌≡◌, List, Ok, length, map, ap, sym, subst, ◌∙◌}
 use Rattle.sq_bound.specs.declared.names.Column.{Column}
 use Rattle.sq_bound.specs.WellFormed.{kinds_of_columns}
@@ -14,8 +14,8 @@ use Rattle.sq_catalog.proofs.Meaning.Seen.{columns_counted, columns_seen, kinds_
 use Rattle.sq_catalog.proofs.CreateTable.TablesMade.{described_base, described_makes}
 use Rattle.sq_catalog.proofs.catalog.Catalog.table_of.Goals as goal
 
-pub described-requires : goal.described-requires
-described-requires c =
+pub describe_base-requires : goal.describe_base-requires
+describe_base-requires c =
     let kinds = c.in-Ok.ensures.base.kinds ∙ ap kinds_of_columns c.as_slice-2.ensures ∙ c.in_ok-columns.ensures.over.kinds_are in
     record {
       columns = record {
@@ -38,18 +38,18 @@ checked_base-requires-clause-columns c =
 pub returns-in-Ok-clause-next : goal.returns-in-Ok-clause-next
 returns-in-Ok-clause-next c =
     let lent = ap kinds_of_columns c.as_slice-2.ensures in
-    next_of c.args.self.now.bases c.args.name.now c.in_ok-columns.columns (length c.as_slice-2.result.now) c.in-Ok.base c.described.result c.described.ensures.base c.described.ensures.table
+    next_of c.args.self.now.bases c.args.name.now c.in_ok-columns.columns (length c.as_slice-2.result.now) c.in-Ok.base c.describe_base.result c.describe_base.ensures.base c.describe_base.ensures.table
     c.in-Ok.ensures.base.place (sym (c.in-Ok.ensures.base.kinds ∙ lent)) c.in_ok-columns.ensures.places
     (subst (λ ks. AreChecksAt (length c.args.self.now.bases) ks c.in-Ok.base.checks) lent c.in-Ok.ensures.checks) c.in-Ok.ensures.base.refer
 
 pub returns-in-Ok-clause-base : goal.returns-in-Ok-clause-base
 returns-in-Ok-clause-base c =
-    described_base c.described.result c.args.self.now.bases c.args.draft.now c.args.name.now c.in_ok-columns.columns c.in-Ok.base c.described.ensures.base c.described.ensures.table
+    described_base c.describe_base.result c.args.self.now.bases c.args.draft.now c.args.name.now c.in_ok-columns.columns c.in-Ok.base c.describe_base.ensures.base c.describe_base.ensures.table
     (subst (λ (cs : List Column). IsBaseFor c.args.self.now.bases c.args.draft.now cs c.in-Ok.base) c.as_slice-2.ensures c.in-Ok.ensures.base)
 
 pub returns-in-Ok-clause-exact : goal.returns-in-Ok-clause-exact
 returns-in-Ok-clause-exact c =
     let draft = c.args.draft.now in
     let table = drafted_table (declared c.args.self.now) c.args.user draft.definition.now (draft_seen draft) in
-    described_makes table c.described.result c.args.name.now c.in_ok-columns.columns c.in-Ok.base
-    (subst (λ (columns : List Column). table ≡ Ok (base_declared c.args.name.now columns c.in-Ok.base)) c.as_slice-2.ensures c.in-Ok.ensures.exact) c.described.ensures.base c.described.ensures.table c.described.ensures.memory
+    described_makes table c.describe_base.result c.args.name.now c.in_ok-columns.columns c.in-Ok.base
+    (subst (λ (columns : List Column). table ≡ Ok (base_declared c.args.name.now columns c.in-Ok.base)) c.as_slice-2.ensures c.in-Ok.ensures.exact) c.describe_base.ensures.base c.describe_base.ensures.table c.describe_base.ensures.memory

@@ -22,7 +22,7 @@ returns-clause-in_order c =
     let fits : FitsProcedure c.args.catalog.now.bases (length cursors) c.in_ok-bound.bound = rw c.as_slice.ensures.value at c.in_ok-bound.ensures.fits in
     let formed : ProcedureIsWellFormed columns (kinds_of_cursors cursors) c.in_ok-bound.bound = rw c.as_slice.ensures.value at c.in_ok-bound.ensures.well_formed in
     let opens : ProcedureOpens columns cursors c.in_ok-bound.bound = rw c.as_slice.ensures.value at c.in_ok-bound.ensures.opens in
-    on_ok_weaker c.inserted.result (λ is. record {
+    on_ok_weaker c.insert_procedure.result (λ is. record {
       fits = (before.fits.0, procedure_added (FitsProcedure _ _) _ _ _ _ is before.fits.1 fits);
       well_formed = (
         before.well_formed.0,
@@ -30,7 +30,7 @@ returns-clause-in_order c =
         procedure_added (ProcedureOpens _ _) _ _ _ _ is before.well_formed.2 opens,
       );
       apart = before.apart;
-    }) c.inserted.ensures.entries
+    }) c.insert_procedure.ensures.entries
 
 pub returns-clause-written : goal.returns-clause-written
 returns-clause-written c =
@@ -39,7 +39,7 @@ returns-clause-written c =
     let numbers_here : AreNumbers (known c.args.catalog.now) m c.as_slice.result.now c.args.numbers.now.entries = rw c.as_slice.ensures.value numbers in
     let one : IsBoundFrom (known c.args.catalog.now) m cursors c.args.admitted.now.procedure.now c.in_ok-bound.bound
     = rw c.as_slice.ensures.value at (c.in_ok-bound.ensures.written m (of.user) is_procedure numbers_here) in
-    on_ok_weaker c.inserted.result (λ is. procedure_next (known c.args.catalog.now) texts m cursors _ _ _ c.args.admitted.now.procedure.now _ is among of.name is_procedure.0 refl one before) c.inserted.ensures.entries
+    on_ok_weaker c.insert_procedure.result (λ is. procedure_next (known c.args.catalog.now) texts m cursors _ _ _ c.args.admitted.now.procedure.now _ is among of.name is_procedure.0 refl one before) c.insert_procedure.ensures.entries
 
 pub returns-clause-computed : goal.returns-clause-computed
 returns-clause-computed c =
@@ -51,4 +51,4 @@ returns-clause-computed c =
     let here : IsComputed (statement_bound (names c.args.«module».now.user) (declared p.parameters) (cursors_named cursors numbers) p.procedure.now.statement) c.in_ok-bound.bound.statement
     = rw c.as_slice.ensures.value at c.in_ok-bound.ensures.computed in
     let one = procedure_computed names m c.args.«module».now p (cursors_named cursors numbers) (number_in numbers) c.in_ok-bound.bound.statement of is_procedure named here in
-    on_ok_weaker c.inserted.result (λ is. procedures_computed names texts m _ _ _ p.procedure.now (number_in numbers) _ is among of.name is_procedure.0 refl one before) c.inserted.ensures.entries
+    on_ok_weaker c.insert_procedure.result (λ is. procedures_computed names texts m _ _ _ p.procedure.now (number_in numbers) _ is among of.name is_procedure.0 refl one before) c.insert_procedure.ensures.entries
