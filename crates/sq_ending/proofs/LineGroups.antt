@@ -103,12 +103,12 @@ module _ (P : Placed → Type 0) where
 
 all_ends : {A B : Type 0} (f : A → Outcome B) (t : Status) → ((x : A) (s : Status) → f x ≡ Err s → s ≡ t) → (xs : List A) (s : Status) → each f xs ≡ Err s → s ≡ t
 all_ends f t so [] s h = absurd cc
-all_ends {A} {B} f t so (x ∷ xs) s h = by (f x) (each f xs) refl refl h
+all_ends {A} {B} f t so (x ∷ xs) s h = by (f x) (each f xs) (all_ends f t so xs s) refl refl h
   where
-    by : (o : Outcome B) (r : Outcome (List B)) → f x ≡ o → each f xs ≡ r → and_then o (λ y. and_then r (λ ys. Ok (y ∷ ys))) ≡ Err s → s ≡ t
-    by (Err u) r first rest e = so x s (first ∙ cc)
-    by (Ok y) (Err u) first rest e = all_ends f t so xs s (rest ∙ cc)
-    by (Ok y) (Ok ys) first rest e = absurd cc
+    by : (o : Outcome B) (r : Outcome (List B)) → (each f xs ≡ Err s → s ≡ t) → f x ≡ o → each f xs ≡ r → and_then o (λ y. and_then r (λ ys. Ok (y ∷ ys))) ≡ Err s → s ≡ t
+    by (Err u) r later first rest e = so x s (first ∙ cc)
+    by (Ok y) (Err u) later first rest e = later (rest ∙ cc)
+    by (Ok y) (Ok ys) later first rest e = absurd cc
 
 value_ends : (o : Option Value) (s : Status) → well_formed o ≡ Err s → s ≡ SyntaxErrorOrAccessRuleViolation
 value_ends (Some v) s h = absurd cc

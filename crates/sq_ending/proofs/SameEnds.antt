@@ -15,7 +15,7 @@ use Rattle.sq_bound.specs.Condition as condition
 use Rattle.sq_bound.specs.Condition.{Groups, clause_of, groups_if, select_of}
 use Rattle.sq_bound.specs.Expression.{expr_of, place_meant}
 use Rattle.sq_bound.specs.SetFunction.{call_of}
-use Rattle.sq_bound.specs.declared.condition.BoundSpecification.{BoundSpecification}
+use Rattle.sq_bound.specs.declared.condition.BoundSpecification.{BoundSpecification, out-BoundSpecification}
 use Rattle.sq_bound.specs.declared.condition.Grouping.{Grouping, out-Grouping}
 use Rattle.sq_bound.specs.declared.condition.TablePlace.{TablePlace}
 use Rattle.sq_bound.specs.declared.expression.BoundExpr.{BoundExpr}

@@ -1,9 +1,11 @@
 -- The first group for which HAVING or an item of a list ends with a status, group by group.
 use Rattle.std.proofs.Common.{◌≡◌, inr, ℕ, ◌+◌, ◌<◌, ◌≤◌, Bool, true, false, List, [], ◌∷◌, ◌++◌, length, take, drop, get_or, Option, Some, None, Result, refl, sym, ◌∙◌, ap, subst, Ok, Err}
 use Rattle.std.specs.Prelude.{if◌then◌else◌, IfOk}
+use Rattle.std.specs.List.{AllByRecursion}
 use Rattle.std.specs.declared.alloc.AllocError.{AllocError}
 use Rattle.std.proofs.lemmas.List.{drop_more, take-append-drop, take_all, take_more}
 use Rattle.sq_value.specs.declared.value.Value.{Value}
+use Rattle.sq_meaning.specs.Environment.{Row}
 use Rattle.sq_meaning.specs.Status.{Outcome, and_then, kept}
 use Rattle.sq_meaning.specs.declared.status.Status.{Status}
 use Rattle.sq_meaning.proofs.OutcomeLaws.{both_lists}
@@ -14,14 +16,17 @@ use Rattle.sq_condition.proofs.Right.{right_first, right_same}
 use Rattle.sq_expression.specs.Fault.{IsRight}
 use Rattle.sq_expression.specs.declared.context.Context.{Context}
 use Rattle.sq_expression.proofs.Kept.{no_status}
+use Rattle.sq_ending.specs.Ending.{IsOfGroup}
 use Rattle.sq_ending.specs.Functions.{IsEndOf}
 use Rattle.sq_ending.specs.Grouped.{AreEndedBy}
+use Rattle.sq_ending.specs.Kept.{IsPlaced, lines_of}
 use Rattle.sq_ending.specs.Shown.{AreEnded, FindsItem, FindsOn, InGroup, IsFirstGroup, IsToldBy, met_by, shown_by, value_by}
 use Rattle.sq_ending.specs.Walk.{IsFineOn, is_met, listed}
 use Rattle.sq_ending.specs.declared.ends.Clause.{Clause}
 use Rattle.sq_ending.specs.declared.ends.Clause.TheVariants as clause
 use Rattle.sq_ending.specs.declared.ends.QueryEnd.{QueryEnd}
 use Rattle.sq_ending.specs.declared.functions.Valued.{Valued}
+use Rattle.sq_ending.specs.declared.kept.Placed.{Placed}
 use Rattle.sq_ending.specs.declared.shown.GroupWalk.{GroupWalk}
 
 -- ---- tests along a list
@@ -88,6 +93,11 @@ module _ (g : Grouping) (context : Context) (list : List BoundExpr) (groups : Li
 
 pub all_fine : (g : Grouping) (context : Context) (list : List BoundExpr) (groups : List Valued) (i : ℕ) → length groups ≤ i → IsFineOn (met_by g context list) (take i groups) → IsFineOn (met_by g context list) groups
 all_fine g context list groups i past = subst (λ (xs : List Valued). IsFineOn (met_by g context list) xs) (take_all i groups past)
+
+-- the line that is told is the first of the group's lines, as they were lent
+pub told_by : (group : Valued) (given : List Placed) → given ≡ group.lines.items → (e : QueryEnd) → ((items : List (List Row)) → AllByRecursion (IsPlaced items) given → IsOfGroup items e.line.items (lines_of given)) → IsToldBy group e
+told_by group given same e told = λ items all.
+    subst (λ (ls : List Placed). IsOfGroup items e.line.items (lines_of ls)) same (told items (subst (AllByRecursion (IsPlaced items)) (sym same) all))
 
 -- ---- one group
 

@@ -1,6 +1,6 @@
 //! Where a query specification with groups ends with a status behind WHERE (ISO/IEC 9075:1992, 7.7 to 7.9).
 
-ghost use Rattle.std.specs.Prelude.{◌≡◌, IfOk, None, Some};
+ghost use Rattle.std.specs.Prelude.{◌≡◌, [], IfOk, None, Some};
 ghost use Rattle.sq_bound.specs.declared.condition.BoundSpecification.{out-BoundSpecification};
 ghost use Rattle.sq_condition.specs.Subquery.{KnowsGrouping, KnowsQuery, Remembers};
 ghost use Rattle.sq_condition.specs.Specification.{rows_meant};
@@ -83,16 +83,33 @@ fn end_in_groups<'m>(
         → Remembers context.now (KnowsQuery context.now query.now) memo.old memo.new
         (EndsInGroups context.now query.now grouping.now groups.entry.items result) }
 {
+    let mut valued = Vec::new(context.alloc);
+    let end = end_of_groups(query, grouping, groups, context, &mut valued, memo);
+    drop(valued);
+    end
+}
+
+/// The same, with the groups and the values of their set functions added here.
+fn end_of_groups<'m>(
+    query: &BoundSpecification,
+    grouping: &Grouping,
+    groups: Vec<Vec<Placed<'m>>>,
+    context: &Context<'m>,
+    valued: &mut Vec<Valued<'m>>,
+    memo: &mut Memo<'m>,
+) -> Result<Option<QueryEnd>, AllocError>
+    ensures { valued.old.items ≡ []
+        → (out-BoundSpecification query.now).grouping ≡ Some grouping.now
+        → Remembers context.now (KnowsQuery context.now query.now) memo.old memo.new
+        (EndsInGroups context.now query.now grouping.now groups.entry.items result) }
+{
     let width = query.from.tables.as_slice().len();
     let calls = grouping.set_functions.as_slice();
-    let mut valued = Vec::new(context.alloc);
-    let end = match add_valued(width, calls, groups, context, &mut valued) {
+    match add_valued(width, calls, groups, context, valued) {
         Ok(None) => end_behind(query, grouping, valued.as_slice(), context, memo),
         Ok(Some(end)) => Ok(Some(end)),
         Err(error) => Err(error),
-    };
-    drop(valued);
-    end
+    }
 }
 
 /// Where HAVING or the select list ends with a status for these groups, whose set functions have values.

@@ -1,5 +1,5 @@
 -- Left open for add_group: its result; answered by ValuedGroups.
-use Rattle.std.proofs.Common.{◌≡◌, List, refl, subst, sym}
+use Rattle.std.proofs.Common.{◌≡◌, ◌∙◌, List, Err, ap, refl, subst, sym}
 use Rattle.std.specs.List.{AllByRecursion}
 use Rattle.sq_expression.specs.Fault.{status_of}
 use Rattle.sq_meaning.specs.Status.{each}
@@ -17,8 +17,12 @@ returns-in_ok-push-in-Ok c = λ wide.
 
 pub returns-in-Err-Status : goal.returns-in-Err-Status
 returns-in-Err-Status c = λ wide.
+    let seen = seen_in c.args.context.now in
+    let calls = c.args.calls.now in
+    let status = status_of c.in-Err-Status.field-0-0 in
     let there = subst (AllByRecursion (HasWidth c.args.width)) (sym c.as_slice.ensures.value) wide in
     let again = subst (AllByRecursion (HasWidth c.args.width)) (sym c.as_slice-in-Err-Status.ensures.value) wide in
-    call_found (seen_in c.args.context.now) c.args.calls.now c.as_slice-in-Err-Status.result.now c.args.group.items _ c.args.valued.now.items c.args.valued.now.items c.as_slice-in-Err-Status.ensures.value
-    (subst (λ (ls : List Placed). each (function_on (seen_in c.args.context.now) (lines_of ls)) c.args.calls.now ≡ _) (sym c.as_slice-in-Err-Status.ensures.value) (subst (λ (ls : List Placed). each (function_on (seen_in c.args.context.now) (lines_of ls)) c.args.calls.now ≡ _) c.as_slice.ensures.value (rw c.in-Err-Status.field-0-is at (rw c.in-Err-Status.is at (c.function_values.ensures there)))))
+    let fails : each (function_on seen (lines_of c.as_slice.result.now)) calls ≡ Err status = rw c.in-Err-Status.field-0-is at (rw c.in-Err-Status.is at (c.function_values.ensures there)) in
+    call_found seen calls c.as_slice-in-Err-Status.result.now c.args.group.items status c.args.valued.now.items c.args.valued.now.items c.as_slice-in-Err-Status.ensures.value
+    (ap (λ (ls : List Placed). each (function_on seen (lines_of ls)) calls) (c.as_slice-in-Err-Status.ensures.value ∙ sym c.as_slice.ensures.value) ∙ fails)
     c.call_end-end.result (c.call_end-end.ensures again)

@@ -5,11 +5,11 @@ use Rattle.sq_ending.proofs.grouped.end_behind.Goals as goal
 
 pub returns-in-Some : goal.returns-in-Some
 returns-in-Some c = λ meant knows memo.
-    let met = c.in_ok-first_end.ensures meant knows memo in
+    let met = c.in_ok-end.ensures meant knows memo in
     (met.0, λ right. inl (rw c.in-Some.is at (met.1 right)))
 
 pub returns-in-None : goal.returns-in-None
 returns-in-None c = λ meant knows memo.
-    let first = c.in_ok-first_end.ensures meant knows memo in
+    let first = c.in_ok-end.ensures meant knows memo in
     let second = c.first_end-in-None.ensures meant knows first.0 in
     (second.0, λ right. list_ends c.args.grouping.now c.args.context.now c.as_slice.result.now _ c.as_slice.ensures c.args.valued.now (rw c.in-None.is at (first.1 right)) c.first_end-in-None.result (second.1 right))

@@ -1,37 +1,5 @@
--- Left open for end_in_groups: what the call of add_valued asks for, and its result; answered by GroupSteps and ValuedGroups.
-use Rattle.std.proofs.Common.{◌≡◌, ◌∙◌, ℕ, ap, arith, length, subst, sym}
-use Rattle.sq_bound.specs.Numbered.{GroupsWith}
-use Rattle.sq_bound.proofs.Nested.{select_held}
-use Rattle.sq_condition.specs.Specification.{items_in}
-use Rattle.sq_condition.specs.Subquery.{IsKnown}
-use Rattle.sq_expression.specs.Frame.{table_rows}
-use Rattle.sq_ending.proofs.GroupSteps.{behind_end, functions_end, items_many}
-use Rattle.sq_ending.proofs.ValuedGroups.{wide_groups}
+-- Left open for end_in_groups: its result; answered without a law.
 use Rattle.sq_ending.proofs.grouped.end_in_groups.Goals as goal
 
-pub returns-in-Ok-None : goal.returns-in-Ok-None
-returns-in-Ok-None c = λ grouped meant knows memo.
-    let context = c.args.context.now in
-    let query = c.args.query.now in
-    let held = subst (GroupsWith (IsKnown context meant)) grouped (select_held (IsKnown context meant) query knows).1 in
-    let met = c.end_behind.ensures meant held memo in (
-      met.0,
-      λ items lines left are placed right.
-          let width = items_many (table_rows context) (items_in query) items left.are ∙ sym (c.len-width.ensures ∙ ap length c.as_slice.ensures) in
-          let valued = rw c.in-Ok-None.field-0-is at (rw c.in-Ok-None.is at (c.add_valued.ensures c.new-valued.ensures.items (wide_groups items c.len-width.result width c.args.groups.items placed))) in
-          behind_end context query c.args.grouping.now meant knows grouped items lines left c.args.groups.items are placed c.as_slice-calls.result.now c.as_slice-calls.ensures c.add_valued.new.valued.items valued c.end_behind.result met.1 right,
-    )
-
-pub returns-in-Ok-Some : goal.returns-in-Ok-Some
-returns-in-Ok-Some c = λ grouped meant knows memo. (
-  memo,
-  λ items lines left are placed right.
-      let context = c.args.context.now in
-      let query = c.args.query.now in
-      let width = items_many (table_rows context) (items_in query) items left.are ∙ sym (c.len-width.ensures ∙ ap length c.as_slice.ensures) in
-      let ends = rw c.in-Ok-Some.field-0-is at (rw c.in-Ok-Some.is at (c.add_valued.ensures c.new-valued.ensures.items (wide_groups items c.len-width.result width c.args.groups.items placed))) in
-      functions_end context query c.args.grouping.now meant knows grouped items lines left c.args.groups.items are placed c.as_slice-calls.result.now c.as_slice-calls.ensures c.in-Ok-Some.end ends,
-)
-
-pub returns-in-Err : goal.returns-in-Err
-returns-in-Err c = λ grouped meant knows memo. (memo, λ items lines left are placed right. tt)
+pub returns : goal.returns
+returns c = λ grouped. c.end_of_groups-end.ensures c.new-valued.ensures.items grouped

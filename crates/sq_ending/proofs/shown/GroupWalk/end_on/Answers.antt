@@ -2,7 +2,7 @@
 use Rattle.std.proofs.Common.{◌≡◌, Bool, Ok, subst}
 use Rattle.sq_expression.specs.Fault.{status_of}
 use Rattle.sq_ending.specs.Shown.{shown_by}
-use Rattle.sq_ending.proofs.ShownGroups.{having_found, item_found, not_shown}
+use Rattle.sq_ending.proofs.ShownGroups.{having_found, item_found, not_shown, told_by}
 use Rattle.sq_ending.proofs.shown.GroupWalk.end_on.Goals as goal
 
 pub returns-in-Ok-true : goal.returns-in-Ok-true
@@ -21,10 +21,11 @@ returns-in-Ok-false c = λ meant knows memo.
     let met = c.is_shown.ensures meant knows memo in
     (met.0, λ right. not_shown walk group (subst (λ (b : Bool). shown_by walk.grouping.now walk.context.now group ≡ Ok b) c.in-Ok-false.field-0-test (rw c.in-Ok-false.is at (met.1 right))))
 
-pub returns-in-Err-Status : goal.returns-in-Err-Status
-returns-in-Err-Status c = λ meant knows memo.
+pub returns-in_ok-group_end-in-Err-Status : goal.returns-in_ok-group_end-in-Err-Status
+returns-in_ok-group_end-in-Err-Status c = λ meant knows memo.
     let met = c.is_shown.ensures meant knows memo in (
       met.0,
       λ right. having_found c.args.self.now c.args.group.now (status_of c.in-Err-Status.failure) c.in_ok-group_end-in-Err-Status.field-0 (rw c.in-Err-Status.field-0-is at (rw c.in-Err-Status.is at (met.1 right)))
-          c.in_ok-group_end-in-Err-Status.ensures.end c.in_ok-group_end-in-Err-Status.ensures.line,
+          c.in_ok-group_end-in-Err-Status.ensures.end
+          (told_by c.args.group.now c.as_slice.result.now c.as_slice.ensures.value c.in_ok-group_end-in-Err-Status.field-0 c.in_ok-group_end-in-Err-Status.ensures.line),
     )

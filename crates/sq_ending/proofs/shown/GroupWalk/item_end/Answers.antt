@@ -4,6 +4,7 @@ use Rattle.sq_meaning.specs.declared.status.Status.{Status}
 use Rattle.sq_expression.specs.Fault.{status_of}
 use Rattle.sq_ending.specs.Shown.{first_of, value_by}
 use Rattle.sq_ending.proofs.ListEnds.{item_ends, item_more, items_fine, value_seen}
+use Rattle.sq_ending.proofs.ShownGroups.{told_by}
 use Rattle.sq_ending.proofs.shown.GroupWalk.item_end.Goals as goal
 
 pub loop-number-init : goal.loop-number-init
@@ -29,7 +30,7 @@ returns-in-Err-Status c =
       end.0,
       item_ends (value_by walk.context.now group) walk.list.now c.loop-number.number item c.loop-number-test.true c.item-item.is c.loop-number.invariant.0 c.loop-number.invariant.1 _
           (subst (λ (s : Status). value_by walk.context.now group item ≡ Err s) (sym end.1) ends),
-      c.in_ok-group_end-in-Err-Status.ensures.line,
+      told_by group c.as_slice.result.now c.as_slice.ensures.value c.in_ok-group_end-in-Err-Status.field-0 c.in_ok-group_end-in-Err-Status.ensures.line,
     )
 
 pub returns : goal.returns
