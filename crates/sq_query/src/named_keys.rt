@@ -83,7 +83,6 @@ pub(crate) fn keys_of_condition<S: Store>(
 
 /// The first key of a base table in an item by whose columns a condition names the item's rows, with the values of the columns: `None` if
 /// there is no such key. The condition is false on each line whose row of the item lacks the key.
-#[tactic(auto, using(crate::proofs::Keys::KeysOn::key_named))]
 pub(crate) fn key_by_tests<S: Store>(
     base: usize,
     condition: &BoundCond,
@@ -99,8 +98,7 @@ pub(crate) fn key_by_tests<S: Store>(
     ensures memory { IfErr result (λ fault. fault ≡ Fault.NoMemory) }
 {
     for key in 0..store.keys(base).len() {
-        let columns = store.keys(base)[key].as_slice();
-        let known = key_if_named(key, columns, condition, sought, sure, call)?;
+        let known = key_with_number(base, key, condition, sought, sure, store, call)?;
         if known.is_some() {
             return Ok(known);
         }
@@ -108,7 +106,34 @@ pub(crate) fn key_by_tests<S: Store>(
     Ok(None)
 }
 
-/// The key with a number, if a condition names the rows of the item by each of its columns.
+/// The key of a base table with a number, if a condition names the rows of the item by each of its columns.
+fn key_with_number<S: Store>(
+    base: usize,
+    key: usize,
+    condition: &BoundCond,
+    sought: &Sought<'_>,
+    sure: Sure,
+    store: &S,
+    call: &Context<'_>,
+) -> Result<Option<KnownKey>, Fault>
+    requires there { base < length (S.content_now store.now) }
+    requires key { key < length (keys_at (S.key_columns store.now) base) }
+    ensures known { IfOk result (λ found. IfSome found (IsKeyBy
+        (IsFalseOf sought.now sure call.now.parameters.now call.now.user condition.now)
+        (S.key_columns store.now) base)) }
+    ensures memory { IfErr result (λ fault. fault ≡ Fault.NoMemory) }
+{
+    key_if_named(
+        key,
+        store.keys(base)[key].as_slice(),
+        condition,
+        sought,
+        sure,
+        call,
+    )
+}
+
+/// The key with a number, if a condition names the rows of the item by each of these columns.
 fn key_if_named(
     key: usize,
     columns: &[usize],

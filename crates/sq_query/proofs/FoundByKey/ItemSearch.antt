@@ -1,5 +1,5 @@
 -- What the search for the keys of items finds.
-use Rattle.std.proofs.Common.{◌≡◌, ◌∙◌, ◌<◌, inl, ℕ, zero, suc, false, List, [], ◌∷◌, ◌++◌, get_or, length, slice_get, Option, Some, None, Result, Bor, arith, refl, sym, ap, subst, Ok, Err}
+use Rattle.std.proofs.Common.{◌≡◌, ◌∙◌, ◌<◌, inl, inr, ℕ, zero, suc, false, List, [], ◌∷◌, ◌++◌, get_or, length, slice_get, Option, Some, None, Result, Bor, arith, refl, sym, ap, subst, Ok, Err}
 use Rattle.std.specs.Prelude.{IfOk, IfSome}
 use Rattle.sq_lex.specs.declared.name.Name.{Name}
 use Rattle.sq_value.specs.SetFunctions.{is_null}
@@ -22,11 +22,14 @@ use Rattle.sq_expression.specs.Frame.{lent}
 use Rattle.sq_expression.specs.declared.fault.Fault.{Fault}
 use Rattle.sq_expression.specs.declared.table.BaseRows.{BaseRows}
 use Rattle.sq_query.specs.Items.{IsAlone, IsNamed, IsReadOf, items_of}
-use Rattle.sq_query.specs.Named.{AreTrustedIn, IsColumnOf, IsFalseOn}
+use Rattle.sq_query.specs.Named.{AreKeysBy, AreTrustedIn, IsColumnOf, IsFalseOn, IsKeyBy}
 use Rattle.sq_query.specs.Row.{HasValueOn}
-use Rattle.sq_query.specs.Search.{IsWhere}
+use Rattle.sq_query.specs.Search.{IsWhere, rows_by_key}
+use Rattle.sq_query.specs.Several.{rows_by_values}
 use Rattle.sq_query.specs.Sought.{IsValueBehind}
 use Rattle.sq_query.specs.declared.around.Around.{Around}
+use Rattle.sq_query.specs.declared.key.KnownKey.{KnownKey}
+use Rattle.sq_query.specs.declared.key.KnownKeys.{KnownKeys}
 use Rattle.sq_query.specs.declared.named.Sure.TheVariants.{Noted}
 use Rattle.sq_query.specs.declared.needed.Needed.{Needed}
 
@@ -58,6 +61,16 @@ at_index {A} (y ∷ xs) zero d x within is = ap (λ (z : A). let o : Option A = 
 at_index (y ∷ xs) (suc i) d x within is = at_index xs i d x (omega arith) is
 
 -- ---- an item whose rows WHERE names
+
+pub rows_of_key : (IsFalse : ℕ → List Value → Type 0) (content : Content) (keys : List Keys) (base : ℕ) (own : BaseRows) (known : KnownKey) → own.place ≡ base → IsKeyBy IsFalse keys base known → lent own.rows.items ≡ rows_by_key content keys base known
+    → IsNamed IsFalse content keys own
+rows_of_key IsFalse content keys base own known is named are =
+    inl (known, record { named = subst (λ (p : ℕ). IsKeyBy IsFalse keys p known) (sym is) named; are = are ∙ ap (λ (p : ℕ). rows_by_key content keys p known) (sym is) })
+
+pub rows_of_keys : (IsFalse : ℕ → List Value → Type 0) (content : Content) (keys : List Keys) (base : ℕ) (own : BaseRows) (known : KnownKeys) → own.place ≡ base → AreKeysBy IsFalse keys base known → lent own.rows.items ≡ rows_by_values content keys base known
+    → IsNamed IsFalse content keys own
+rows_of_keys IsFalse content keys base own known is named are =
+    inr (known, record { named = subst (λ (p : ℕ). AreKeysBy IsFalse keys p known) (sym is) named; are = are ∙ ap (λ (p : ℕ). rows_by_values content keys p known) (sym is) })
 
 pub own_named : (q : BoundSpecification) (item base : ℕ) (inner : Needed) (content : Content) (keys : List Keys) (a : Around) (values : List Value) (caller : Name) (found : List BaseRows) (ts : List TablePlace) (d : TablePlace) (condition : BoundCond)
     (r : Result (Option BaseRows) Fault) → ts ≡ items_of q → item < length (items_of q) → get_or ts item d ≡ Base base → base < length content → IsAlone q item base inner found → IsWhere q condition → IfOk r (λ own. IfSome own (λ rows. rows.place ≡ base))

@@ -43,10 +43,11 @@ key_on place own content keys parameters user key columns (Ok (Some known)) ther
 )
 
 -- a key of a base table whose columns are these
-pub key_named : (IsFalse : ℕ → List Value → Type 0) (keys : List Keys) (place key : ℕ) (columns : List ℕ) (o : Option KnownKey) → key < length (keys_at keys place) → columns ≡ key_at keys place key → IfSome o (λ known. (known.key ≡ key) × AllZip (IsOneOf IsFalse) columns known.values)
-    → IfSome o (IsKeyBy IsFalse keys place)
-key_named IsFalse keys place key columns None within are h = tt
-key_named IsFalse keys place key columns (Some known) within are h = record {
+pub key_named : (IsFalse : ℕ → List Value → Type 0) (keys : List Keys) (place key : ℕ) (columns : List ℕ) (r : Result (Option KnownKey) Fault) → key < length (keys_at keys place) → columns ≡ key_at keys place key
+    → IfOk r (λ found. IfSome found (λ known. (known.key ≡ key) × AllZip (IsOneOf IsFalse) columns known.values)) → IfOk r (λ found. IfSome found (IsKeyBy IsFalse keys place))
+key_named IsFalse keys place key columns (Err e) within are h = tt
+key_named IsFalse keys place key columns (Ok None) within are h = tt
+key_named IsFalse keys place key columns (Ok (Some known)) within are h = record {
   key = subst (λ (k : ℕ). k < length (keys_at keys place)) (sym h.0) within;
   named = subst (λ (cs : List ℕ). AllZip (IsOneOf IsFalse) cs known.values) (are ∙ ap (key_at keys place) (sym h.0)) h.1;
 }
