@@ -1,7 +1,7 @@
 -- A walk to which the changed row is not left has the same rows after a positioned UPDATE (ISO/IEC 9075:1992, 13.3 and
 -- 13.9): the walk has passed the row, or the row was inserted after OPEN.
 use Rattle.std.proofs.Common.{◌≡◌, ℕ, cond, Bool, true, false, List, [], ◌∷◌, filter, map, Option, Some, None, refl, sym, ap, ◌∙◌, eqb-true, Ok}
-use Rattle.std.specs.Prelude.{⊤, ◌&&◌, if◌then◌else◌, nat_eq, nat_le, nat_lt, IfOk}
+use Rattle.std.specs.Prelude.{⊤, if◌then◌else◌, nat_eq, nat_le, nat_lt, IfOk}
 use Rattle.std.specs.List.{AllByRecursion}
 use Rattle.sq_lex.specs.declared.name.Name.{Name}
 use Rattle.sq_store.specs.Content.{replaced, row_at, table_at}
