@@ -112,7 +112,12 @@ impl Catalog {
 }
 
 /// Adds to an element's fault where the element is.
-fn place_fault(fault: ElementFault, text: usize, schema: usize, element: Option<usize>) -> CatalogFault
+fn place_fault(
+    fault: ElementFault,
+    text: usize,
+    schema: usize,
+    element: Option<usize>,
+) -> CatalogFault
     ensures text { IsOfText text result }
     ensures fault { result ≡ placed fault text schema element }
 {
