@@ -360,22 +360,6 @@ def sought_in_having(n):
     return sought("COUNT(*)", rest, {"P": one_more(n), "R": one_more(n)}, n)
 
 
-def first_updated(n):
-    """Each time the cursor is opened, the first row is updated in a column that the cursor tests."""
-    procedures = (cursor("SELECT K, A FROM R WHERE A >= 0") + "PROCEDURE CLX (SQLCODE); CLOSE X;\n"
-                  "PROCEDURE UPX (SQLCODE); UPDATE R SET A = A + 1 WHERE CURRENT OF X;\n")
-
-    def work(db):
-        answers = []
-        for _ in range(n):
-            found = db.execute("SELECT K, A FROM R WHERE A >= 0 ORDER BY K").fetchone()
-            answers.extend(found)
-            db.execute("UPDATE R SET A = A + 1 WHERE K = ?", found[:1])
-        return answers + answers_to(db, [query.prepared() for query in sums_of("R")])
-    turns = "".join("CALL M.OPX;\nCALL M.FEX (*, *);\nCALL M.UPX;\nCALL M.CLX;\n" for _ in range(n))
-    return Row({"R": pairs(n)}, procedures, turns + calls("", [], "R"), Beside(work, None))
-
-
 def joined_by_key(n):
     rest = "FROM P, R WHERE P.K = {} AND R.K = P.A"
     return Row({"P": pairs(n), "R": pairs(n)},
@@ -455,7 +439,6 @@ ROWS = {
     "SELECT INTO of the children of a row": children,
     "join of a row with its children": parent_and_children,
     "SELECT INTO where HAVING has a subquery by key": sought_in_having,
-    "OPEN, FETCH, positioned UPDATE of a column that is tested, CLOSE": first_updated,
     "SELECT INTO by key where a subquery has a row by key": selected_where_there,
     "UPDATE by key where a subquery has a row by key": updated_where_there,
     "the same under OR, with a subquery in the subquery": selected_where_there_twice,
