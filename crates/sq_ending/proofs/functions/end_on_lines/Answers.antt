@@ -37,7 +37,7 @@ returns-in-Err-Status c =
     let ends : value_on (seen_in context) (line_of p) operand ≡ Err (status_of c.in-Err-Status.failure) = here ∙ seen ∙ rw c.in-Err-Status.field-0-is at c.in-Err-Status.ensures in
     line_ends (seen_in context) c.args.group.now operand c.loop-placed.placed-index p c.loop-placed-test.true c.placed-item.is c.loop-placed.invariant.0 c.loop-placed.invariant.1 c.args.number e
     c.in_ok-end_at-in-Err-Status.ensures.end.0 (c.in_ok-end_at-in-Err-Status.ensures.line ∙ c.as_slice-in-Err-Status.ensures.value)
-    (subst (λ (s : Status). value_on (seen_in context) (line_of p) operand ≡ Err s) (sym c.in_ok-end_at-in-Err-Status.ensures.end.1) ends)
+    (subst (λ (s : Status). value_on (seen_in context) (line_of p) operand ≡ Err s) (sym (c.in_ok-end_at-in-Err-Status.ensures.end.1 ∙ ap status_of c.in-Err-Status.failure-is)) ends)
 
 pub returns : goal.returns
 returns c = lines_fine (seen_in c.args.context.now) c.args.group.now c.args.operand.now c.loop-placed.placed-index c.loop-placed-test.false c.loop-placed.invariant

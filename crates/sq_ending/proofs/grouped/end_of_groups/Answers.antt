@@ -20,10 +20,10 @@ returns-in-Ok-None c = λ none grouped meant knows memo.
     let met = c.end_behind.ensures meant held memo in (
       met.0,
       λ items lines left are placed right.
-          let width = items_many (table_rows context) (items_in query) items left.are ∙ sym (c.len-width.ensures ∙ ap length c.as_slice.ensures) in
-          let valued = rw c.in-Ok-None.field-0-is at (rw c.in-Ok-None.is at (c.add_valued.ensures none (wide_groups items c.len-width.result width c.args.groups.items placed))) in
-          behind_end context query c.args.grouping.now meant knows grouped items lines left c.args.groups.items are placed c.as_slice-calls.result.now c.as_slice-calls.ensures c.as_slice-in-Ok-None.result.now
-          (subst (λ (vs : List Valued). AreValued (seen_in context) c.as_slice-calls.result.now c.args.groups.items vs) (sym c.as_slice-in-Ok-None.ensures.value) valued) c.end_behind.result met.1 right,
+          let width = items_many (table_rows context) (items_in query) items left.are ∙ sym (ap length c.as_slice-width.ensures) in
+          let valued = rw c.in-Ok-None.field-0-is at (rw c.in-Ok-None.is at (c.add_valued.ensures none (wide_groups items (length c.as_slice-width.result.now) width c.args.groups.items placed))) in
+          behind_end context query c.args.grouping.now meant knows grouped items lines left c.args.groups.items are placed c.as_slice-calls.result.now c.as_slice-calls.ensures c.as_slice.result.now
+          (subst (λ (vs : List Valued). AreValued (seen_in context) c.as_slice-calls.result.now c.args.groups.items vs) (sym c.as_slice.ensures.value) valued) c.end_behind.result met.1 right,
     )
 
 pub returns-in-Ok-Some : goal.returns-in-Ok-Some
@@ -32,8 +32,8 @@ returns-in-Ok-Some c = λ none grouped meant knows memo. (
   λ items lines left are placed right.
       let context = c.args.context.now in
       let query = c.args.query.now in
-      let width = items_many (table_rows context) (items_in query) items left.are ∙ sym (c.len-width.ensures ∙ ap length c.as_slice.ensures) in
-      let ends = rw c.in-Ok-Some.field-0-is at (rw c.in-Ok-Some.is at (c.add_valued.ensures none (wide_groups items c.len-width.result width c.args.groups.items placed))) in
+      let width = items_many (table_rows context) (items_in query) items left.are ∙ sym (ap length c.as_slice-width.ensures) in
+      let ends = rw c.in-Ok-Some.field-0-is at (rw c.in-Ok-Some.is at (c.add_valued.ensures none (wide_groups items (length c.as_slice-width.result.now) width c.args.groups.items placed))) in
       functions_end context query c.args.grouping.now meant knows grouped items lines left c.args.groups.items are placed c.as_slice-calls.result.now c.as_slice-calls.ensures c.in-Ok-Some.end ends,
 )
 

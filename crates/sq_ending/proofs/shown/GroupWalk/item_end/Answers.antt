@@ -1,5 +1,5 @@
 -- Left open for GroupWalk::item_end: its result, and that the loop keeps its invariant; answered by ListEnds.
-use Rattle.std.proofs.Common.{◌≡◌, ◌∙◌, [], Err, refl, subst, sym}
+use Rattle.std.proofs.Common.{◌≡◌, ◌∙◌, [], Err, ap, refl, subst, sym}
 use Rattle.sq_meaning.specs.declared.status.Status.{Status}
 use Rattle.sq_expression.specs.Fault.{status_of}
 use Rattle.sq_ending.specs.Shown.{first_of, value_by}
@@ -29,7 +29,7 @@ returns-in-Err-Status c =
       c.loop-number.number,
       end.0,
       item_ends (value_by walk.context.now group) walk.list.now c.loop-number.number item c.loop-number-test.true c.item-item.is c.loop-number.invariant.0 c.loop-number.invariant.1 _
-          (subst (λ (s : Status). value_by walk.context.now group item ≡ Err s) (sym end.1) ends),
+          (subst (λ (s : Status). value_by walk.context.now group item ≡ Err s) (sym (end.1 ∙ ap status_of c.in-Err-Status.failure-is)) ends),
       told_by group c.as_slice.result.now c.as_slice.ensures.value c.in_ok-group_end-in-Err-Status.field-0 c.in_ok-group_end-in-Err-Status.ensures.line,
     )
 
