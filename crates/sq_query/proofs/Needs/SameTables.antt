@@ -1,64 +1,69 @@
 -- A tree whose tables, subqueries included, mean the same in two readings means the same in both.
-use Rattle.std.proofs.Common.{◌≡◌, ◌∙◌, Bool, List, [], ◌∷◌, refl, sym, ap, Ok}
-use Rattle.std.specs.Prelude.{if◌then◌else◌}
+use Rattle.std.proofs.Common.{◌≡◌, ◌∙◌, ℕ, suc, Bool, List, [], ◌∷◌, refl, sym, ap, Ok}
+use Rattle.std.specs.Prelude.{⊤, if◌then◌else◌}
 use Rattle.std.specs.List.{AllByRecursion}
-use Rattle.sq_value.specs.SetFunctions.{is_null as is_null_value}
-use Rattle.sq_value.specs.Truth.{negation, known}
-use Rattle.sq_tree.specs.declared.cond.Comparison.TheVariants.{Equal, LessOrEqual, GreaterOrEqual}
-use Rattle.sq_tree.specs.declared.cond.Quantifier.TheVariants as quantifier
 use Rattle.sq_meaning.specs.Status.{Outcome, and_then, each, kept}
-use Rattle.sq_meaning.specs.Syntax.{Conds, SelectList, absent, present, select, compare, compare_subquery, compare_quantified, between, in_subquery, in_list, like, is_null, exists, negated, conjunction, disjunction, no_cond, a_cond}
+use Rattle.sq_meaning.specs.Syntax.{SelectList, absent, present, select}
 use Rattle.sq_meaning.specs.Environment.{Row, Line, Env, Place, alone, within}
 use Rattle.sq_meaning.specs.Placed.{Placed, by_place}
-use Rattle.sq_meaning.specs.Query.{comparison, compared_with_rows, only_value, has_rows, and_also, or_else, any_in_turn, truth, all_truth, any_truth, clause_truth, is_true, scopes_of, listed_values, rows}
+use Rattle.sq_meaning.specs.Query.{truth, clause_truth, is_true, scopes_of, listed_values, rows}
 use Rattle.sq_meaning.specs.Rows.{product, firsts, same_row}
+use Rattle.sq_meaning.proofs.AnswerLaws.{all_true}
+use Rattle.sq_meaning.proofs.OverTables as any
+use Rattle.sq_meaning.proofs.Parts.{CondParts, SelectParts, ClauseHas, any_escape, any_list}
 use Rattle.sq_bound.specs.Condition.{PlacedCond, PlacedClause, PlacedSelect}
 use Rattle.sq_bound.specs.declared.condition.TablePlace.{TablePlace}
 use Rattle.sq_query.specs.Needed.{ReadsCond, ReadsConds, ReadsClause, ReadsSelect}
-use Rattle.sq_query.proofs.Needs.AnyTables.{value_over, compared_over, like_over, scopes_over, listed_over}
+use Rattle.sq_query.proofs.Needs.AnyTables.{scopes_over, listed_over}
 
 module _ (f g : TablePlace → Outcome (List Row)) where
   pub same_each : (ts : List TablePlace) → AllByRecursion (λ t. f t ≡ g t) ts → each f ts ≡ each g ts
   same_each [] same = refl
   same_each (t ∷ ts) same = λ i. and_then (same.0 i) (λ y. and_then (same_each ts same.1 i) (λ ys. Ok (y ∷ ys)))
 
-  mutual
-    pub same_truth : (c : PlacedCond) → ReadsCond (λ t. f t ≡ g t) c → (env : Env (Unit {0})) → truth (by_place f) c env ≡ truth (by_place g) c env
-    same_truth (compare op a b) same env = compared_over f g op a b env
-    same_truth (compare_subquery op a q) same env = λ i.
-        and_then (value_over f g a env i) (λ x. and_then (same_rows q same env i) (λ rs. and_then (only_value rs) (λ y. Ok (comparison op x y))))
-    same_truth (compare_quantified op k a q) same env = λ i. and_then (value_over f g a env i) (λ x. and_then (same_rows q same env i) (λ rs. Ok (compared_with_rows op k x rs)))
-    same_truth (between a low high) same env = λ i. and_also (compared_over f g GreaterOrEqual a low env i) (compared_over f g LessOrEqual a high env i)
-    same_truth (in_subquery a q) same env = λ i. and_then (value_over f g a env i) (λ x. and_then (same_rows q same env i) (λ rs. Ok (compared_with_rows Equal quantifier.Any x rs)))
-    same_truth (in_list a es) same env = λ i. any_in_turn (λ e. compared_over f g Equal a e env i) es
-    same_truth (like text pattern escape) same env = like_over f g text pattern escape env
-    same_truth (is_null a) same env = λ i. and_then (value_over f g a env i) (λ x. Ok (known (is_null_value x)))
-    same_truth (exists q) same env = λ i. and_then (same_rows q same env i) (λ rs. Ok (known (has_rows rs)))
-    same_truth (negated c) same env = λ i. and_then (same_truth c same env i) (λ t. Ok (negation t))
-    same_truth (conjunction cs) same env = same_all cs same env
-    same_truth (disjunction cs) same env = same_any cs same env
+  abbrev Same : TablePlace → Type 0
+  Same t = f t ≡ g t
 
-    same_all : (cs : Conds (Placed TablePlace)) → ReadsConds (λ t. f t ≡ g t) cs → (env : Env (Unit {0})) → all_truth (by_place f) cs env ≡ all_truth (by_place g) cs env
-    same_all no_cond same env = refl
-    same_all (a_cond c cs) same env = λ i. and_also (same_truth c same.0 env i) (same_all cs same.1 env i)
+  cond_parts : CondParts {N = Placed TablePlace} (λ n e. ⊤) (λ n c. ReadsCond Same c) (λ n cs. ReadsConds Same cs) (λ n q. ReadsSelect Same q)
+  cond_parts = record {
+    of_compare = λ n op a b h. (tt, tt);
+    of_scalar = λ n op a q h. (tt, h);
+    of_quantified = λ n op k a q h. (tt, h);
+    of_between = λ n a low high h. (tt, tt, tt);
+    of_among = λ n a q h. (tt, h);
+    of_list = λ n a es h. (tt, all_true es);
+    of_like = λ n text pattern escape h. (tt, tt, any_escape escape);
+    of_null = λ n a h. tt;
+    of_exists = λ n q h. h;
+    of_negated = λ n c h. h;
+    of_conjunction = λ n cs h. h;
+    of_disjunction = λ n cs h. h;
+    of_first = λ n c cs h. h;
+  }
 
-    same_any : (cs : Conds (Placed TablePlace)) → ReadsConds (λ t. f t ≡ g t) cs → (env : Env (Unit {0})) → any_truth (by_place f) cs env ≡ any_truth (by_place g) cs env
-    same_any no_cond same env = refl
-    same_any (a_cond c cs) same env = λ i. or_else (same_truth c same.0 env i) (same_any cs same.1 env i)
+  clause_has : (n : ℕ) (c : PlacedClause) → ReadsClause Same c → ClauseHas {N = Placed TablePlace} (λ n d. ReadsCond Same d) n c
+  clause_has n absent h = tt
+  clause_has n (present c) h = h
 
-    pub same_clause : (c : PlacedClause) → ReadsClause (λ t. f t ≡ g t) c → (env : Env (Unit {0})) → clause_truth (by_place f) c env ≡ clause_truth (by_place g) c env
-    same_clause absent same env = refl
-    same_clause (present c) same env = same_truth c same env
+  select_parts : SelectParts {N = Placed TablePlace} (λ n e. ⊤) (λ n c. ReadsCond Same c) (λ n q. ReadsSelect Same q) (λ from. AllByRecursion Same from)
+  select_parts = record {
+    of_select = λ n distinct list from filter by having h.
+        (h.0, any_list (suc n) list, clause_has (suc n) filter h.1, all_true by, clause_has (suc n) having h.2);
+  }
 
-    pub same_rows : (q : PlacedSelect) → ReadsSelect (λ t. f t ≡ g t) q → (env : Env (Unit {0})) → rows (by_place f) q env ≡ rows (by_place g) q env
-    same_rows (select distinct list from filter by having) same env = λ i.
-        and_then (each (λ t. let item : Outcome (Unit {0}) = Ok tt in item) from)
-        (λ heads. and_then (same_each from same.0 i)
-        (λ tables. and_then (kept (λ line. is_true (same_clause filter same.1 (within (alone heads line) env) i)) (product tables))
-        (λ lines. and_then (scopes_over f g list by having heads lines env i)
-        (λ scopes. and_then (kept (λ scope. is_true (same_clause having same.2 (within scope env) i)) scopes)
-        (λ left. and_then (each (λ scope. listed_over f g list (within scope env) i) left)
-        (λ shown. Ok (if distinct then firsts same_row shown else shown)))))))
+  pub same_truth : (c : PlacedCond) → ReadsCond Same c → (env : Env (Unit {0})) → truth (by_place f) c env ≡ truth (by_place g) c env
+  same_truth =
+      any.truth_over (by_place f) g (λ n c. ReadsCond Same c) (λ n cs. ReadsConds Same cs) (λ n q. ReadsSelect Same q)
+      (λ from. AllByRecursion Same from) cond_parts select_parts same_each 0
+
+  pub same_clause : (c : PlacedClause) → ReadsClause Same c → (env : Env (Unit {0})) → clause_truth (by_place f) c env ≡ clause_truth (by_place g) c env
+  same_clause absent same env = refl
+  same_clause (present c) same env = same_truth c same env
+
+  pub same_rows : (q : PlacedSelect) → ReadsSelect Same q → (env : Env (Unit {0})) → rows (by_place f) q env ≡ rows (by_place g) q env
+  same_rows =
+      any.rows_over (by_place f) g (λ n c. ReadsCond Same c) (λ n cs. ReadsConds Same cs) (λ n q. ReadsSelect Same q)
+      (λ from. AllByRecursion Same from) cond_parts select_parts same_each 0
 
   -- ---- over one table, where WHERE keeps the same of its rows
 
