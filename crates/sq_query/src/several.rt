@@ -100,7 +100,7 @@ pub(crate) fn base_by_values<'a, S: Store>(
 }
 
 /// The rows without their numbers.
-fn without_numbers<'a>(
+pub(crate) fn without_numbers<'a>(
     alloc: Global,
     numbered: &[(u64, &'a Row)],
 ) -> Result<Vec<&'a Row>, AllocError>

@@ -1,47 +1,17 @@
--- Left open: the clause rows, that no number overflows, the loop's invariant, and that the loop ends; answered by WalkedRows.
-use Rattle.std.proofs.Common.{◌≡◌, ◌∙◌, ◌+◌, ◌++◌, [], ◌∷◌, List, None, Bor, length, arith, ap, refl, rules}
-use Rattle.sq_store.specs.Content.{first_from, table_at}
+-- Left open for rows_but_others: the clause rows, where they were looked up; answered by LookedUp.
+use Rattle.std.proofs.Common.{◌≡◌, ◌∙◌, ℕ, List, [], ◌∷◌, Bor, ap, map}
 use Rattle.sq_store.specs.declared.table.Numbered.{Numbered}
-use Rattle.sq_store.proofs.Walk.{rows_from, rows_from_zero, walked, walked_below}
 use Rattle.sq_meaning.specs.Environment.{Row}
-use Rattle.sq_expression.specs.Frame.{lent}
-use Rattle.sq_query.specs.ValueScan.{may_have}
-use Rattle.sq_query.proofs.Targets.WalkedRows.{made_all, made_on, passing, passing_in_turn, pushed_if}
+use Rattle.sq_query.specs.Table.{numbered_in, numbered_row}
+use Rattle.sq_query.specs.ValueScan.{rows_that_may}
+use Rattle.sq_query.proofs.Keys.KeyTests.{if_some}
+use Rattle.sq_query.proofs.PlainViews.LookedUp.{same_rows}
 use Rattle.sq_query.proofs.value_scan.rows_but_others.Goals as goal
 
-pub overflow_add-number : goal.overflow_add-number
-overflow_add-number g c =
-    let store = c.args.store.now in
-    omega (arith, g.met.S.Store.limited store, walked_below (g.S.Store.row_numbers store) (g.S.Store.content_now store) c.args.base c.loop-found.number (record { number = c.in-Some.found; row = c.in-Some.row.now }) (g.met.S.Store.rises store) c.in-Some.ensures.row)
-
-pub loop-found-smaller : goal.loop-found-smaller
-loop-found-smaller g c =
-    let store = c.args.store.now in
-    let next = walked (g.S.Store.row_numbers store) (g.S.Store.content_now store) c.args.base c.loop-found.number (record { number = c.in-Some.found; row = c.in-Some.row.now }) (g.met.S.Store.rises store) c.in-Some.ensures.row in
-    let size = ap length next in
-    omega (arith, size)
-
-pub loop-found-init : goal.loop-found-init
-loop-found-init g c =
-    let t = table_at (g.S.Store.content_now c.args.store.now) c.args.base in
-    let made = passing (may_have (c.args.column ∷ []) (c.args.value.now ∷ [])) in
-    ap (λ (l : List (Bor Row)). lent l ++ made (rows_from 0 t.rows)) c.new-rows.ensures.items
-    ∙ ap made (rows_from_zero t.rows)
-
-pub loop-found-preserved : goal.loop-found-preserved
-loop-found-preserved g c =
-    let store = c.args.store.now in
-    let t = table_at (g.S.Store.content_now store) c.args.base in
-    let test = may_have (c.args.column ∷ []) (c.args.value.now ∷ []) in
-    let r : Numbered = record { number = c.in-Some.found; row = c.in-Some.row.now } in
-    made_on (passing test) (passing_in_turn test) (lent c.loop-found.rows.items) (lent c.push_if.new.rows.items) r c.loop-found.number (c.in-Some.found + 1) t.rows
-    (pushed_if test c.loop-found.rows.items c.push_if.new.rows.items c.in-Some.row c.in-Some.found c.may_have.result (c.may_have.ensures ∙ ap test c.as_slice.ensures) c.in_ok-push_if.ensures)
-    c.loop-found.invariant
-    (walked (g.S.Store.row_numbers store) (g.S.Store.content_now store) c.args.base c.loop-found.number r (g.met.S.Store.rises store) c.in-Some.ensures.row)
-
-pub returns-clause-rows : goal.returns-clause-rows
-returns-clause-rows g c =
-    let t = table_at (g.S.Store.content_now c.args.store.now) c.args.base in
-    let test = may_have (c.args.column ∷ []) (c.args.value.now ∷ []) in
-    let none : first_from t c.loop-found.number ≡ None = search rules in
-    made_all (passing test) (passing_in_turn test) (lent c.loop-found.rows.items) c.loop-found.number t.rows refl none c.loop-found.invariant
+pub returns-in-Some-clause-rows : goal.returns-in-Some-clause-rows
+returns-in-Some-clause-rows g c =
+    let rows = rows_that_may (g.S.Store.content_now c.args.store.now) c.args.base (c.args.column ∷ []) (c.args.value.now ∷ []) in
+    let unnumbered = map (λ (r : Numbered). r.row) in
+    same_rows c.base_rows.result (unnumbered (map numbered_row c.as_slice.result.now)) rows c.base_rows.ensures.rows
+    (ap (λ (l : List (ℕ × Bor Row)). unnumbered (map numbered_row l)) c.as_slice.ensures.value
+    ∙ if_some (λ found. unnumbered (numbered_in found) ≡ rows) c.in_ok-found.field-0 c.in-Some.found c.in_ok-found.ensures c.in-Some.is)

@@ -4,7 +4,7 @@ use Rattle.sq_store.proofs.Walk.{rows_from}
 use Rattle.sq_expression.specs.Frame.{lent}
 use Rattle.sq_query.specs.ValueScan.{may_have, rows_that_may}
 use Rattle.sq_query.proofs.Targets.WalkedRows.{passing}
-use Rattle.sq_query.proofs.value_scan.rows_but_others.Given as goal
+use Rattle.sq_query.proofs.value_scan.rows_by_walk.Given as goal
 
 abbrev pub decreases-loop-found : goal.decreases-loop-found
 decreases-loop-found g l =
