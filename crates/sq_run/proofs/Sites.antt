@@ -14,6 +14,5 @@ pub mod ChecksRead
 pub mod StarRules
 pub mod Stars
 pub mod NoParameters
-pub mod NoTables
 pub mod NoNull
 pub mod Rules

@@ -1,24 +1,22 @@
 -- A CHECK condition has on a row the truth by its places that it has by its names (ISO/IEC 9075:1992, 11.4 and 11.9). No subquery, parameter,
 -- set function or USER stands in it, so it is the same in every call.
-use Rattle.std.proofs.Common.{◌≡◌, zero, suc, not, List, [], ◌∷◌, length, map, Option, Some, None, refl, sym, ap, ◌∙◌, Ok}
-use Rattle.std.specs.Prelude.{⊤, slice_get}
+use Rattle.std.proofs.Common.{◌≡◌, ℕ, zero, suc, not, List, [], ◌∷◌, length, map, Option, Some, None, refl, sym, ap, ◌∙◌}
+use Rattle.std.specs.Prelude.{IfSome, ⊤, slice_get}
 use Rattle.std.specs.List.{AllByRecursion, AllZip}
 use Rattle.sq_lex.specs.declared.name.Name.{Name}
 use Rattle.sq_tree.specs.declared.cond.Cond.{Cond as WrittenCond}
-use Rattle.sq_tree.specs.declared.cond.Comparison.TheVariants.{Equal, LessOrEqual, GreaterOrEqual}
-use Rattle.sq_value.specs.Pattern.{liked}
-use Rattle.sq_value.specs.SetFunctions.{is_null as is_null_value}
-use Rattle.sq_value.specs.Truth.{known as known_truth, negation}
 use Rattle.sq_meaning.specs.Environment.{Env, Input, Row}
-use Rattle.sq_meaning.specs.Expression.{Reading, product_of, sum_of, value, with_sign}
-use Rattle.sq_meaning.specs.Query.{all_truth, and_also, any_in_turn, any_truth, compared, comparison, like_truth, or_else, truth}
+use Rattle.sq_meaning.specs.Expression.{Reading, value}
+use Rattle.sq_meaning.specs.Query.{truth}
 use Rattle.sq_meaning.specs.Spelled.{cond_of}
-use Rattle.sq_meaning.specs.Status.{and_then, like_status, with_status}
+use Rattle.sq_meaning.specs.Status.{and_then}
 use Rattle.sq_meaning.specs.Syntax.{Naming, Expr, literal, parameter, user, column, count_rows, set_function, signed, added, scaled, bracketed, Cond, Conds, compare, compare_subquery, compare_quantified, between, in_subquery, in_list, like, is_null, exists, negated, conjunction, disjunction, no_cond, a_cond}
 use Rattle.sq_meaning.specs.Tables.{by_name, table_rows}
 use Rattle.sq_meaning.specs.declared.status.Status.TheVariants.{IntegrityConstraintViolation}
 use Rattle.sq_meaning.specs.Schema.{BaseTable, checks, column_definitions, table_columns}
 use Rattle.sq_meaning.specs.Constraints.{all_satisfied, check_env, check_satisfied, demanded, row_satisfied, satisfied}
+use Rattle.sq_meaning.proofs.Parts.{CondParts, ExprParts}
+use Rattle.sq_meaning.proofs.Related.{ReadTheSame, alike_itself, truth_same}
 use Rattle.sq_bound.specs.declared.condition.BoundCond.{BoundCond}
 use Rattle.sq_bound.specs.declared.condition.TablePlace.TheVariants.{Base}
 use Rattle.sq_bound.specs.declared.names.BaseTable.{BaseTable as BoundTable}
@@ -105,60 +103,52 @@ module _ {N : Naming} (m : Reading N) (inputs : List Input) (caller : Name) wher
   abbrev in_call : Env N.Item → Env N.Item
   in_call env = record { scopes = env.scopes; inputs = inputs; user = caller }
 
-  value_in_call : (e : Expr N) → IsOfRow e → (env : Env N.Item) → value m e env ≡ value m e (in_call env)
-  value_in_call (literal v) h env = refl
-  value_in_call (parameter p) h env = absurd h
-  value_in_call user h env = absurd h
-  value_in_call (column c) h env = refl
-  value_in_call count_rows h env = absurd h
-  value_in_call (set_function f distinct e) h env = absurd h
-  value_in_call (signed sign e) h env = (λ i. and_then (value_in_call e h env i) (with_sign sign))
-  value_in_call (added sign a b) h env =
-      (λ i. and_then (value_in_call a h.0 env i) (λ v. and_then (value_in_call b h.1 env i) (λ w. sum_of sign v w)))
-  value_in_call (scaled sign a b) h env =
-      (λ i. and_then (value_in_call a h.0 env i) (λ v. and_then (value_in_call b h.1 env i) (λ w. product_of sign v w)))
-  value_in_call (bracketed e) h env = value_in_call e h env
+  operands : ExprParts {N = N} (λ n e. IsOfRow e)
+  operands = record {
+    of_signed = λ n sign e h. h;
+    of_added = λ n sign a b h. h;
+    of_scaled = λ n sign a b h. h;
+    of_bracketed = λ n e h. h;
+  }
 
-  like_in_call : (text pattern : Expr N) (escape : Option (Expr N)) → IsOfRow text → IsOfRow pattern → IsEscapeOfRow escape
-      → (env : Env N.Item)
-      → like_truth m text pattern escape env ≡ like_truth m text pattern escape (in_call env)
-  like_in_call text pattern None h k l env =
-      (λ i. and_then (value_in_call text h env i) (λ t. and_then (value_in_call pattern k env i) (λ p. with_status like_status (liked t p None))))
-  like_in_call text pattern (Some e) h k l env =
-      (λ i. and_then (value_in_call text h env i) (λ t. and_then (value_in_call pattern k env i) (λ p.
-      and_then (value_in_call e l env i) (λ v. with_status like_status (liked t p (Some v))))))
+  escaped : (escape : Option (Expr N)) → IsEscapeOfRow escape → IfSome escape (λ e. IsOfRow e)
+  escaped None h = tt
+  escaped (Some e) h = h
 
-  list_in_call : (a : Expr N) → IsOfRow a → (es : List (Expr N)) → AllByRecursion IsOfRow es → (env : Env N.Item)
-      → any_in_turn (λ e. compared m Equal a e env) es ≡ any_in_turn (λ e. compared m Equal a e (in_call env)) es
-  list_in_call a h [] k env = refl
-  list_in_call a h (e ∷ es) k env =
-      (λ i. or_else (and_then (value_in_call a h env i) (λ v. and_then (value_in_call e k.0 env i) (λ w. Ok (comparison Equal v w)))) (list_in_call a h es k.1 env i))
+  parts : CondParts {N = N} (λ n e. IsOfRow e) (λ n c. IsCondOfRow c) (λ n cs. AreCondsOfRow cs) (λ n q. ⊥)
+  parts = record {
+    of_compare = λ n op a b h. h;
+    of_scalar = λ n op a q h. absurd h;
+    of_quantified = λ n op k a q h. absurd h;
+    of_between = λ n a low high h. h;
+    of_among = λ n a q h. absurd h;
+    of_list = λ n a es h. h;
+    of_like = λ n text pattern escape h. (h.0, h.1, escaped escape h.2);
+    of_null = λ n a h. h;
+    of_exists = λ n q h. h;
+    of_negated = λ n c h. h;
+    of_conjunction = λ n cs h. h;
+    of_disjunction = λ n cs h. h;
+    of_first = λ n c cs h. h;
+  }
 
-  mutual
-    truth_in_call : (c : Cond N) → IsCondOfRow c → (env : Env N.Item) → truth m c env ≡ truth m c (in_call env)
-    truth_in_call (compare op a b) h env =
-        (λ i. and_then (value_in_call a h.0 env i) (λ v. and_then (value_in_call b h.1 env i) (λ w. Ok (comparison op v w))))
-    truth_in_call (compare_subquery op a q) h env = absurd h
-    truth_in_call (compare_quantified op k a q) h env = absurd h
-    truth_in_call (between a low high) h env =
-        (λ i. and_also (and_then (value_in_call a h.0 env i) (λ v. and_then (value_in_call low h.1 env i) (λ w. Ok (comparison GreaterOrEqual v w))))
-        (and_then (value_in_call a h.0 env i) (λ v. and_then (value_in_call high h.2 env i) (λ w. Ok (comparison LessOrEqual v w)))))
-    truth_in_call (in_subquery a q) h env = absurd h
-    truth_in_call (in_list a es) h env = list_in_call a h.0 es h.1 env
-    truth_in_call (like text pattern escape) h env = like_in_call text pattern escape h.0 h.1 h.2 env
-    truth_in_call (is_null a) h env = (λ i. and_then (value_in_call a h env i) (λ v. Ok (known_truth (is_null_value v))))
-    truth_in_call (exists q) h env = absurd h
-    truth_in_call (negated c) h env = (λ i. and_then (truth_in_call c h env i) (λ t. Ok (negation t)))
-    truth_in_call (conjunction cs) h env = all_in_call cs h env
-    truth_in_call (disjunction cs) h env = any_in_call cs h env
+  abbrev SameScopes : ℕ → Env N.Item → Env N.Item → Type 0
+  SameScopes n env other = env.scopes ≡ other.scopes
 
-    all_in_call : (cs : Conds N) → AreCondsOfRow cs → (env : Env N.Item) → all_truth m cs env ≡ all_truth m cs (in_call env)
-    all_in_call no_cond h env = refl
-    all_in_call (a_cond c cs) h env = (λ i. and_also (truth_in_call c h.0 env i) (all_in_call cs h.1 env i))
+  read : ReadTheSame m m (λ n e. IsOfRow e) SameScopes
+  read = record {
+    operands = λ n f distinct e h. absurd h;
+    columns = λ n c env other r h. λ i. value m (column c) (record { scopes = h i; inputs = inputs; user = caller });
+    inputs = λ n p env other r h. absurd r;
+    users = λ n env other r h. absurd r;
+    groups = λ n env other h. alike_itself env.scopes other.scopes h;
+  }
 
-    any_in_call : (cs : Conds N) → AreCondsOfRow cs → (env : Env N.Item) → any_truth m cs env ≡ any_truth m cs (in_call env)
-    any_in_call no_cond h env = refl
-    any_in_call (a_cond c cs) h env = (λ i. or_else (truth_in_call c h.0 env i) (any_in_call cs h.1 env i))
+  truth_in_call : (c : Cond N) → IsCondOfRow c → (env : Env N.Item) → truth m c env ≡ truth m c (in_call env)
+  truth_in_call c h env =
+      truth_same m m (λ n e. IsOfRow e) SameScopes operands read (λ n d. IsCondOfRow d) (λ n ds. AreCondsOfRow ds) (λ n q. ⊥) (λ from. ⊥)
+      parts (record { of_select = λ n distinct list from filter by having none. absurd none })
+      (record { inside = λ n here there same s. λ i. s ∷ same i; tables = λ from none. absurd none }) 0 c h env (in_call env) refl
 
 -- ---- CHECK
 

@@ -25,10 +25,10 @@ use Rattle.sq_expression.specs.Frame.{inputs_of}
 use Rattle.sq_query.specs.Row.{outside}
 use Rattle.sq_query.specs.Target.{are_true, chosen, conditions_of, is_true_of, numbers_chosen}
 use Rattle.sq_query.proofs.Keys.KeyedRows.{both_are, inputs_are}
+use Rattle.sq_query.proofs.Needs.AnyTables.{truth_over}
 use Rattle.sq_query.proofs.Targets.QuietTargets.{are_plain}
 use Rattle.sq_query.proofs.Targets.TargetSearch.{truth_there}
 use Rattle.sq_session.specs.Walk.{AreRowsUnder, IsQuietWith, is_meant, is_yes, no_tables}
-use Rattle.sq_run.proofs.Sites.NoTables.{plain_same}
 use Rattle.sq_run.proofs.OpenCursors.WalkLeft.{all_kept, filtered_both}
 
 -- ---- rows on which all conditions have a truth
@@ -89,7 +89,7 @@ module _ (values : List Value) (user : Name) where
   chosen_alone shown [] plain rows = refl
   chosen_alone shown (c ∷ cs) plain rows =
       let n = or_parts (has_subquery (cond_of [] c)) (list_any (λ d. has_subquery (cond_of [] d)) cs) plain in
-      (λ i. and_then (kept (λ r. is_true (plain_same shown no_tables (cond_of [] c) (outside (r.row ∷ []) values user) n.0 i)) rows) (λ left. chosen_alone shown cs n.1 left i))
+      (λ i. and_then (kept (λ r. is_true (truth_over shown no_tables (cond_of [] c) (outside (r.row ∷ []) values user) n.0 i)) rows) (λ left. chosen_alone shown cs n.1 left i))
 
   truths_alone : (r : Numbered) (cs : List BoundCond) → list_any (λ c. has_subquery (cond_of [] c)) cs ≡ false
       → AllByRecursion (λ c. HasValue (truth (by_place quiet.no_tables) (cond_of [] c) (outside (r.row ∷ []) values user))) cs
@@ -97,7 +97,7 @@ module _ (values : List Value) (user : Name) where
   truths_alone r [] plain h = tt
   truths_alone r (c ∷ cs) plain h =
       let n = or_parts (has_subquery (cond_of [] c)) (list_any (λ d. has_subquery (cond_of [] d)) cs) plain in (
-        subst (λ (o : Outcome Truth). HasValue o) (plain_same quiet.no_tables no_tables (cond_of [] c) (outside (r.row ∷ []) values user) n.0) h.0,
+        subst (λ (o : Outcome Truth). HasValue o) (truth_over quiet.no_tables no_tables (cond_of [] c) (outside (r.row ∷ []) values user) n.0) h.0,
         truths_alone r cs n.1 h.1,
       )
 
