@@ -9,7 +9,7 @@ use std::alloc::AllocError;
 use std::{error, fmt};
 use thiserror::Error;
 
-/// What is wrong with a schema definition or one of its elements. Where several hold, the first in the order of
+/// The fault of a schema definition or of one of its elements. If several hold, the first in the order of
 /// `SchemaFault` is answered.
 #[derive(Clone, Copy, Debug, PartialEq, Eq)]
 pub struct RefusalName {
@@ -76,7 +76,7 @@ pub(crate) fn refused_if(is_wrong: bool, fault: SchemaFault) -> Result<(), Eleme
 }
 
 /// The first refusal: its name, the text, the schema definition in the text, and the element in the definition (all from
-/// 0); no element where the definition itself is a user's second.
+/// 0); no element if the definition itself is a user's second.
 #[derive(Clone, Copy, Debug, PartialEq, Eq)]
 pub struct SchemaRefusal {
     pub name: RefusalName,

@@ -21,7 +21,7 @@ pub struct UserTables<'a> {
 }
 
 impl Catalog {
-    /// What names mean is there, and is what is known of it and what the definitions see.
+    /// Shows that each name means something that exists, that it is known, and that the definitions see the same.
     pub fn names_stand(&self)
         ensures { NamesStand self.now }
     {

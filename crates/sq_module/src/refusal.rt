@@ -9,8 +9,8 @@ use sq_meaning::ModuleFault;
 use std::alloc::{AllocError, AllocFailed};
 use thiserror::Error;
 
-/// The first refusal of modules: what is wrong with a module, a cursor or a procedure. Where several faults hold in one
-/// module, the first in the order of `ModuleFault` is answered: each is looked for over the whole module before the next.
+/// The first refusal of modules: the fault of a module, a cursor or a procedure. If several faults hold in one module, the
+/// first in the order of `ModuleFault` is answered: each is looked for over the whole module before the next.
 #[derive(Clone, Copy, Debug, PartialEq, Eq)]
 pub struct ModuleRefusal {
     pub fault: ModuleFault,

@@ -254,7 +254,7 @@ pub enum Demand {
     Check(usize),
 }
 
-/// Where a query of SELECT INTO, of INSERT or of a cursor that is not updatable ends with a status.
+/// The place at which a query of SELECT INTO, of INSERT or of a cursor that is not updatable ends with a status.
 #[derive(Drop)]
 pub struct QueryCause {
     /// The number of the query specification, from 0 on, if UNION joins more than one.

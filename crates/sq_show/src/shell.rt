@@ -57,8 +57,8 @@ impl<S: Store> Shell<S> {
         }
     }
 
-    /// Does what a text asks the session for, and adds the lines of its items to a report, and what is noted of its calls to notes. A
-    /// text that is refused changes nothing. Where memory runs out, some of its items may have been done.
+    /// Performs the items of a text. It adds their lines to a report, and notes on the calls to notes. A text that is refused
+    /// changes nothing. If memory runs out, some of its items may have been performed.
     #[tactic(auto, using(crate::proofs::Adding::takes))]
     pub fn take(
         &mut self,

@@ -32,12 +32,12 @@ use sq_store::Store;
 use sq_value::Value;
 use std::alloc::{AllocError, Global};
 
-/// Why a call that was answered with `reply` did not end with 00000; `None` where it did. Asked right after the call, of the same
+/// Why a call that was answered with `reply` did not end with 00000; `None` if it did. It is asked right after the call, with the same
 /// procedure and values.
 ///
-/// What the cause says is true of the session as it is, and its status is that of the reply. Where no cause can be told, it is the
-/// general one, which says no more than the status. If values fit the procedure, it is so only if no fault of the statement and
-/// no cause of its cursor holds that has the status.
+/// The cause is true of the session as it is, and has the status of the reply. If no cause can be told, it is the general one, which
+/// says no more than the status. If values fit the procedure, the general one is answered only if no fault of the statement and no
+/// cause of its cursor holds that has the status.
 #[tactic(auto, using(crate::proofs::Causes::kept_cause, crate::proofs::AlwaysFound::left_of))]
 pub fn why<S: Store>(
     alloc: Global,

@@ -14,7 +14,7 @@ use sq_session::Session;
 use sq_store::Store;
 use std::alloc::{AllocError, Global};
 
-/// What a trace shows beside the report, and where it ends.
+/// The options of a trace: which lines it shows beside the report, and at which call it ends.
 #[derive(Clone, Copy, Debug, PartialEq, Eq)]
 pub struct TraceOptions {
     /// Each table that a call changed is shown whole.

@@ -78,7 +78,7 @@ fn has_one_of(row: &[Value], columns: &[usize], several: &[Row]) -> bool
         .any(|values| has_values(row, columns, values.as_slice()))
 }
 
-/// Whether a row has these values in these columns, where null is the same as null. A column that the row lacks is null.
+/// Whether a row has these values in these columns. Null is the same as null, and a column that the row lacks is null.
 pub fn has_values(row: &[Value], columns: &[usize], values: &[Value]) -> bool
     ensures { result ≡ pointwise is_same values.now (in_columns row.now columns.now) }
 {
