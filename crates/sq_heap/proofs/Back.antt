@@ -166,34 +166,6 @@ fits_drop n us zero h = h
 fits_drop n [] (suc from) h = h
 fits_drop n (u ∷ us) (suc from) h = fits_drop n us from (grind (arith, common_steps))
 
-before_most : (n at : ℕ) (s : Slot) → is_last_or_in n at s ≡ true → (at < n) × (length_before n at s ≤ n)
-before_most n at None h = let last : at + 1 ≡ n = grind (arith, common_steps) in (omega (arith, last), omega (arith, last))
-before_most n at (Some row) h = let lt : at < n = grind (arith, common_steps) in (lt, omega arith)
-
-back_most : (n : ℕ) (us : List Undo) → fits n us ≡ true → length_back n us ≤ n
-back_most n [] h = omega arith
-back_most n (u ∷ us) h =
-    let rest : length_back n us ≤ n = back_most n us (grind (arith, common_steps)) in
-    let first : is_last_or_in (length_back n us) u.at u.old ≡ true = grind (arith, common_steps) in
-    let most : length_before (length_back n us) u.at u.old ≤ length_back n us = (before_most (length_back n us) u.at u.old first).1 in
-    omega (arith, rest, most)
-
-fits_first : (n : ℕ) (u : Undo) (us : List Undo) → fits n (u ∷ us) ≡ true → u.at < n
-fits_first n u us h =
-    let rest : length_back n us ≤ n = back_most n us (grind (arith, common_steps)) in
-    let first : is_last_or_in (length_back n us) u.at u.old ≡ true = grind (arith, common_steps) in
-    let lt : u.at < length_back n us = (before_most (length_back n us) u.at u.old first).0 in
-    omega (arith, rest, lt)
-
--- each change was one of the slots that there are
-pub fits_at : (n : ℕ) (us : List Undo) (i : ℕ) (u : Undo) → i < length us → u ≡ get_or us i u → fits n us ≡ true → u.at < n
-fits_at n [] i u lt e h = absurd (omega arith)
-fits_at n (v ∷ us) zero u lt e h =
-    let same : u.at ≡ v.at = ap (λ (w : Undo). w.at) e in
-    let first : v.at < n = fits_first n v us h in
-    omega (arith, same, first)
-fits_at n (v ∷ us) (suc i) u lt e h = fits_at n us i u (omega arith) e (grind (arith, common_steps))
-
 -- back to a place, and from there back to the start
 pub back_take_drop : (ss : List Slot) (us : List Undo) (from : ℕ) → back (back ss (drop from us)) (take from us) ≡ back ss us
 back_take_drop ss us zero = refl

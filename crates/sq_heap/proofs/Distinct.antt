@@ -1,7 +1,7 @@
 -- Whether two rows have the same key can be seen from the changed rows, where no two had before.
-use Rattle.std.proofs.Common.{◌≡◌, ℕ, zero, suc, ◌+◌, ◌≤◌, Bool, true, false, ◌&&◌, ◌||◌, not, nat_eq, List, [], ◌∷◌, ◌++◌, length, take, slice_set, Some, None, ◌⊎◌, inl, inr, arith, refl, sym, ap, ◌∙◌}
+use Rattle.std.proofs.Common.{◌≡◌, ℕ, zero, suc, ◌+◌, ◌≤◌, ◌<◌, Bool, true, false, ◌&&◌, ◌||◌, not, nat_eq, List, [], ◌∷◌, ◌++◌, length, take, slice_set, Some, None, ◌⊎◌, inl, inr, arith, refl, sym, ap, subst, ◌∙◌}
 use Rattle.std.specs.List.{list_all, list_any}
-use Rattle.std.proofs.lemmas.Bool.{false≢true, and_from, false_from_ne_true, or_right, or_left}
+use Rattle.std.proofs.lemmas.Bool.{false≢true, and_from, false_from_ne_true, or_left, or_right}
 use Rattle.std.proofs.lemmas.Grind.{common_steps}
 use Rattle.std.specs.Cmp.Lexicographic.{lists_equiv, pointwise}
 use Rattle.sq_value.proofs.Truths.{both_left, both_right, alike}
@@ -10,7 +10,7 @@ use Rattle.sq_value.specs.Key.{in_columns}
 use Rattle.sq_value.specs.laws.ValueOrder.{same_equiv}
 use Rattle.sq_value.specs.declared.value.Value.{Value}
 use Rattle.sq_store.specs.Keys.{Keys, are_distinct, has_distinct_keys, has_key}
-use Rattle.sq_heap.specs.Alone.{all_alone, is_alone, same_key, slot_alone}
+use Rattle.sq_heap.specs.Alone.{all_alone, is_alone, keeps_key, same_key, slot_alone}
 use Rattle.sq_heap.specs.Slots.{Slot, rows_from, slot_at, table_of}
 use Rattle.sq_heap.specs.Undo.{back, before_change, fits, is_last_or_in, length_back, length_before}
 use Rattle.sq_heap.proofs.Back.{fits_last, fits_pop}
@@ -157,49 +157,72 @@ before_other : (ss : List Slot) (at : ℕ) (old : Slot) (i : ℕ) → is_last_or
 before_other ss at None i h ne = take_other ss at i (grind (arith, common_steps)) ne
 before_other ss at (Some row) i h ne = set_other ss at i (Some row) ne
 
--- a slot is changed, or as before
-changed_or_same : (ss : List Slot) (us : List Undo) (i : ℕ) → fits (length ss) us ≡ true → (list_any (λ u. nat_eq u.at i) us ≡ true) ⊎ (slot_at (back ss us) i ≡ slot_at ss i)
-changed_or_same ss [] i h = inr refl
-changed_or_same ss (u ∷ us) i h =
+-- a slot that is set
+set_here : (ss : List Slot) (at : ℕ) (s : Slot) → at < length ss → slot_at (slice_set ss at s) at ≡ s
+set_here [] at s lt = absurd (omega arith)
+set_here (t ∷ ss) zero s lt = refl
+set_here (t ∷ ss) (suc at) s lt = set_here ss at s (omega arith)
+
+-- ---- one slot, before all changes and now
+
+-- its row is alone, or before all changes there was one with the same key
+abbrev IsApart : List ℕ → List Slot → List Undo → ℕ → List Value → Type 0
+IsApart columns ss us i r = (is_alone columns r i 0 ss ≡ true) ⊎ ((p : List Value) × (slot_at (back ss us) i ≡ Some p) × (same_key columns r p ≡ true))
+
+kept_before : (columns : List ℕ) (ss : List Slot) (us : List Undo) (at : ℕ) (old : Slot) (r : List Value) → is_last_or_in (length (back ss us)) at old ≡ true → keeps_key columns old r ≡ true
+    → (p : List Value) × (slot_at (before_change (back ss us) at old) at ≡ Some p) × (same_key columns r p ≡ true)
+kept_before columns ss us at None r h k = cc
+kept_before columns ss us at (Some p) r h k = let lt : at < length (back ss us) = grind (arith, common_steps) in (p, set_here (back ss us) at (Some p) lt, k)
+
+apart_here : (columns : List ℕ) (ss : List Slot) (us : List Undo) (u : Undo) (r : List Value) → is_last_or_in (length (back ss us)) u.at u.old ≡ true → slot_alone columns ss u.at u.old (Some r) ≡ true
+    → IsApart columns ss (u ∷ us) u.at r
+apart_here columns ss us u r h alone = by_test (keeps_key columns u.old r)
+    (λ t. inr (kept_before columns ss us u.at u.old r h t))
+    (λ f. inl (or_rest (keeps_key columns u.old r) (is_alone columns r u.at 0 ss) f alone))
+
+apart_one : (columns : List ℕ) (ss : List Slot) (us : List Undo) (i : ℕ) (r : List Value) → fits (length ss) us ≡ true → all_alone columns ss us ≡ true → slot_at ss i ≡ Some r → IsApart columns ss us i r
+apart_one columns ss [] i r h alone e = inr (r, e, (lists_equiv same_equiv).refl (in_columns r columns))
+apart_one columns ss (u ∷ us) i r h alone e =
     let rest : fits (length ss) us ≡ true = both_right (is_last_or_in (length_back (length ss) us) u.at u.old) (fits (length ss) us) h in
     let first : is_last_or_in (length_back (length ss) us) u.at u.old ≡ true = both_left (is_last_or_in (length_back (length ss) us) u.at u.old) (fits (length ss) us) h in
     let in' : is_last_or_in (length (back ss us)) u.at u.old ≡ true = ap (λ (n : ℕ). is_last_or_in n u.at u.old) (back_length ss us rest) ∙ first in
-    by_test (nat_eq u.at i)
-    (λ t. inl (or_left (nat_eq u.at i) (list_any (λ v. nat_eq v.at i) us) t))
-    (λ f. elim (changed_or_same ss us i rest) [
-      | inl changed ↦ inl (or_right (nat_eq u.at i) (list_any (λ v. nat_eq v.at i) us) changed)
-      | inr same ↦ inr (before_other (back ss us) u.at u.old i in' f ∙ same)
-    ])
-
--- a changed row that is alone
-alone_one : (columns : List ℕ) (ss : List Slot) (us : List Undo) (i : ℕ) (r : List Value) → all_alone columns ss us ≡ true → list_any (λ u. nat_eq u.at i) us ≡ true → slot_at ss i ≡ Some r → is_alone columns r i 0 ss ≡ true
-alone_one columns ss [] i r h t e = cc
-alone_one columns ss (u ∷ us) i r h t e =
-    let here : slot_alone columns ss u.at (slot_at ss u.at) ≡ true = both_left (slot_alone columns ss u.at (slot_at ss u.at)) (all_alone columns ss us) h in
-    let rest : all_alone columns ss us ≡ true = both_right (slot_alone columns ss u.at (slot_at ss u.at)) (all_alone columns ss us) h in
+    let here : slot_alone columns ss u.at u.old (slot_at ss u.at) ≡ true = both_left (slot_alone columns ss u.at u.old (slot_at ss u.at)) (all_alone columns ss us) alone in
+    let others : all_alone columns ss us ≡ true = both_right (slot_alone columns ss u.at u.old (slot_at ss u.at)) (all_alone columns ss us) alone in
     by_test (nat_eq u.at i)
     (λ y.
     let at : u.at ≡ i = grind (arith, common_steps) in
-    let there : slot_alone columns ss i (slot_at ss i) ≡ true = sym (ap (λ (k : ℕ). slot_alone columns ss k (slot_at ss k)) at) ∙ here in
-    sym (ap (λ (s : Slot). slot_alone columns ss i s) e) ∙ there)
-    (λ f. alone_one columns ss us i r rest (or_rest (nat_eq u.at i) (list_any (λ v. nat_eq v.at i) us) f t) e)
+    let row : slot_at ss u.at ≡ Some r = ap (slot_at ss) at ∙ e in
+    subst (λ (k : ℕ). IsApart columns ss (u ∷ us) k r) at (apart_here columns ss us u r in' (sym (ap (slot_alone columns ss u.at u.old) row) ∙ here)))
+    (λ f. elim (apart_one columns ss us i r rest others e) [
+      | inl one ↦ inl one
+      | inr kept ↦ inr (kept.0, before_other (back ss us) u.at u.old i in' f ∙ kept.1, kept.2)
+    ])
 
-alone_slot : (columns : List ℕ) (ss : List Slot) (at : ℕ) (s : Slot) → ((i j : ℕ) (r q : List Value) → slot_at ss i ≡ Some r → slot_at ss j ≡ Some q → same_key columns r q ≡ true → i ≡ j) → slot_at ss at ≡ s → slot_alone columns ss at s ≡ true
-alone_slot columns ss at None apart e = refl
-alone_slot columns ss at (Some row) apart e = alone_from columns row at 0 ss (λ j q f s. let k : at ≡ j = apart at j row q e f s in omega arith)
+alone_slot : (columns : List ℕ) (ss : List Slot) (at : ℕ) (old s : Slot) → ((i j : ℕ) (r q : List Value) → slot_at ss i ≡ Some r → slot_at ss j ≡ Some q → same_key columns r q ≡ true → i ≡ j) → slot_at ss at ≡ s → slot_alone columns ss at old s ≡ true
+alone_slot columns ss at old None apart e = refl
+alone_slot columns ss at old (Some row) apart e = or_right (keeps_key columns old row) (is_alone columns row at 0 ss)
+    (alone_from columns row at 0 ss (λ j q f s. let k : at ≡ j = apart at j row q e f s in omega arith))
 
 alone_each : (columns : List ℕ) (ss : List Slot) (us : List Undo) → ((i j : ℕ) (r q : List Value) → slot_at ss i ≡ Some r → slot_at ss j ≡ Some q → same_key columns r q ≡ true → i ≡ j) → all_alone columns ss us ≡ true
 alone_each columns ss [] apart = refl
-alone_each columns ss (u ∷ us) apart = and_from _ _ (alone_slot columns ss u.at (slot_at ss u.at) apart refl) (alone_each columns ss us apart)
+alone_each columns ss (u ∷ us) apart = and_from _ _ (alone_slot columns ss u.at u.old (slot_at ss u.at) apart refl) (alone_each columns ss us apart)
 
--- no two rows have the same key exactly where all changed rows are alone
+-- two rows of before have the same key if rows with their keys have
+same_before : (columns : List ℕ) (r q p o : List Value) → same_key columns r q ≡ true → same_key columns r p ≡ true → same_key columns q o ≡ true → same_key columns p o ≡ true
+same_before columns r q p o rq rp qo =
+    let laws = lists_equiv same_equiv in
+    let first = in_columns r columns in
+    let last = in_columns o columns in
+    sym (laws.congr first (in_columns p columns) last rp) ∙ laws.congr first (in_columns q columns) last rq ∙ qo
+
+-- no two rows have the same key exactly where all changed slots are alone
 apart_later : (columns : List ℕ) (ss : List Slot) (us : List Undo) → fits (length ss) us ≡ true → are_distinct columns (rows_from 1 (back ss us)) ≡ true → all_alone columns ss us ≡ true
     → (i j : ℕ) (r q : List Value) → slot_at ss i ≡ Some r → slot_at ss j ≡ Some q → same_key columns r q ≡ true → i ≡ j
-apart_later columns ss us h before alone i j r q e f s = elim (changed_or_same ss us i h) [
-  | inl changed ↦ let k : 0 + j ≡ i = alone_at columns r i 0 ss j q (alone_one columns ss us i r alone changed e) f s in omega arith
-  | inr same ↦ elim (changed_or_same ss us j h) [
-    | inl changed ↦ let k : 0 + i ≡ j = alone_at columns q j 0 ss i r (alone_one columns ss us j q alone changed f) e (same_symm columns r q s) in omega arith
-    | inr also ↦ apart_from_distinct columns 1 (back ss us) before i j r q (same ∙ e) (also ∙ f) s
+apart_later columns ss us h before alone i j r q e f s = elim (apart_one columns ss us i r h alone e) [
+  | inl one ↦ let k : 0 + j ≡ i = alone_at columns r i 0 ss j q one f s in omega arith
+  | inr kept ↦ elim (apart_one columns ss us j q h alone f) [
+    | inl one ↦ let k : 0 + i ≡ j = alone_at columns q j 0 ss i r one e (same_symm columns r q s) in omega arith
+    | inr also ↦ apart_from_distinct columns 1 (back ss us) before i j kept.0 also.0 kept.1 also.1 (same_before columns r q kept.0 also.0 s kept.2 also.2)
   ]
 ]
 

@@ -1,5 +1,5 @@
 -- Rows found through an index, and whether they share its key.
-use Rattle.std.proofs.Common.{◌≡◌, ℕ, zero, suc, ◌+◌, ◌<◌, Bool, true, false, ◌&&◌, not, nat_eq, drop, find, List, [], ◌∷◌, length, get_or, slice_index_or, cond, if◌then◌else◌, is_some, Option, Some, None, arith, refl, sym, ap, ◌∙◌}
+use Rattle.std.proofs.Common.{◌≡◌, ℕ, zero, suc, ◌+◌, ◌<◌, Bool, true, false, not, nat_eq, find, List, [], ◌∷◌, length, get_or, slice_index_or, cond, if◌then◌else◌, is_some, Option, Some, None, arith, refl, sym, ap, ◌∙◌}
 use Rattle.std.specs.List.{list_all, list_any}
 use Rattle.std.proofs.lemmas.Bool.{false≢true, false_from_ne_true, or_right, or_left, not-true, and_from}
 use Rattle.std.proofs.lemmas.Grind.{common_steps}
@@ -9,13 +9,12 @@ use Rattle.sq_value.specs.Comparison.{is_same}
 use Rattle.sq_value.specs.Key.{in_columns}
 use Rattle.sq_value.specs.declared.value.Value.{Value}
 use Rattle.sq_store.specs.Keys.{are_distinct, has_columns, has_key}
-use Rattle.sq_heap.specs.Alone.{all_alone, is_alone, slot_alone, slots_have}
+use Rattle.sq_heap.specs.Alone.{is_alone, slots_have}
 use Rattle.sq_heap.specs.Chain.{is_entry}
 use Rattle.sq_heap.specs.Index.{bucket_of, columns_of, enters, has_entry, hash_of, in_all, is_in, keys_of, named, names_key, names_other, slot_has_key, slots_hold}
 use Rattle.sq_heap.specs.Slots.{Slot, rows_from, slot_at}
 use Rattle.sq_heap.specs.declared.index.Entry.{Entry}
 use Rattle.sq_heap.specs.declared.index.Index.{Index}
-use Rattle.sq_heap.specs.declared.undo.Undo.{Undo}
 use Rattle.sq_store.proofs.Unique.{found_with as unique_found}
 use Rattle.sq_heap.proofs.Columns.{columns_of_slot}
 use Rattle.sq_heap.proofs.Rows.{row_there}
@@ -163,14 +162,3 @@ alone_in index row at ss hash e h =
     let same : nat_eq found.0 at ≡ true = grind (arith, common_steps) in
     absurd (false≢true (sym found.2 ∙ same)))
     (λ none. ap not none))
-
--- ---- a changed row that shares its key with another
-
-pub shared_at : (columns : List ℕ) (ss : List Slot) (us : List Undo) (i : ℕ) (u : Undo) (row : List Value) → i < length us → u ≡ get_or us i u → slot_at ss u.at ≡ Some row
-    → is_alone columns row u.at 0 ss ≡ false → all_alone columns ss (drop i us) ≡ false
-shared_at columns ss [] i u row lt e s shared = absurd (omega arith)
-shared_at columns ss (v ∷ us) zero u row lt e s shared =
-    let here : slot_alone columns ss v.at (slot_at ss v.at) ≡ false
-    = ap (λ (w : Undo). slot_alone columns ss w.at (slot_at ss w.at)) (sym e) ∙ ap (slot_alone columns ss u.at) s ∙ shared in
-    ap (λ b. b && all_alone columns ss us) here
-shared_at columns ss (v ∷ us) (suc i) u row lt e s shared = shared_at columns ss us i u row (omega arith) e s shared

@@ -1,5 +1,5 @@
 -- Whether changed rows share a key with another row.
-use Rattle.std.specs.Prelude.{ℕ, ◌+◌, Bool, true, ◌&&◌, ◌||◌, not, nat_eq, List, [], ◌∷◌, Some, None}
+use Rattle.std.specs.Prelude.{ℕ, ◌+◌, Bool, true, false, ◌&&◌, ◌||◌, not, nat_eq, List, [], ◌∷◌, Some, None}
 use Rattle.std.specs.List.{list_all}
 use Rattle.std.specs.Cmp.Lexicographic.{pointwise}
 use Rattle.sq_value.specs.Comparison.{is_same}
@@ -20,13 +20,19 @@ is_alone columns row at place (None ∷ slots) = is_alone columns row at (place 
 is_alone columns row at place (Some other ∷ slots) =
     (nat_eq place at || not (same_key columns row other)) && is_alone columns row at (place + 1) slots
 
-abbrev pub slot_alone : List ℕ → List Slot → ℕ → Slot → Bool
-slot_alone columns slots at None = true
-slot_alone columns slots at (Some row) = is_alone columns row at 0 slots
+-- a row has the key of the row that was in its slot before
+abbrev pub keeps_key : List ℕ → Slot → List Value → Bool
+keeps_key columns None row = false
+keeps_key columns (Some old) row = same_key columns row old
 
--- no changed row shares a key with another row
+-- a changed slot has no row, or one with the key from before, or one that shares its key with no other
+abbrev pub slot_alone : List ℕ → List Slot → ℕ → Slot → Slot → Bool
+slot_alone columns slots at old None = true
+slot_alone columns slots at old (Some row) = keeps_key columns old row || is_alone columns row at 0 slots
+
+-- all changed slots are so
 abbrev pub all_alone : List ℕ → List Slot → List Undo → Bool
-all_alone columns slots undo = list_all (λ u. slot_alone columns slots u.at (slot_at slots u.at)) undo
+all_alone columns slots undo = list_all (λ u. slot_alone columns slots u.at u.old (slot_at slots u.at)) undo
 
 -- the row of a slot has the columns of a key
 abbrev pub slot_has : List ℕ → Slot → Bool

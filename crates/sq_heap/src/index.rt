@@ -5,7 +5,7 @@ ghost use Rattle.std.specs.List.{list_all};
 ghost use Rattle.std.specs.Option.{option_copied};
 ghost use Rattle.sq_heap.specs.Chain.{are_falling, chain_of, is_within};
 
-use crate::hash::hash_of_row;
+use crate::hash::{hash_of_row, have_same_key};
 use sq_items::Items;
 use sq_value::{Row, Value};
 use std::alloc::{AllocError, Global};
@@ -92,7 +92,8 @@ impl Index {
         }
     }
 
-    /// Adds an entry for a row. The entry of the row that was in its slot before serves where the hash is the same.
+    /// Adds an entry for a row. The entry of the row that was in its slot before serves if the key is the same.
+    #[tactic(auto, using(crate::proofs::Entries::same_hash))]
     pub(crate) fn enter(
         &mut self,
         before: Option<&Row>,
@@ -106,10 +107,12 @@ impl Index {
         ensures entered { OnOk result (is_in self.new row.now at ≡ true) }
     {
         let columns = self.columns.as_slice();
-        let hash = hash_of_row(row, columns);
         match before {
-            Some(old) if hash_of_row(old.as_slice(), columns) == hash => Ok(()),
-            _ => self.add(hash, at),
+            Some(old) if have_same_key(row, old.as_slice(), columns) => Ok(()),
+            _ => {
+                let hash = hash_of_row(row, columns);
+                self.add(hash, at)
+            }
         }
     }
 

@@ -1,18 +1,17 @@
 //! Rows found by their keys, and whether they share them; whether a row has some values.
 
-ghost use Rattle.std.specs.Prelude.{◌≡◌, find, false, true, is_some, length, Some, None, MatchOption};
+ghost use Rattle.std.specs.Prelude.{◌≡◌, find, false, true, is_some, Some, None, MatchOption};
 ghost use Rattle.std.specs.Cmp.Lexicographic.{pointwise};
 ghost use Rattle.std.specs.List.{list_all, list_any};
 ghost use Rattle.std.specs.Option.{option_copied};
 ghost use Rattle.sq_value.specs.Comparison.{is_same};
 ghost use Rattle.sq_value.specs.Key.{in_columns};
 ghost use Rattle.sq_store.specs.Keys.{are_distinct, has_columns, has_key};
-ghost use Rattle.sq_heap.specs.Alone.{all_alone, is_alone, slots_have};
+ghost use Rattle.sq_heap.specs.Alone.{all_alone, is_alone, keeps_key, slot_alone, slots_have};
 ghost use Rattle.sq_heap.specs.Index.{bucket_of, enters, is_in, keys_of, named, names_key, names_other, slots_hold};
 ghost use Rattle.sq_heap.specs.Slots.{rows_from, slot_at};
-ghost use Rattle.sq_heap.specs.Undo.{fits};
 
-use crate::hash::{hash_of_key, hash_of_row};
+use crate::hash::{hash_of_key, hash_of_row, have_same_key};
 use crate::index::{Entry, Index};
 use crate::slots::row_in;
 use crate::undo::Undo;
@@ -137,19 +136,43 @@ fn has_other(slots: &[Option<Row>], index: &Index, row: &[Value], at: usize, has
     false
 }
 
+/// Whether a changed row has the key of the row that was in its slot before.
+fn keeps_key(old: &Option<Row>, row: &[Value], columns: &[usize]) -> bool
+    ensures { result ≡ keeps_key columns.now old.now row.now }
+{
+    match old {
+        Some(old) => have_same_key(row, old.as_slice(), columns),
+        None => false,
+    }
+}
+
+/// Whether the row in a changed slot shares the key of an index with no other row. If it has the key from before, it needn't
+/// be looked for: no two rows had the same key then.
+#[tactic(auto, using(crate::proofs::Columns::columns_of_slot))]
+fn slot_alone(slots: &[Option<Row>], index: &Index, change: &Undo) -> bool
+    requires columns { slots_have index.now.columns slots.now ≡ true }
+    requires entered { slots_hold (is_in index.now) 0 slots.now ≡ true }
+    ensures { result ≡ slot_alone index.now.columns slots.now change.now.at change.now.old
+        (slot_at slots.now change.now.at) }
+{
+    match row_in(slots, change.at) {
+        Some(row) => {
+            keeps_key(&change.old, row.as_slice(), index.columns())
+                || is_alone(slots, index, row.as_slice(), change.at)
+        }
+        None => true,
+    }
+}
+
 /// Whether no changed row shares the key of an index with another row.
-#[tactic(auto, using(crate::proofs::Columns::columns_of_slot, crate::proofs::Rows::slot_is, crate::proofs::Back::fits_at))]
 fn all_alone(slots: &[Option<Row>], index: &Index, changes: &[Undo]) -> bool
     requires columns { slots_have index.now.columns slots.now ≡ true }
     requires entered { slots_hold (is_in index.now) 0 slots.now ≡ true }
-    requires changes { fits (length slots.now) changes.now ≡ true }
     ensures { result ≡ all_alone index.now.columns slots.now changes.now }
 {
     for change in changes {
-        if let Some(row) = &slots[change.at] {
-            if !is_alone(slots, index, row.as_slice(), change.at) {
-                return false;
-            }
+        if !slot_alone(slots, index, change) {
+            return false;
         }
     }
     true
@@ -159,7 +182,6 @@ fn all_alone(slots: &[Option<Row>], index: &Index, changes: &[Undo]) -> bool
 pub(crate) fn are_alone(slots: &[Option<Row>], indexes: &[Index], changes: &[Undo]) -> bool
     requires columns { list_all (λ columns. slots_have columns slots.now) (keys_of indexes.now) ≡ true }
     requires entered { list_all (enters slots.now) indexes.now ≡ true }
-    requires changes { fits (length slots.now) changes.now ≡ true }
     ensures { result ≡ list_all (λ columns. all_alone columns slots.now changes.now) (keys_of indexes.now) }
 {
     for index in indexes {

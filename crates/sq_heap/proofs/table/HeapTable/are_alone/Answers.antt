@@ -1,11 +1,9 @@
--- Left open: what the call of are_alone asks for, and the result; answered by Back, Columns and others.
+-- Left open: what the call of are_alone asks for, and the result; answered by Columns, Entries and Keyed.
 use Rattle.std.proofs.Common.{◌∙◌, ◌-◌, ap, drop, length, take}
 use Rattle.std.specs.List.{list_all}
 use Rattle.std.proofs.lemmas.List.{take_rest}
 use Rattle.sq_heap.specs.Alone.{all_alone, slots_have}
 use Rattle.sq_heap.specs.Index.{enters, keys_of}
-use Rattle.sq_heap.specs.Undo.{fits}
-use Rattle.sq_heap.proofs.Back.{fits_drop}
 use Rattle.sq_heap.proofs.Columns.{slots_of_keys}
 use Rattle.sq_heap.proofs.Entries.{all_first, keys_first}
 use Rattle.sq_heap.proofs.Keyed.{each_holds}
@@ -25,16 +23,6 @@ are_alone-requires-clause-entered c =
     let xs = c.args.self.now.indexes.items in
     let slots = c.args.self.now.slots.list.items in
     (λ i. list_all (enters (c.as_slice.ensures i)) (take n (c.deref.ensures.value i))) ∙ all_first (enters slots) n xs (each_holds xs slots c.args.self.now.entered)
-
-pub are_alone-requires-clause-changes : goal.are_alone-requires-clause-changes
-are_alone-requires-clause-changes c =
-    let from = c.args.from in
-    let count = length c.args.self.now.slots.list.items in
-    let undo = c.args.self.now.undo.items in
-    ap (λ slots. fits (length slots) (take (length c.deref-2.result.now - from) (drop from c.deref-2.result.now))) c.as_slice.ensures
-    ∙ ap (λ us. fits count (take (length us - from) (drop from us))) c.deref-2.ensures.value
-    ∙ ap (fits count) (take_rest undo from)
-    ∙ fits_drop count undo from c.args.self.now.undoable
 
 pub returns : goal.returns
 returns c =
