@@ -12,4 +12,5 @@ pub mod LineValues
 pub mod RowTables
 pub mod Rows
 pub mod Served
+pub mod ServedHaving
 pub mod ServedWhere

@@ -31,6 +31,12 @@ IsStanding OnNoLine known scopes = ⊥
 abbrev pub IsAround : Around → List (Scope (Unit {0})) → Type 0
 IsAround a = IsStanding a.standing (scopes_beyond a.lines)
 
+-- that is around the groups of a query specification, if this is around it
+abbrev pub IsAroundGroups : Around → Around → Type 0
+IsAroundGroups a groups =
+    (scopes : List (Scope (Unit {0}))) (group : Scope (Unit {0})) → IsAround a scopes
+    → IsAround groups (group ∷ scopes)
+
 -- scopes have the rows of these levels
 abbrev pub AreRowsAround : TableKinds → List Kind → Levels → List (Scope (Unit {0})) → Type 0
 AreRowsAround columns parameters levels scopes =

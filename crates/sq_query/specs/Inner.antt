@@ -16,6 +16,7 @@ use Rattle.sq_meaning.specs.Status.{Outcome}
 use Rattle.sq_meaning.specs.Syntax.{conds, select}
 use Rattle.sq_meaning.specs.WellFormed.{IsDeclaredAt, IsRowOf, WellFormedCond, WellFormedSelect, kinds_by_place}
 use Rattle.sq_bound.specs.Condition.{PlacedCond, PlacedSelect, cond_of, conj_of, select_of, test_of}
+use Rattle.sq_bound.specs.Expression.{PlacedExpr}
 use Rattle.sq_bound.specs.Fits.{keys_of_bases, not_nulls_hold}
 use Rattle.sq_bound.specs.Noted.{CondIsNoted, SelectIsNoted}
 use Rattle.sq_bound.specs.WellFormed.{BasesAreThere, Levels, TableKinds}
@@ -59,12 +60,20 @@ ReadsAround P (select distinct list from filter by having) = AllByRecursion P fr
 abbrev pub around_tables : PlacedSelect → List TablePlace
 around_tables (select distinct list from filter by having) = from ++ clause_tables having
 
--- those of tests, and of terms
-abbrev pub tests_tables : List BoundTest → List TablePlace
-tests_tables tests = conds_tables (conds (map (test_of []) tests))
+-- of each table of a query specification but those of the subqueries of its HAVING clause P holds
+abbrev pub ReadsLines : (TablePlace → Type 0) → PlacedSelect → Type 0
+ReadsLines P (select distinct list from filter by having) = AllByRecursion P from × ReadsClause P filter
 
-abbrev pub terms_tables : List BoundConj → List TablePlace
-terms_tables terms = conds_tables (conds (map (conj_of []) terms))
+-- these tables, in the order in which they are added
+abbrev pub lines_tables : PlacedSelect → List TablePlace
+lines_tables (select distinct list from filter by having) = from ++ clause_tables filter
+
+-- those of tests, and of terms, whatever the set functions of the group are
+abbrev pub tests_tables : List PlacedExpr → List BoundTest → List TablePlace
+tests_tables functions tests = conds_tables (conds (map (test_of functions) tests))
+
+abbrev pub terms_tables : List PlacedExpr → List BoundConj → List TablePlace
+terms_tables functions terms = conds_tables (conds (map (conj_of functions) terms))
 
 -- all these tables are needed, and those of all terms, or tests, but one
 pub record AreOfOtherParts {A : Type 0} (tree : A → PlacedCond) (parts : List A) (number : ℕ)

@@ -2,7 +2,7 @@
 
 ghost use Rattle.std.specs.Prelude.{◌≡◌, true, false, IfErr, IfOk, IfSome, Ok};
 ghost use Rattle.sq_value.specs.SetFunctions.{is_null};
-ghost use Rattle.sq_query.specs.Around.{HasValueBeneath, IsSameAround, IsSameBeneath};
+ghost use Rattle.sq_query.specs.Around.{HasValueBeneath, IsAroundGroups, IsSameAround, IsSameBeneath};
 ghost use Rattle.sq_query.specs.declared.around.Standing.TheVariants as at_standing;
 ghost use Rattle.sq_expression.specs.Frame.{scopes_beyond};
 
@@ -38,6 +38,22 @@ impl<'l, 'r> Around<'l, 'r> {
         match self.standing {
             Standing::OnNoLine => true,
             _ => false,
+        }
+    }
+
+    /// What is around the HAVING clause of a query specification that stands here: of the group nothing is known but that there is none.
+    pub(crate) fn on_groups(&self) -> Around<'l, 'r>
+        ensures { IsAroundGroups self.now result }
+    {
+        match self.standing {
+            Standing::OnNoLine => Around {
+                standing: Standing::OnNoLine,
+                lines: None,
+            },
+            _ => Around {
+                standing: Standing::OnSomeLine,
+                lines: None,
+            },
         }
     }
 }

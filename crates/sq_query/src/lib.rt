@@ -7,6 +7,7 @@
 #![tactic(auto)]
 
 mod around;
+mod elsewhere;
 mod inner;
 mod inputs;
 mod items;

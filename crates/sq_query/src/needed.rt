@@ -8,7 +8,7 @@ ghost use Rattle.sq_bound.specs.Expression.{PlacedExpr};
 ghost use Rattle.sq_bound.specs.WellFormed.{BasesAreThere, TableKinds};
 ghost use Rattle.sq_meaning.specs.Target.{has_subquery, clause_has_subquery};
 ghost use Rattle.sq_query.specs.Needed.{Adds, AddsBefore, AreKnown, IsClosed, IsClosedAt, IsNeeded, NeedsMore, ReadsCond, ReadsInside, ReadsSelect, NeedsNone, clause_tables, cond_tables, inside_tables, places_in, specification_tables, with_place, with_table};
-ghost use Rattle.sq_query.specs.Inner.{around_tables, terms_tables, tests_tables};
+ghost use Rattle.sq_query.specs.Inner.{around_tables, lines_tables, terms_tables, tests_tables};
 ghost use Rattle.sq_query.specs.Items.{is_left};
 ghost use Rattle.sq_query.specs.Table.{IsViewAt};
 ghost use Rattle.sq_bound.specs.declared.condition.TablePlace.{TablePlace as AnyPlace};
@@ -177,6 +177,14 @@ impl Needed {
         }
     }
 
+    /// Adds the tables of a query specification but those of the subqueries of its HAVING clause.
+    pub(crate) fn add_of_lines(&mut self, query: &BoundSpecification) -> Result<(), AllocError>
+        ensures { OnOk result (Adds self.old (lines_tables (select_of query.now)) self.new) }
+    {
+        self.add_each(query.from.tables.as_slice())?;
+        self.add_of_optional(&query.condition)
+    }
+
     fn add_each(&mut self, tables: &[TablePlace]) -> Result<(), AllocError>
         ensures { OnOk result (Adds self.old tables.now self.new) }
     {
@@ -188,7 +196,8 @@ impl Needed {
 
     /// Adds the tables of the subqueries of terms.
     pub(crate) fn add_of_terms(&mut self, terms: &[BoundConj]) -> Result<(), AllocError>
-        ensures { OnOk result (Adds self.old (terms_tables terms.now) self.new) }
+        ensures { (functions : List PlacedExpr)
+            → OnOk result (Adds self.old (terms_tables functions terms.now) self.new) }
     {
         for term in terms {
             self.add_of_tests(term)?;
@@ -198,7 +207,8 @@ impl Needed {
 
     /// Adds the tables of the subqueries of tests.
     pub(crate) fn add_of_each(&mut self, tests: &[BoundTest]) -> Result<(), AllocError>
-        ensures { OnOk result (Adds self.old (tests_tables tests.now) self.new) }
+        ensures { (functions : List PlacedExpr)
+            → OnOk result (Adds self.old (tests_tables functions tests.now) self.new) }
     {
         for test in tests {
             self.add_of_predicate(&test.predicate)?;

@@ -4,7 +4,7 @@ use Rattle.std.proofs.Common.{◌≡◌, ◌∙◌, Bool, true, false, ◌&&◌,
 use Rattle.std.specs.Prelude.{if◌then◌else◌, filter, flat_map}
 use Rattle.std.specs.List.{AllByRecursion, AllZip}
 use Rattle.std.proofs.lemmas.List.Elements.{filter-append}
-use Rattle.sq_meaning.specs.Environment.{Env, Line, Place, Row, alone, within}
+use Rattle.sq_meaning.specs.Environment.{Env, Line, Place, Row, Scope, alone, within}
 use Rattle.sq_meaning.specs.Placed.{Placed, by_place}
 use Rattle.sq_meaning.specs.Query.{clause_truth, is_true, listed_values, rows, scopes_of}
 use Rattle.sq_meaning.specs.Rows.{firsts, product, same_row}
@@ -42,6 +42,18 @@ kept_filtered {A} test stays (x ∷ xs) out = by (stays x) refl (kept_filtered t
 pub kept_alike : {A : Type 0} (test other : A → Outcome Bool) (xs : List A) → AllByRecursion (λ x. test x ≡ other x) xs → kept test xs ≡ kept other xs
 kept_alike test other [] same = refl
 kept_alike test other (x ∷ xs) same = λ i. and_then (same.0 i) (λ passes. and_then (kept_alike test other xs same.1 i) (λ ys. Ok (if passes then x ∷ ys else ys)))
+
+-- what holds of all holds of those that are kept
+all_kept : {A : Type 0} (P : A → Type 0) (test : A → Outcome Bool) (xs ys : List A) → AllByRecursion P xs → kept test xs ≡ Ok ys → AllByRecursion P ys
+all_kept P test [] ys all are = subst (AllByRecursion P) (ok_same [] ys are) tt
+all_kept {A} P test (x ∷ xs) ys all are = by (test x) (kept test xs) refl are (λ zs is. all_kept P test xs zs all.1 is)
+  where
+    by : (o : Outcome Bool) (p : Outcome (List A)) → kept test xs ≡ p → and_then o (λ passes. and_then p (λ zs. Ok (if passes then x ∷ zs else zs))) ≡ Ok ys → ((zs : List A) → kept test xs ≡ Ok zs → AllByRecursion P zs) → AllByRecursion P ys
+    by (Ok true) (Ok zs) is same rest = subst (AllByRecursion P) (ok_same (x ∷ zs) ys same) (all.0, rest zs is)
+    by (Ok false) (Ok zs) is same rest = subst (AllByRecursion P) (ok_same zs ys same) (rest zs is)
+    by (Ok true) (Err s) is same rest = absurd cc
+    by (Ok false) (Err s) is same rest = absurd cc
+    by (Err s) p is same rest = absurd cc
 
 module _ {A : Type 0} where
   -- each element of a line is left by the test of its place
@@ -193,3 +205,46 @@ module _ (f g : TablePlace → Outcome (List Row)) (distinct : Bool) (list : Sel
           so : (o : Outcome (List (List Row))) → each f from ≡ o → and_then o (λ ts. kept (wanted_of f heads) (product ts)) ≡ and_then o (λ ts. kept (wanted_of g heads) (product ts))
           so (Ok tables) e = kept_alike (wanted_of f heads) (wanted_of g heads) (product tables) (all_weaker (λ line. clause_truth (by_place f) filter_by (within (alone heads line) env) ≡ clause_truth (by_place g) filter_by (within (alone heads line) env)) (λ line. wanted_of f heads line ≡ wanted_of g heads line) (λ line h. ap is_true h) (product tables) (same heads tables e))
           so (Err s) e = refl
+
+  then_alike : {A B : Type 0} (o : Outcome A) (p q : A → Outcome B) → ((x : A) → o ≡ Ok x → p x ≡ q x) → and_then o p ≡ and_then o q
+  then_alike (Ok x) p q same = same x refl
+  then_alike (Err s) p q same = refl
+
+  abbrev passes_in : (TablePlace → Outcome (List Row)) → Scope (Unit {0}) → Outcome Bool
+  passes_in tables scope = is_true (clause_truth (by_place tables) having (within scope env))
+
+  abbrev shown_left : (TablePlace → Outcome (List Row)) → List (Scope (Unit {0})) → Outcome (List Row)
+  shown_left tables left = and_then (each (λ scope. listed_values (by_place tables) list (within scope env)) left) (λ shown. Ok (if distinct then firsts same_row shown else shown))
+
+  -- where HAVING has the same truth on each group
+  pub same_by_groups : AllByRecursion (λ t. f t ≡ g t) from → ReadsClause (λ t. f t ≡ g t) filter_by
+      → ((heads : List (Unit {0})) (lines : List Line) (scopes : List (Scope (Unit {0}))) → heads_of ≡ Ok heads → lines_of f heads ≡ Ok lines → scopes_of (by_place f) list by having heads lines env ≡ Ok scopes
+      → AllByRecursion (λ scope. clause_truth (by_place f) having (within scope env) ≡ clause_truth (by_place g) having (within scope env)) scopes)
+      → rows (by_place f) (select distinct list from filter_by by having) env ≡ rows (by_place g) (select distinct list from filter_by by having) env
+  same_by_groups same_from same_filter same =
+      by_lines f
+      ∙ then_alike heads_of (λ heads. and_then (lines_of f heads) (shown_of f heads)) (λ heads. and_then (lines_of g heads) (shown_of g heads))
+      (λ heads is.
+      then_alike (lines_of f heads) (shown_of f heads) (shown_of g heads) (λ lines are. shown_alike heads lines is are) ∙ ap (λ (o : Outcome (List Line)). and_then o (shown_of g heads)) (lines_alike heads))
+      ∙ sym (by_lines g)
+    where
+      lines_alike : (heads : List (Unit {0})) → lines_of f heads ≡ lines_of g heads
+      lines_alike heads = λ i. and_then (same_each f g from same_from i) (λ ts. kept (λ line. is_true (same_clause f g filter_by same_filter (within (alone heads line) env) i)) (product ts))
+
+      shown_alike : (heads : List (Unit {0})) (lines : List Line) → heads_of ≡ Ok heads → lines_of f heads ≡ Ok lines → shown_of f heads lines ≡ shown_of g heads lines
+      shown_alike heads lines is are =
+          then_alike (scopes_of (by_place f) list by having heads lines env) (λ scopes. and_then (kept (passes_in f) scopes) (shown_left f)) (λ scopes. and_then (kept (passes_in g) scopes) (shown_left g))
+          (λ scopes groups.
+          ap (λ (o : Outcome (List (Scope (Unit {0})))). and_then o (shown_left f))
+          (kept_alike (passes_in f) (passes_in g) scopes
+          (all_weaker (λ scope. clause_truth (by_place f) having (within scope env) ≡ clause_truth (by_place g) having (within scope env)) (λ scope. passes_in f scope ≡ passes_in g scope) (λ scope h. ap is_true h) scopes (same heads lines scopes is are groups)))
+          ∙ (λ i. and_then (kept (passes_in g) scopes) (λ left. and_then (each (λ scope. listed_over f g list (within scope env) i) left) (λ shown. Ok (if distinct then firsts same_row shown else shown)))))
+          ∙ (λ i. and_then (scopes_over f g list by having heads lines env i) (λ scopes. and_then (kept (passes_in g) scopes) (shown_left g)))
+
+  -- what holds of each line of the product holds of each for which WHERE is true
+  pub kept_are : (P : Line → Type 0) (heads : List (Unit {0})) (lines : List Line) → ((tables : List (List Row)) → each f from ≡ Ok tables → AllByRecursion P (product tables)) → lines_of f heads ≡ Ok lines → AllByRecursion P lines
+  kept_are P heads lines all are = so (each f from) refl are
+    where
+      so : (o : Outcome (List (List Row))) → each f from ≡ o → and_then o (λ ts. kept (wanted_of f heads) (product ts)) ≡ Ok lines → AllByRecursion P lines
+      so (Ok tables) e are = all_kept P (wanted_of f heads) (product tables) lines (all tables e) are
+      so (Err s) e are = absurd cc

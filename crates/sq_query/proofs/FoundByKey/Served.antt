@@ -69,25 +69,26 @@ module _ (f g : TablePlace → Outcome (List Row)) (env : Env (Unit {0})) where
     same_exists : truth (by_place f) (exists q) env ≡ truth (by_place g) (exists q) env
     same_exists = λ i. and_then (same i) (λ rs. Ok (known (has_rows rs)))
 
-  -- a predicate with a subquery that has the same rows has the same truth
-  pub same_predicate : (p : Predicate) (s : BoundSpecification) → IsSubqueryOf p s → rows (by_place f) (select_of s) env ≡ rows (by_place g) (select_of s) env
-      → truth (by_place f) (predicate_of [] p) env ≡ truth (by_place g) (predicate_of [] p) env
-  same_predicate p s (inl (op, k, e, is)) same =
-      let tree : predicate_of [] p ≡ compared_with k op (expr_of [] e) (select_of s) = ap (predicate_of []) is ∙ predicate_of-CompareQuery [] op k e s in
-      subst (λ (c : PlacedCond). truth (by_place f) c env ≡ truth (by_place g) c env) (sym tree) (same_compared (select_of s) same k op (expr_of [] e))
-  same_predicate p s (inr (inl (n, e, is))) same =
-      let tree : predicate_of [] p ≡ not_if n (in_subquery (expr_of [] e) (select_of s)) = ap (predicate_of []) is ∙ predicate_of-InQuery [] n e s in
-      subst (λ (c : PlacedCond). truth (by_place f) c env ≡ truth (by_place g) c env) (sym tree) (same_not n (in_subquery (expr_of [] e) (select_of s)) (same_in (select_of s) same (expr_of [] e)))
-  same_predicate p s (inr (inr is)) same =
-      let tree : predicate_of [] p ≡ exists (select_of s) = ap (predicate_of []) is ∙ predicate_of-Exists [] s in
-      subst (λ (c : PlacedCond). truth (by_place f) c env ≡ truth (by_place g) c env) (sym tree) (same_exists (select_of s) same)
+  module _ (functions : List PlacedExpr) where
+    -- a predicate with a subquery that has the same rows has the same truth
+    pub same_predicate : (p : Predicate) (s : BoundSpecification) → IsSubqueryOf p s → rows (by_place f) (select_of s) env ≡ rows (by_place g) (select_of s) env
+        → truth (by_place f) (predicate_of functions p) env ≡ truth (by_place g) (predicate_of functions p) env
+    same_predicate p s (inl (op, k, e, is)) same =
+        let tree : predicate_of functions p ≡ compared_with k op (expr_of functions e) (select_of s) = ap (predicate_of functions) is ∙ predicate_of-CompareQuery functions op k e s in
+        subst (λ (c : PlacedCond). truth (by_place f) c env ≡ truth (by_place g) c env) (sym tree) (same_compared (select_of s) same k op (expr_of functions e))
+    same_predicate p s (inr (inl (n, e, is))) same =
+        let tree : predicate_of functions p ≡ not_if n (in_subquery (expr_of functions e) (select_of s)) = ap (predicate_of functions) is ∙ predicate_of-InQuery functions n e s in
+        subst (λ (c : PlacedCond). truth (by_place f) c env ≡ truth (by_place g) c env) (sym tree) (same_not n (in_subquery (expr_of functions e) (select_of s)) (same_in (select_of s) same (expr_of functions e)))
+    same_predicate p s (inr (inr is)) same =
+        let tree : predicate_of functions p ≡ exists (select_of s) = ap (predicate_of functions) is ∙ predicate_of-Exists functions s in
+        subst (λ (c : PlacedCond). truth (by_place f) c env ≡ truth (by_place g) c env) (sym tree) (same_exists (select_of s) same)
 
-  -- a test has the truth of its predicate, or the opposite
-  pub same_test : (t : BoundTest) → truth (by_place f) (predicate_of [] t.predicate) env ≡ truth (by_place g) (predicate_of [] t.predicate) env → truth (by_place f) (test_of [] t) env ≡ truth (by_place g) (test_of [] t) env
-  same_test t same = subst (λ (c : PlacedCond). truth (by_place f) c env ≡ truth (by_place g) c env) (sym (test_of-out [] t)) (same_not t.negated (predicate_of [] t.predicate) same)
+    -- a test has the truth of its predicate, or the opposite
+    pub same_test : (t : BoundTest) → truth (by_place f) (predicate_of functions t.predicate) env ≡ truth (by_place g) (predicate_of functions t.predicate) env → truth (by_place f) (test_of functions t) env ≡ truth (by_place g) (test_of functions t) env
+    same_test t same = subst (λ (c : PlacedCond). truth (by_place f) c env ≡ truth (by_place g) c env) (sym (test_of-out functions t)) (same_not t.negated (predicate_of functions t.predicate) same)
 
-  pub same_bracketed : (p : Predicate) (c : BoundCond) → p ≡ bound.Bracketed c → truth (by_place f) (cond_of [] c) env ≡ truth (by_place g) (cond_of [] c) env → truth (by_place f) (predicate_of [] p) env ≡ truth (by_place g) (predicate_of [] p) env
-  same_bracketed p c is same = subst (λ (d : PlacedCond). truth (by_place f) d env ≡ truth (by_place g) d env) (sym (ap (predicate_of []) is ∙ predicate_of-Bracketed [] c)) same
+    pub same_bracketed : (p : Predicate) (c : BoundCond) → p ≡ bound.Bracketed c → truth (by_place f) (cond_of functions c) env ≡ truth (by_place g) (cond_of functions c) env → truth (by_place f) (predicate_of functions p) env ≡ truth (by_place g) (predicate_of functions p) env
+    same_bracketed p c is same = subst (λ (d : PlacedCond). truth (by_place f) d env ≡ truth (by_place g) d env) (sym (ap (predicate_of functions) is ∙ predicate_of-Bracketed functions c)) same
 
   -- conditions with the same truths have it together
   pub same_together : {A : Type 0} (tree : A → PlacedCond) (parts : List A) → AllByRecursion (λ x. truth (by_place f) (tree x) env ≡ truth (by_place g) (tree x) env) parts
@@ -118,18 +119,19 @@ module _ (now : TablePlace → Outcome (List Row)) (columns : TableKinds) (param
   compared_well All op a q h = h.2
   compared_well Any op a q h = h.2
 
-  pub subquery_well : (p : Predicate) (s : BoundSpecification) → IsSubqueryOf p s → IsWell (predicate_of [] p) → IsWellSelect (select_of s)
-  subquery_well p s (inl (op, k, e, is)) h = compared_well k op (expr_of [] e) (select_of s) (subst IsWell (ap (predicate_of []) is ∙ predicate_of-CompareQuery [] op k e s) h)
-  subquery_well p s (inr (inl (n, e, is))) h =
-      let well : IsWell (in_subquery (expr_of [] e) (select_of s)) = unnegated n (in_subquery (expr_of [] e) (select_of s)) (subst IsWell (ap (predicate_of []) is ∙ predicate_of-InQuery [] n e s) h) in
-      well.2
-  subquery_well p s (inr (inr is)) h = subst IsWell (ap (predicate_of []) is ∙ predicate_of-Exists [] s) h
+  module _ (functions : List PlacedExpr) where
+    pub subquery_well : (p : Predicate) (s : BoundSpecification) → IsSubqueryOf p s → IsWell (predicate_of functions p) → IsWellSelect (select_of s)
+    subquery_well p s (inl (op, k, e, is)) h = compared_well k op (expr_of functions e) (select_of s) (subst IsWell (ap (predicate_of functions) is ∙ predicate_of-CompareQuery functions op k e s) h)
+    subquery_well p s (inr (inl (n, e, is))) h =
+        let well : IsWell (in_subquery (expr_of functions e) (select_of s)) = unnegated n (in_subquery (expr_of functions e) (select_of s)) (subst IsWell (ap (predicate_of functions) is ∙ predicate_of-InQuery functions n e s) h) in
+        well.2
+    subquery_well p s (inr (inr is)) h = subst IsWell (ap (predicate_of functions) is ∙ predicate_of-Exists functions s) h
 
-  pub bracketed_well : (p : Predicate) (c : BoundCond) → p ≡ bound.Bracketed c → IsWell (predicate_of [] p) → IsWell (cond_of [] c)
-  bracketed_well p c is h = subst IsWell (ap (predicate_of []) is ∙ predicate_of-Bracketed [] c) h
+    pub bracketed_well : (p : Predicate) (c : BoundCond) → p ≡ bound.Bracketed c → IsWell (predicate_of functions p) → IsWell (cond_of functions c)
+    bracketed_well p c is h = subst IsWell (ap (predicate_of functions) is ∙ predicate_of-Bracketed functions c) h
 
-  pub tested_well : (t : BoundTest) → IsWell (test_of [] t) → IsWell (predicate_of [] t.predicate)
-  tested_well t h = unnegated t.negated (predicate_of [] t.predicate) (subst IsWell (test_of-out [] t) h)
+    pub tested_well : (t : BoundTest) → IsWell (test_of functions t) → IsWell (predicate_of functions t.predicate)
+    tested_well t h = unnegated t.negated (predicate_of functions t.predicate) (subst IsWell (test_of-out functions t) h)
 
   pub part_well : {A : Type 0} (tree : A → PlacedCond) (parts : List A) (n : ℕ) (x : A) → WellFormedConds (by_place now) (kinds_by_place columns parameters) (IsDeclaredAt parameters) levels (conds (map tree parts)) → slice_get parts n ≡ Some x → IsWell (tree x)
   part_well tree [] n x h e = absurd cc
@@ -229,64 +231,65 @@ module _ (content : Content) (keys : List Keys) (values : List Value) (caller : 
                 same_either (over before tables) (over after tables) env tree parts (parts_same (over before tables) (over after tables) s.apart env (s.same scopes is rows_around));
           }
 
-  -- a term of a condition
-  pub term_serves : (c : BoundCond) (terms : List BoundConj) → terms ≡ (out-BoundCond c).terms → (n : ℕ) (term : BoundConj) → slice_get terms n ≡ Some term → (all : Needed) → AreOfOtherParts (conj_of []) terms n elsewhere all → (before after : List BaseRows)
-      → ServesCond (conj_of [] term) (ConjWith IsNoted term) all a content keys values caller before after → ServesCond (cond_of [] c) (CondIsNoted c) elsewhere a content keys values caller before after
-  term_serves c terms are n term at all beside before after serves =
-      let tree : cond_of [] c ≡ disjunction (conds (map (conj_of []) terms)) = cond_of-out [] c ∙ ap (λ (ts : List BoundConj). disjunction (conds (map (conj_of []) ts))) (sym are) in
-      let noted : CondIsNoted c → ConjWith IsNoted term = λ notes. one_of_all (ConjWith IsNoted) terms n term (subst (AllByRecursion (ConjWith IsNoted)) (sym are) (cond_held IsNoted c notes)) at in
-      subst (λ (d : PlacedCond). ServesCond d (CondIsNoted c) elsewhere a content keys values caller before after) (sym tree)
-      (serves_any (conj_of []) terms n term at all beside (CondIsNoted c) (ConjWith IsNoted term) noted before after serves)
+  module _ (functions : List PlacedExpr) where
+    -- a term of a condition
+    pub term_serves : (c : BoundCond) (terms : List BoundConj) → terms ≡ (out-BoundCond c).terms → (n : ℕ) (term : BoundConj) → slice_get terms n ≡ Some term → (all : Needed) → AreOfOtherParts (conj_of functions) terms n elsewhere all → (before after : List BaseRows)
+        → ServesCond (conj_of functions term) (ConjWith IsNoted term) all a content keys values caller before after → ServesCond (cond_of functions c) (CondIsNoted c) elsewhere a content keys values caller before after
+    term_serves c terms are n term at all beside before after serves =
+        let tree : cond_of functions c ≡ disjunction (conds (map (conj_of functions) terms)) = cond_of-out functions c ∙ ap (λ (ts : List BoundConj). disjunction (conds (map (conj_of functions) ts))) (sym are) in
+        let noted : CondIsNoted c → ConjWith IsNoted term = λ notes. one_of_all (ConjWith IsNoted) terms n term (subst (AllByRecursion (ConjWith IsNoted)) (sym are) (cond_held IsNoted c notes)) at in
+        subst (λ (d : PlacedCond). ServesCond d (CondIsNoted c) elsewhere a content keys values caller before after) (sym tree)
+        (serves_any (conj_of functions) terms n term at all beside (CondIsNoted c) (ConjWith IsNoted term) noted before after serves)
 
-  -- a test of a term
-  pub test_serves : (c : BoundConj) (tests : List BoundTest) → tests ≡ (out-BoundConj c).tests → (n : ℕ) (test : BoundTest) → slice_get tests n ≡ Some test → (all : Needed) → AreOfOtherParts (test_of []) tests n elsewhere all → (before after : List BaseRows)
-      → ServesCond (predicate_of [] test.predicate) (PredicateWith IsNoted test.predicate) all a content keys values caller before after → ServesCond (conj_of [] c) (ConjWith IsNoted c) elsewhere a content keys values caller before after
-  test_serves c tests are n test at all beside before after serves =
-      let tree : conj_of [] c ≡ conjunction (conds (map (test_of []) tests)) = conj_of-out [] c ∙ ap (λ (ts : List BoundTest). conjunction (conds (map (test_of []) ts))) (sym are) in
-      let noted : ConjWith IsNoted c → PredicateWith IsNoted test.predicate = λ notes. test_held IsNoted test (one_of_all (TestWith IsNoted) tests n test (subst (AllByRecursion (TestWith IsNoted)) (sym are) (conj_held IsNoted c notes)) at) in
-      subst (λ (d : PlacedCond). ServesCond d (ConjWith IsNoted c) elsewhere a content keys values caller before after) (sym tree)
-      (serves_all (test_of []) tests n test at all beside (ConjWith IsNoted c) (PredicateWith IsNoted test.predicate) noted before after (as_test serves))
-    where
-      as_test : ServesCond (predicate_of [] test.predicate) (PredicateWith IsNoted test.predicate) all a content keys values caller before after → ServesCond (test_of [] test) (PredicateWith IsNoted test.predicate) all a content keys values caller before after
-      as_test serves columns parameters levels tables given stands fitting =
-          let s = serves columns parameters levels tables given ((λ now. tested_well now columns parameters levels test (stands.0 now)), stands.1) fitting in record {
-            fit = s.fit;
-            apart = s.apart;
-            same = λ scopes is rows_around. same_test (over before tables) (over after tables) (record { scopes = scopes; inputs = inputs_of values; user = caller }) test (s.same scopes is rows_around);
+    -- a test of a term
+    pub test_serves : (c : BoundConj) (tests : List BoundTest) → tests ≡ (out-BoundConj c).tests → (n : ℕ) (test : BoundTest) → slice_get tests n ≡ Some test → (all : Needed) → AreOfOtherParts (test_of functions) tests n elsewhere all → (before after : List BaseRows)
+        → ServesCond (predicate_of functions test.predicate) (PredicateWith IsNoted test.predicate) all a content keys values caller before after → ServesCond (conj_of functions c) (ConjWith IsNoted c) elsewhere a content keys values caller before after
+    test_serves c tests are n test at all beside before after serves =
+        let tree : conj_of functions c ≡ conjunction (conds (map (test_of functions) tests)) = conj_of-out functions c ∙ ap (λ (ts : List BoundTest). conjunction (conds (map (test_of functions) ts))) (sym are) in
+        let noted : ConjWith IsNoted c → PredicateWith IsNoted test.predicate = λ notes. test_held IsNoted test (one_of_all (TestWith IsNoted) tests n test (subst (AllByRecursion (TestWith IsNoted)) (sym are) (conj_held IsNoted c notes)) at) in
+        subst (λ (d : PlacedCond). ServesCond d (ConjWith IsNoted c) elsewhere a content keys values caller before after) (sym tree)
+        (serves_all (test_of functions) tests n test at all beside (ConjWith IsNoted c) (PredicateWith IsNoted test.predicate) noted before after (as_test serves))
+      where
+        as_test : ServesCond (predicate_of functions test.predicate) (PredicateWith IsNoted test.predicate) all a content keys values caller before after → ServesCond (test_of functions test) (PredicateWith IsNoted test.predicate) all a content keys values caller before after
+        as_test serves columns parameters levels tables given stands fitting =
+            let s = serves columns parameters levels tables given ((λ now. tested_well now columns parameters levels functions test (stands.0 now)), stands.1) fitting in record {
+              fit = s.fit;
+              apart = s.apart;
+              same = λ scopes is rows_around. same_test (over before tables) (over after tables) (record { scopes = scopes; inputs = inputs_of values; user = caller }) functions test (s.same scopes is rows_around);
+            }
+
+    -- one part more
+    pub term_more : (c : BoundCond) (terms : List BoundConj) → terms ≡ (out-BoundCond c).terms → (n : ℕ) (term : BoundConj) → n < length terms → term ≡ get_or terms n term → (all : Needed) → AreOfOtherParts (conj_of functions) terms n elsewhere all → (before now after : List BaseRows)
+        → ServesCond (cond_of functions c) (CondIsNoted c) elsewhere a content keys values caller before now → ServesCond (conj_of functions term) (ConjWith IsNoted term) all a content keys values caller now after → ServesCond (cond_of functions c) (CondIsNoted c) elsewhere a content keys values caller before after
+    term_more c terms are n term within at all beside before now after so_far serves =
+        cond_both (cond_of functions c) (CondIsNoted c) before now after so_far (term_serves c terms are n term (at_index terms n term term within (sym at)) all beside now after serves)
+
+    pub test_more : (c : BoundConj) (tests : List BoundTest) → tests ≡ (out-BoundConj c).tests → (n : ℕ) (test : BoundTest) → n < length tests → test ≡ get_or tests n test → (all : Needed) → AreOfOtherParts (test_of functions) tests n elsewhere all → (before now after : List BaseRows)
+        → ServesCond (conj_of functions c) (ConjWith IsNoted c) elsewhere a content keys values caller before now → ServesCond (predicate_of functions test.predicate) (PredicateWith IsNoted test.predicate) all a content keys values caller now after → ServesCond (conj_of functions c) (ConjWith IsNoted c) elsewhere a content keys values caller before after
+    test_more c tests are n test within at all beside before now after so_far serves =
+        cond_both (conj_of functions c) (ConjWith IsNoted c) before now after so_far (test_serves c tests are n test (at_index tests n test test within (sym at)) all beside now after serves)
+
+    -- a predicate with a subquery, and one in brackets
+    module _ (p : Predicate) where
+      abbrev ServePredicate : List BaseRows → List BaseRows → Type 0
+      ServePredicate = ServesCond (predicate_of functions p) (PredicateWith IsNoted p) elsewhere a content keys values caller
+
+      pub subquery_serves : (s : BoundSpecification) → IsSubqueryOf p s → (before : List BaseRows) (r : Found) → IfOk r (λ found. ServesSelect s elsewhere a content keys values caller before found.items) → IfOk r (λ found. ServePredicate before found.items)
+      subquery_serves s is before (Err e) serves = tt
+      subquery_serves s is before (Ok found) serves = λ columns parameters levels tables given stands fitting.
+          let after = found.items in
+          let t = serves columns parameters levels tables given ((λ now. subquery_well now columns parameters levels functions p s is (stands.0 now)), subquery_noted p s is stands.1) fitting in record {
+            fit = t.fit;
+            apart = t.apart;
+            same = λ scopes around rows_around. same_predicate (over before tables) (over after tables) (record { scopes = scopes; inputs = inputs_of values; user = caller }) functions p s is (t.same scopes around rows_around);
           }
 
-  -- one part more
-  pub term_more : (c : BoundCond) (terms : List BoundConj) → terms ≡ (out-BoundCond c).terms → (n : ℕ) (term : BoundConj) → n < length terms → term ≡ get_or terms n term → (all : Needed) → AreOfOtherParts (conj_of []) terms n elsewhere all → (before now after : List BaseRows)
-      → ServesCond (cond_of [] c) (CondIsNoted c) elsewhere a content keys values caller before now → ServesCond (conj_of [] term) (ConjWith IsNoted term) all a content keys values caller now after → ServesCond (cond_of [] c) (CondIsNoted c) elsewhere a content keys values caller before after
-  term_more c terms are n term within at all beside before now after so_far serves =
-      cond_both (cond_of [] c) (CondIsNoted c) before now after so_far (term_serves c terms are n term (at_index terms n term term within (sym at)) all beside now after serves)
-
-  pub test_more : (c : BoundConj) (tests : List BoundTest) → tests ≡ (out-BoundConj c).tests → (n : ℕ) (test : BoundTest) → n < length tests → test ≡ get_or tests n test → (all : Needed) → AreOfOtherParts (test_of []) tests n elsewhere all → (before now after : List BaseRows)
-      → ServesCond (conj_of [] c) (ConjWith IsNoted c) elsewhere a content keys values caller before now → ServesCond (predicate_of [] test.predicate) (PredicateWith IsNoted test.predicate) all a content keys values caller now after → ServesCond (conj_of [] c) (ConjWith IsNoted c) elsewhere a content keys values caller before after
-  test_more c tests are n test within at all beside before now after so_far serves =
-      cond_both (conj_of [] c) (ConjWith IsNoted c) before now after so_far (test_serves c tests are n test (at_index tests n test test within (sym at)) all beside now after serves)
-
-  -- a predicate with a subquery, and one in brackets
-  module _ (p : Predicate) where
-    abbrev ServePredicate : List BaseRows → List BaseRows → Type 0
-    ServePredicate = ServesCond (predicate_of [] p) (PredicateWith IsNoted p) elsewhere a content keys values caller
-
-    pub subquery_serves : (s : BoundSpecification) → IsSubqueryOf p s → (before : List BaseRows) (r : Found) → IfOk r (λ found. ServesSelect s elsewhere a content keys values caller before found.items) → IfOk r (λ found. ServePredicate before found.items)
-    subquery_serves s is before (Err e) serves = tt
-    subquery_serves s is before (Ok found) serves = λ columns parameters levels tables given stands fitting.
-        let after = found.items in
-        let t = serves columns parameters levels tables given ((λ now. subquery_well now columns parameters levels p s is (stands.0 now)), subquery_noted p s is stands.1) fitting in record {
-          fit = t.fit;
-          apart = t.apart;
-          same = λ scopes around rows_around. same_predicate (over before tables) (over after tables) (record { scopes = scopes; inputs = inputs_of values; user = caller }) p s is (t.same scopes around rows_around);
-        }
-
-    pub bracketed_serves : (c : BoundCond) → p ≡ bound.Bracketed c → (before : List BaseRows) (r : Found) → IfOk r (λ found. ServesCond (cond_of [] c) (CondIsNoted c) elsewhere a content keys values caller before found.items) → IfOk r (λ found. ServePredicate before found.items)
-    bracketed_serves c is before (Err e) serves = tt
-    bracketed_serves c is before (Ok found) serves = λ columns parameters levels tables given stands fitting.
-        let after = found.items in
-        let t = serves columns parameters levels tables given ((λ now. bracketed_well now columns parameters levels p c is (stands.0 now)), bracketed_one IsNoted p c is stands.1) fitting in record {
-          fit = t.fit;
-          apart = t.apart;
-          same = λ scopes around rows_around. same_bracketed (over before tables) (over after tables) (record { scopes = scopes; inputs = inputs_of values; user = caller }) p c is (t.same scopes around rows_around);
-        }
+      pub bracketed_serves : (c : BoundCond) → p ≡ bound.Bracketed c → (before : List BaseRows) (r : Found) → IfOk r (λ found. ServesCond (cond_of functions c) (CondIsNoted c) elsewhere a content keys values caller before found.items) → IfOk r (λ found. ServePredicate before found.items)
+      bracketed_serves c is before (Err e) serves = tt
+      bracketed_serves c is before (Ok found) serves = λ columns parameters levels tables given stands fitting.
+          let after = found.items in
+          let t = serves columns parameters levels tables given ((λ now. bracketed_well now columns parameters levels functions p c is (stands.0 now)), bracketed_one IsNoted p c is stands.1) fitting in record {
+            fit = t.fit;
+            apart = t.apart;
+            same = λ scopes around rows_around. same_bracketed (over before tables) (over after tables) (record { scopes = scopes; inputs = inputs_of values; user = caller }) functions p c is (t.same scopes around rows_around);
+          }

@@ -7,7 +7,7 @@ use Rattle.sq_bound.specs.declared.condition.BoundSpecification.{BoundSpecificat
 use Rattle.sq_bound.specs.declared.condition.Grouping.{Grouping, out-Grouping}
 use Rattle.sq_bound.specs.declared.condition.TablePlace.{TablePlace}
 use Rattle.sq_bound.proofs.ConditionLaws.{groups_of-out, select_of-out}
-use Rattle.sq_query.specs.Inner.{around_tables}
+use Rattle.sq_query.specs.Inner.{around_tables, lines_tables}
 use Rattle.sq_query.specs.Needed.{clause_tables, inside_tables, select_tables, specification_tables}
 
 inside_by : (s : BoundSpecification) (groups : Groups) → groups_if (option_map groups_of (out-BoundSpecification s).grouping) ≡ groups
@@ -47,3 +47,7 @@ pub around_grouped : (s : BoundSpecification) (g : Grouping) → (out-BoundSpeci
 around_grouped s g is =
     around_by s (groups_by (out-Grouping g).columns (map call_of (out-Grouping g).set_functions) (clause_of (map call_of (out-Grouping g).set_functions) (out-Grouping g).having))
     (ap (λ (h : Option Grouping). groups_if (option_map groups_of h)) is ∙ groups_of-out g)
+
+-- without those of its HAVING clause
+pub items_and_lines : (s : BoundSpecification) → lines_tables (select_of s) ≡ (out-BoundSpecification s).from.tables ++ clause_tables (clause_of [] (out-BoundSpecification s).condition)
+items_and_lines s = ap lines_tables (select_of-out s)
