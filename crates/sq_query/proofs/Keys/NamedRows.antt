@@ -233,7 +233,7 @@ module _ (s : Sought) (values : List Value) (user : Name) where
   list_tree : (test : BoundTest) (a : BoundExpr) (es : List BoundExpr) → test.negated ≡ false → test.predicate ≡ bound.InList false a es → test_of [] test ≡ in_list (expr_of [] a) (map (expr_of []) es)
   list_tree test a es plain is = test_of-out [] test ∙ ap (λ (b : Bool). not_if b (predicate_of [] test.predicate)) plain ∙ ap (predicate_of []) is ∙ predicate_of-InList [] false a es
 
-  list_names : (test : BoundTest) (a : BoundExpr) (es : List BoundExpr) (n : ℕ) (vs : List Value) → test.negated ≡ false → test.predicate ≡ bound.InList false a es → IsColumnOf s.item n a → AllZip (IsSameOnLines s values user) es vs → IsFalseBy s Unnoted values user test n vs
+  pub list_names : (test : BoundTest) (a : BoundExpr) (es : List BoundExpr) (n : ℕ) (vs : List Value) → test.negated ≡ false → test.predicate ≡ bound.InList false a es → IsColumnOf s.item n a → AllZip (IsSameOnLines s values user) es vs → IsFalseBy s Unnoted values user test n vs
   list_names test a es n vs plain is own known =
       let c = in_list (column_here n) (map (expr_of []) es) in
       alike (IsTrusted Unnoted test) (IsTrusted Unnoted test) (λ columns tables h. h) (test_of [] test) c (list_tree test a es plain is ∙ ap (λ (x : PlacedExpr). in_list x (map (expr_of []) es)) own) n vs
