@@ -1,8 +1,8 @@
 //! The expressions by whose values a condition names the rows of an item: what its tests say that a column is equal to, as far as it is known
 //! beforehand that they have one value on all lines.
 
-ghost use Rattle.std.specs.Prelude.{IfSome};
-ghost use Rattle.sq_query.specs.Ways.{IsFoundByTest};
+ghost use Rattle.std.specs.Prelude.{◌≡◌, ◌++◌, IfOk, IfSome, OnOk, map};
+ghost use Rattle.sq_query.specs.Ways.{IsFoundBy, IsFoundByTest, IsFoundByTests};
 ghost use Rattle.sq_query.specs.declared.named.Sure.TheVariants as at_sure;
 
 use crate::named::{Sure, equal_to, is_column_in, is_passed};
@@ -109,7 +109,10 @@ fn exprs_by_condition<'c>(
     column: usize,
     seen: &Seen<'_>,
     sure: Sure,
-) -> Result<Option<Vec<&'c BoundExpr>>, AllocError> {
+) -> Result<Option<Vec<&'c BoundExpr>>, AllocError>
+    ensures { IfOk result (λ found. IfSome found (λ exprs.
+        IsFoundBy seen.now.item sure condition.now column (map (λ e. e.now) exprs.items))) }
+{
     let mut exprs = Vec::new(alloc);
     for term in condition.terms.as_slice() {
         match exprs_by_tests(alloc, term.tests.as_slice(), column, seen, sure)? {
@@ -128,7 +131,10 @@ fn exprs_by_tests<'c>(
     column: usize,
     seen: &Seen<'_>,
     sure: Sure,
-) -> Result<Option<Vec<&'c BoundExpr>>, AllocError> {
+) -> Result<Option<Vec<&'c BoundExpr>>, AllocError>
+    ensures { IfOk result (λ found. IfSome found (λ exprs.
+        IsFoundByTests seen.now.item sure tests.now column (map (λ e. e.now) exprs.items))) }
+{
     for test in tests {
         let exprs = exprs_by_test(alloc, test, column, seen, sure)?;
         if exprs.is_some() {
@@ -148,7 +154,10 @@ fn exprs_by_test<'c>(
     column: usize,
     seen: &Seen<'_>,
     sure: Sure,
-) -> Result<Option<Vec<&'c BoundExpr>>, AllocError> {
+) -> Result<Option<Vec<&'c BoundExpr>>, AllocError>
+    ensures { IfOk result (λ found. IfSome found (λ exprs.
+        IsFoundByTest seen.now.item sure test.now column (map (λ e. e.now) exprs.items))) }
+{
     match &test.predicate {
         Predicate::Bracketed(condition) => {
             if test.negated {
@@ -162,10 +171,9 @@ fn exprs_by_test<'c>(
 }
 
 /// Adds expressions to others.
-fn add_exprs<'c>(
-    exprs: Vec<&'c BoundExpr>,
-    all: &mut Vec<&'c BoundExpr>,
-) -> Result<(), AllocError> {
+fn add_exprs<'c>(exprs: Vec<&'c BoundExpr>, all: &mut Vec<&'c BoundExpr>) -> Result<(), AllocError>
+    ensures { OnOk result (all.new.items ≡ all.old.items ++ exprs.entry.items) }
+{
     let mut more = exprs;
     all.append(&mut more)?;
     Ok(())
@@ -177,7 +185,10 @@ fn exprs_by_comparison<'c>(
     test: &'c BoundTest,
     column: usize,
     seen: &Seen<'_>,
-) -> Result<Option<Vec<&'c BoundExpr>>, AllocError> {
+) -> Result<Option<Vec<&'c BoundExpr>>, AllocError>
+    ensures { IfOk result (λ found. IfSome found (λ exprs.
+        IsFoundByTest seen.now.item at_sure.Unnoted test.now column (map (λ e. e.now) exprs.items))) }
+{
     match compared_exprs(test, seen.item, column) {
         Some(exprs) => {
             if are_known(exprs, seen) {
@@ -210,12 +221,21 @@ fn compared_exprs(test: &BoundTest, item: usize, column: usize) -> Option<&[Boun
 }
 
 /// Each expression where it stands.
-fn lend_each(alloc: Global, exprs: &[BoundExpr]) -> Result<Vec<&BoundExpr>, AllocError> {
+fn lend_each(alloc: Global, exprs: &[BoundExpr]) -> Result<Vec<&BoundExpr>, AllocError>
+    ensures { IfOk result (λ lent. map (λ e. e.now) lent.items ≡ exprs.now) }
+{
     let mut lent = Vec::new(alloc);
     for expr in exprs {
-        lent.push(expr)?;
+        lent.push(lend(expr))?;
     }
     Ok(lent)
+}
+
+/// An expression where it stands.
+fn lend(expr: &BoundExpr) -> &BoundExpr
+    ensures { result.now ≡ expr.now }
+{
+    expr
 }
 
 // ---- what is known beforehand
