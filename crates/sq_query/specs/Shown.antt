@@ -1,12 +1,15 @@
 -- What a query specification reads whose FROM clause is a plain view alone: where its WHERE clause names a row of the base table under
 -- the view by a key, that row alone of it, through other plain views too (ISO/IEC 9075:1992, 7.4, 7.6 and 11.19; own rule).
-use Rattle.std.specs.Prelude.{⊤, ◌≡◌, ◌<◌, ℕ, Bool, true, false, List, [], ◌∷◌, IfSome, is_some, length, slice_get, Option, Some, None, Ok}
-use Rattle.std.specs.List.{AllZip, list_all}
+use Rattle.std.specs.Prelude.{⊤, ◌≡◌, ◌<◌, ◌&&◌, ℕ, nat_eq, nat_lt, Bool, true, false, List, [], ◌∷◌, IfSome, length, slice_get, Option, Some, None, Ok}
+use Rattle.std.specs.List.{AllZip, list_all, list_any}
 use Rattle.std.specs.Option.{option_and_then}
 use Rattle.sq_lex.specs.declared.name.Name.{Name}
 use Rattle.sq_value.specs.declared.value.Value.{Value}
 use Rattle.sq_store.specs.Keys.{Keys, key_at, keys_at}
+use Rattle.sq_tree.specs.declared.expr.SetFunction.{SetFunction}
+use Rattle.sq_tree.specs.declared.expr.SetFunction.TheVariants.{Count, Sum, Avg, Min, Max}
 use Rattle.sq_meaning.specs.Environment.{Row}
+use Rattle.sq_meaning.specs.Quiet.{is_quiet_expr}
 use Rattle.sq_meaning.specs.Status.{Outcome, ◌>>=◌, well_formed}
 use Rattle.sq_bound.specs.Expression.{expr_of}
 use Rattle.sq_bound.specs.Keyed.{own_column}
@@ -15,9 +18,12 @@ use Rattle.sq_bound.specs.Quiet.{is_quiet_cond}
 use Rattle.sq_bound.specs.WellFormed.{IsSelect, TableKinds, before_view, kinds_of_select}
 use Rattle.sq_bound.specs.declared.condition.BoundCond.{BoundCond}
 use Rattle.sq_bound.specs.declared.condition.BoundSpecification.{BoundSpecification, out-BoundSpecification}
+use Rattle.sq_bound.specs.declared.condition.Grouping.{Grouping, out-Grouping}
 use Rattle.sq_bound.specs.declared.condition.TablePlace.{TablePlace}
 use Rattle.sq_bound.specs.declared.condition.TablePlace.TheVariants.{Base, View}
 use Rattle.sq_bound.specs.declared.expression.BoundExpr.{BoundExpr}
+use Rattle.sq_bound.specs.declared.expression.SetFunctionCall.{SetFunctionCall}
+use Rattle.sq_bound.specs.declared.expression.SetFunctionCall.TheVariants.{CountRows, Over}
 use Rattle.sq_expression.specs.Fault.{IsRight}
 use Rattle.sq_query.specs.Key.{IsNamedBy}
 use Rattle.sq_query.specs.Search.{AreBeside, IsOver, IsWhere, with_rows}
@@ -29,21 +35,57 @@ use Rattle.sq_query.specs.declared.shown.ViewSearch.{ViewSearch}
 abbrev pub column_of : BoundExpr → Option ℕ
 column_of e = own_column (expr_of [] e)
 
-abbrev pub is_column : BoundExpr → Bool
-is_column e = is_some (column_of e)
-
 -- this column stands at this position of a select list
 abbrev pub Shows : List BoundExpr → ℕ → ℕ → Type 0
 Shows list column position = option_and_then column_of (slice_get list position) ≡ Some column
 
--- The query of a plain view: over one table alone, neither grouped nor DISTINCT, with a select list of columns and a WHERE clause whose
--- truth is never a fault. The view has a row for each row of the table of which the clause is true.
+-- ---- queries that never end with a status
+
+-- an expression that holds nothing that may end with a status, its set functions aside
+abbrev pub is_quiet_beside : BoundExpr → Bool
+is_quiet_beside e = is_quiet_expr (expr_of [] e)
+
+-- a sum or an average may be out of range, a count only of more rows than a table may have
+abbrev pub stays_in_range : SetFunction → Bool
+stays_in_range Count = true
+stays_in_range Min = true
+stays_in_range Max = true
+stays_in_range Sum = false
+stays_in_range Avg = false
+
+abbrev pub is_sure_call : SetFunctionCall → Bool
+is_sure_call CountRows = true
+is_sure_call (Over a) = stays_in_range a.function && is_quiet_beside a.operand
+
+abbrev pub is_unwritten : Option BoundCond → Bool
+is_unwritten None = true
+is_unwritten (Some c) = false
+
+-- the groups of a query: GROUP BY is there and HAVING is not, and no set function ever ends with a status
+abbrev pub is_sure_grouping : Grouping → Bool
+is_sure_grouping g =
+    nat_lt 0 (length (out-Grouping g).columns)
+    && is_unwritten (out-Grouping g).having
+    && list_all is_sure_call (out-Grouping g).set_functions
+
+-- The query of a plain view: over one table alone, none of its clauses ever ends with a status and, if it is grouped, GROUP BY is there.
 pub record IsPlainOver (q : BoundSpecification) (t : TablePlace) : Type 0 where
   pub over : IsOver q t
-  pub is_all : (out-BoundSpecification q).distinct ≡ false
-  pub ungrouped : (out-BoundSpecification q).grouping ≡ None
-  pub columns : list_all is_column (out-BoundSpecification q).list ≡ true
+  pub listed : list_all is_quiet_beside (out-BoundSpecification q).list ≡ true
   pub sure : option_all is_quiet_cond (out-BoundSpecification q).condition ≡ true
+  pub groups : option_all is_sure_grouping (out-BoundSpecification q).grouping ≡ true
+
+-- a column is one of the grouping columns, so that the rows of a group have one value there
+abbrev pub is_grouped_by : ℕ → Grouping → Bool
+is_grouped_by column g = list_any (λ p. nat_eq p.column column) (out-Grouping g).columns
+
+-- Asking the table of a plain view by this column asks the view by the column at this position: it shows the other, and the rows of a group
+-- have one value there.
+pub record Asks (q : BoundSpecification) (own position : ℕ) : Type 0 where
+  pub shown : Shows (out-BoundSpecification q).list own position
+  pub one : option_all (is_grouped_by own) (out-BoundSpecification q).grouping ≡ true
+
+-- ---- plain views
 
 -- the view at a place is plain, and its query is over this table
 pub record IsPlainView (columns : TableKinds) (queries : List BoundSpecification) (view : ℕ)
@@ -65,16 +107,15 @@ IsPath columns queries [] base = ⊤
 IsPath columns queries (view ∷ views) base =
     IsPlainView columns queries view (first_of views base) × IsPath columns queries views base
 
--- the columns of the view at a place show these of the table that its query is over, one each
-abbrev pub ShowsAt : List BoundSpecification → ℕ → List ℕ → List ℕ → Type 0
-ShowsAt queries view own columns =
-    IfSome (slice_get queries view) (λ q. AllZip (Shows (out-BoundSpecification q).list) own columns)
+-- asking the table of the view at a place by these columns asks the view by those, one each
+abbrev pub AsksAt : List BoundSpecification → ℕ → List ℕ → List ℕ → Type 0
+AsksAt queries view own columns = IfSome (slice_get queries view) (λ q. AllZip (Asks q) own columns)
 
--- columns of the first of these views show, through the others, columns of the base table, one each
+-- asking the base table by these columns asks, through the other views, the first one by those, one each
 abbrev pub AreShown : List BoundSpecification → List ℕ → List ℕ → List ℕ → Type 0
 AreShown queries [] own columns = own ≡ columns
 AreShown queries (view ∷ views) own columns =
-    (between : List ℕ) × AreShown queries views own between × ShowsAt queries view between columns
+    (between : List ℕ) × AreShown queries views own between × AsksAt queries view between columns
 
 -- a key of the base table under these views: a condition on the rows of the first names a row by columns that show those of the key, one
 -- for each

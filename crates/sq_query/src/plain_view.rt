@@ -1,21 +1,25 @@
-//! Plain views: the base table under one, through views between.
+//! Plain views, whose queries are over one table alone and never end with a status: the base table under one, through views between.
 
-ghost use Rattle.std.specs.Prelude.{◌≡◌, ◌∷◌, [], ℕ, List, IfSome, IsSome, true};
+ghost use Rattle.std.specs.Prelude.{◌≡◌, ◌∷◌, ◌&&◌, [], ℕ, List, IfSome, IsSome, nat_eq, true};
 ghost use Rattle.std.specs.List.{list_all};
 ghost use Rattle.sq_meaning.specs.WellFormed.{HasValue};
+ghost use Rattle.sq_meaning.specs.Quiet.{is_quiet_expr};
+ghost use Rattle.sq_bound.specs.Expression.{expr_of};
 ghost use Rattle.sq_bound.specs.Names.{option_all};
 ghost use Rattle.sq_bound.specs.Quiet.{is_quiet_cond};
 ghost use Rattle.sq_bound.specs.WellFormed.{BasesAreThere};
 ghost use Rattle.sq_bound.specs.declared.condition.BoundSpecification.{out-BoundSpecification};
 ghost use Rattle.sq_bound.specs.declared.condition.TablePlace.TheVariants as at_place;
 ghost use Rattle.sq_query.specs.Search.{IsOver};
-ghost use Rattle.sq_query.specs.Shown.{AreShown, IsPath, IsPlainOver, Shows, first_of, is_column};
+ghost use Rattle.sq_query.specs.Shown.{AreShown, Asks, IsPath, IsPlainOver, Shows, first_of, is_grouped_by, is_quiet_beside, is_sure_call, is_sure_grouping, is_unwritten, stays_in_range};
 
 use crate::needed::view_at;
 use crate::search::only_table;
 use sq_bound::{
-    BoundCond, BoundExpr, BoundSpecification, Names, TablePlace, is_quiet_cond, own_column,
+    BoundCond, BoundExpr, BoundSpecification, Grouping, Names, Place, SetFunctionCall, TablePlace,
+    is_quiet_cond, own_column,
 };
+use sq_tree::SetFunction;
 
 /// The base table under a plain view, whose query is over it alone, or over another such view.
 pub(crate) fn base_under<N: Names>(names: &N, view: usize) -> Option<usize>
@@ -31,7 +35,7 @@ pub(crate) fn base_under<N: Names>(names: &N, view: usize) -> Option<usize>
     }
 }
 
-/// The base table under a table, itself or a plain view, and the column of it that a column of the table is.
+/// The base table under a table, itself or a plain view, and the column of it by which it is asked where the table is asked by a column.
 pub(crate) fn column_of_base<N: Names>(
     names: &N,
     table: TablePlace,
@@ -59,10 +63,22 @@ fn column_under<N: Names>(names: &N, view: usize, column: usize) -> Option<(usiz
 {
     let query = &view_at(names, view).query;
     let table = plain_over(query)?;
-    let shown = column_shown(query, column)?;
+    let shown = column_asked(query, column)?;
     match table {
         TablePlace::Base(base) => Some((base, shown)),
         TablePlace::View(under) => column_under(names, under, shown),
+    }
+}
+
+/// The column of the only table of a view's query by which that is asked where the view is asked by a column.
+fn column_asked(query: &BoundSpecification, column: usize) -> Option<usize>
+    ensures { IfSome result (λ own. Asks query.now own column) }
+{
+    let own = column_shown(query, column)?;
+    if is_one_in_groups(&query.grouping, own) {
+        Some(own)
+    } else {
+        None
     }
 }
 
@@ -74,12 +90,39 @@ fn column_shown(query: &BoundSpecification, column: usize) -> Option<usize>
     own_column(listed)
 }
 
+/// Whether the rows of each group have one value in a column, if there are groups.
+pub(crate) fn is_one_in_groups(grouping: &Option<Grouping>, column: usize) -> bool
+    ensures { result ≡ option_all (is_grouped_by column) grouping.now }
+{
+    match grouping {
+        Some(groups) => is_grouped_by(column, groups),
+        None => true,
+    }
+}
+
+/// Whether a column is one of the grouping columns.
+fn is_grouped_by(column: usize, groups: &Grouping) -> bool
+    ensures { result ≡ is_grouped_by column groups.now }
+{
+    groups
+        .columns
+        .as_slice()
+        .iter()
+        .any(|place| is_place_of(column, place))
+}
+
+fn is_place_of(column: usize, place: &Place) -> bool
+    ensures { result ≡ nat_eq place.now.column column }
+{
+    place.column == column
+}
+
 /// The table over which alone the query of a plain view is.
 fn plain_over(query: &BoundSpecification) -> Option<TablePlace>
     ensures { IfSome result (IsPlainOver query.now) }
 {
     let table = only_table(query)?;
-    if !query.distinct && query.grouping.is_none() && shows_rows(query) {
+    if shows_surely(query) && are_sure_groups(&query.grouping) {
         Some(table)
     } else {
         None
@@ -98,20 +141,34 @@ pub(crate) fn view_under(query: &BoundSpecification) -> Option<usize>
     }
 }
 
-/// Whether a select list has columns alone, and the truth of the WHERE clause is never a fault.
-fn shows_rows(query: &BoundSpecification) -> bool
-    ensures columns { result ≡ true → list_all is_column (out-BoundSpecification query.now).list ≡ true }
+/// Whether neither the select list, its set functions aside, nor the WHERE clause ever ends with a status.
+fn shows_surely(query: &BoundSpecification) -> bool
+    ensures listed { result ≡ true → list_all is_quiet_beside (out-BoundSpecification query.now).list ≡ true }
     ensures sure { result ≡ true → option_all is_quiet_cond (out-BoundSpecification query.now).condition
         ≡ true }
 {
-    are_columns(query.list.as_slice()) && is_quiet_where(&query.condition)
+    are_quiet_exprs(query.list.as_slice()) && is_quiet_where(&query.condition)
 }
 
-/// Whether each expression is a column.
-fn are_columns(list: &[BoundExpr]) -> bool
-    ensures { result ≡ list_all is_column list.now }
+fn are_quiet_exprs(list: &[BoundExpr]) -> bool
+    ensures { result ≡ list_all is_quiet_beside list.now }
 {
-    list.iter().all(|expr| own_column(expr).is_some())
+    list.iter().all(|expr| is_quiet_expr(expr))
+}
+
+/// Whether the value of an expression, its set functions aside, is never a fault.
+fn is_quiet_expr(expr: &BoundExpr) -> bool
+    ensures { result ≡ is_quiet_expr (expr_of [] expr.now) }
+{
+    match expr {
+        BoundExpr::Literal(_)
+        | BoundExpr::Parameter(_)
+        | BoundExpr::User
+        | BoundExpr::Column(_)
+        | BoundExpr::SetFunction(_) => true,
+        BoundExpr::Signed(_, operand) => is_quiet_expr(operand.get()),
+        BoundExpr::Operations(first, rest) => rest.is_empty() && is_quiet_expr(first.get()),
+    }
 }
 
 fn is_quiet_where(condition: &Option<BoundCond>) -> bool
@@ -120,5 +177,65 @@ fn is_quiet_where(condition: &Option<BoundCond>) -> bool
     match condition {
         Some(condition) => is_quiet_cond(condition),
         None => true,
+    }
+}
+
+/// Whether the groups of a query never end with a status, if it has groups.
+fn are_sure_groups(grouping: &Option<Grouping>) -> bool
+    ensures { result ≡ option_all is_sure_grouping grouping.now }
+{
+    match grouping {
+        Some(groups) => is_sure_grouping(groups),
+        None => true,
+    }
+}
+
+/// Whether GROUP BY is there and HAVING is not, and no set function ever ends with a status.
+fn is_sure_grouping(groups: &Grouping) -> bool
+    ensures { result ≡ is_sure_grouping groups.now }
+{
+    0 < groups.columns.len()
+        && is_unwritten(&groups.having)
+        && are_sure_calls(groups.set_functions.as_slice())
+}
+
+fn is_unwritten(having: &Option<BoundCond>) -> bool
+    ensures { result ≡ is_unwritten having.now }
+{
+    match having {
+        Some(_) => false,
+        None => true,
+    }
+}
+
+fn are_sure_calls(calls: &[SetFunctionCall]) -> bool
+    ensures { result ≡ list_all is_sure_call calls.now }
+{
+    calls.iter().all(|call| is_sure_call(call))
+}
+
+/// Whether a set function never ends with a status.
+fn is_sure_call(call: &SetFunctionCall) -> bool
+    ensures { result ≡ is_sure_call call.now }
+{
+    match call {
+        SetFunctionCall::CountRows => true,
+        SetFunctionCall::Over(a) => is_sure_over(a.function, &a.operand),
+    }
+}
+
+fn is_sure_over(function: SetFunction, operand: &BoundExpr) -> bool
+    ensures { result ≡ (stays_in_range function && is_quiet_beside operand.now) }
+{
+    stays_in_range(function) && is_quiet_expr(operand)
+}
+
+/// Whether a set function is in range over all rows that a table may have.
+fn stays_in_range(function: SetFunction) -> bool
+    ensures { result ≡ stays_in_range function }
+{
+    match function {
+        SetFunction::Count | SetFunction::Min | SetFunction::Max => true,
+        SetFunction::Sum | SetFunction::Avg => false,
     }
 }

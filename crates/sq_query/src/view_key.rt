@@ -9,12 +9,12 @@ ghost use Rattle.sq_bound.specs.WellFormed.{BasesAreThere, TableKinds};
 ghost use Rattle.sq_bound.specs.declared.condition.TablePlace.{TablePlace as AnyPlace};
 ghost use Rattle.sq_bound.specs.declared.condition.TablePlace.TheVariants as at_place;
 ghost use Rattle.sq_query.specs.Key.{IsNamedBy, StandsOn};
-ghost use Rattle.sq_query.specs.Shown.{AreShown, IsPath, IsShownKey, Shows};
+ghost use Rattle.sq_query.specs.Shown.{AreShown, Asks, IsPath, IsShownKey, Shows};
 
 use crate::key::{KnownKey, key_by_columns};
 use crate::needed::view_at;
-use crate::plain_view::view_under;
-use sq_bound::{BoundCond, BoundExpr, Names, own_column, shortest_key};
+use crate::plain_view::{is_one_in_groups, view_under};
+use sq_bound::{BoundCond, BoundExpr, BoundSpecification, Names, own_column, shortest_key};
 use sq_expression::{Context, Fault};
 use sq_items::Items;
 use sq_store::Store;
@@ -104,7 +104,8 @@ fn key_by_shown(
     }
 }
 
-/// For each of these columns of the base table under a plain view one that shows it, if all are shown.
+/// For each of these columns of the base table under a plain view one by which the view is asked where the table is asked by it, if all
+/// have one.
 pub(crate) fn columns_through<N: Names>(
     alloc: Global,
     names: &N,
@@ -121,24 +122,24 @@ pub(crate) fn columns_through<N: Names>(
     match view_under(query) {
         Some(under) => {
             let between = columns_through(alloc, names, under, columns)?;
-            columns_if_shown(alloc, between, query.list.as_slice())
+            columns_if_asked(alloc, between, query)
         }
-        None => shown_columns(alloc, columns, query.list.as_slice()),
+        None => columns_asked(alloc, columns, query),
     }
 }
 
-/// For each of these columns, if there are such, one that shows it.
-fn columns_if_shown(
+/// For each of these columns, if there are such, one by which a query over the table is asked.
+fn columns_if_asked(
     alloc: Global,
     columns: Option<Items<usize>>,
-    list: &[BoundExpr],
+    query: &BoundSpecification,
 ) -> Result<Option<Items<usize>>, AllocError>
     ensures { IfOk result (λ found. IfSome found
-        (λ shown. IsSomeAnd columns (λ own. AllZip (Shows list.now) own shown))) }
+        (λ shown. IsSomeAnd columns (λ own. AllZip (Asks query.now) own shown))) }
 {
     match columns {
         Some(columns) => {
-            let shown = shown_columns(alloc, columns.as_slice(), list);
+            let shown = columns_asked(alloc, columns.as_slice(), query);
             drop(columns);
             shown
         }
@@ -146,22 +147,34 @@ fn columns_if_shown(
     }
 }
 
-/// For each of these columns of a table one that shows it, if all are shown.
-fn shown_columns(
+/// For each of these columns of a table one by which a query over it is asked, if all have one.
+fn columns_asked(
     alloc: Global,
     columns: &[usize],
-    list: &[BoundExpr],
+    query: &BoundSpecification,
 ) -> Result<Option<Items<usize>>, AllocError>
-    ensures { IfOk result (λ found. IfSome found (AllZip (Shows list.now) columns.now)) }
+    ensures { IfOk result (λ found. IfSome found (AllZip (Asks query.now) columns.now)) }
 {
     let mut shown = Items::new(alloc);
     for column in columns {
-        match shown_at(*column, list) {
+        match asked_at(*column, query) {
             Some(position) => shown.push(position)?,
             None => return Ok(None),
         }
     }
     Ok(Some(shown))
+}
+
+/// The first column by which a query is asked where its table is asked by a column.
+fn asked_at(column: usize, query: &BoundSpecification) -> Option<usize>
+    ensures { IfSome result (Asks query.now column) }
+{
+    let position = shown_at(column, query.list.as_slice())?;
+    if is_one_in_groups(&query.grouping, column) {
+        Some(position)
+    } else {
+        None
+    }
 }
 
 /// The first position of a select list at which a column stands.

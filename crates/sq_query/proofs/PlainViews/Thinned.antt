@@ -1,9 +1,8 @@
--- The rows of a table that have some values in some columns, or are null there, and what a plain view shows of them: those of its rows of
--- which the same is true in columns that show the others (ISO/IEC 9075:1992, 7.6, 7.9 and 11.19).
+-- The rows of a table that have some values in some columns, or are null there; where the columns are those of a key, it is the row with the key.
 use Rattle.std.proofs.Common.{◌≡◌, ◌∙◌, ℕ, zero, suc, ◌<◌, Bool, true, false, ◌||◌, List, [], ◌∷◌, Some, cond, filter, find, length, map, refl, sym, ap, subst, arith, Ok}
 use Rattle.std.specs.Prelude.{if◌then◌else◌, option_to_list, slice_get, slice_index_or}
 use Rattle.std.specs.Cmp.Lexicographic.{pointwise}
-use Rattle.std.specs.List.{AllByRecursion, AllZip, Contains, list_any, zip}
+use Rattle.std.specs.List.{AllByRecursion, Contains, list_any, zip}
 use Rattle.std.proofs.lemmas.Bool.{not-true}
 use Rattle.sq_value.proofs.Truths.{neither_left, neither_right, or_false}
 use Rattle.sq_value.specs.Comparison.{is_same}
@@ -23,11 +22,9 @@ use Rattle.sq_meaning.proofs.AnswerLaws.{all_weaker}
 use Rattle.sq_bound.specs.Fits.{has_its_values, keys_of_bases, lacks_value, not_nulls_hold}
 use Rattle.sq_bound.specs.NotNull.{is_not_null}
 use Rattle.sq_bound.specs.WellFormed.{base_kinds}
-use Rattle.sq_bound.specs.declared.expression.BoundExpr.{BoundExpr}
 use Rattle.sq_bound.specs.declared.names.BaseColumn.{BaseColumn}
 use Rattle.sq_bound.specs.declared.names.BaseTable.{BaseTable}
 use Rattle.sq_query.specs.Search.{rows_by_key}
-use Rattle.sq_query.specs.Shown.{Shows}
 use Rattle.sq_query.specs.ValueScan.{may_have}
 use Rattle.sq_query.specs.declared.key.KnownKey.{KnownKey}
 use Rattle.sq_query.proofs.Keys.KeyColumns.{flags, key_not_null, rows_have_values}
@@ -36,7 +33,6 @@ use Rattle.sq_query.proofs.Keys.KeyOut.{all_both}
 use Rattle.sq_query.proofs.Keys.KeySearch.{itself}
 use Rattle.sq_query.proofs.Keys.KeyTests.{test_at}
 use Rattle.sq_query.proofs.Keys.OnlyOne.{AtMostOne, at_most_one, distinct_at}
-use Rattle.sq_query.proofs.PlainViews.ShownRows.{cell, left_shown, shown_by, shows}
 
 -- ---- lists
 
@@ -87,19 +83,6 @@ unnumbered_all : (P : Row → Type 0) (found : List Numbered) → AllByRecursion
 unnumbered_all P [] h = tt
 unnumbered_all P (r ∷ found) h = (h.0, unnumbered_all P found h.1)
 
--- ---- columns of a view and of the table under it
-
-cell_there : (list : List BoundExpr) (row : Row) (p c : ℕ) → Shows list c p → slice_index_or (shows list row) p Null ≡ slice_index_or row c Null
-cell_there [] row p c h = cc
-cell_there (e ∷ list) row zero c h = ap (cell row) h
-cell_there (e ∷ list) row (suc p) c h = cell_there list row p c h
-
-in_shown : (list : List BoundExpr) (row : Row) (own columns : List ℕ) → AllZip (Shows list) own columns → in_columns (shows list row) columns ≡ in_columns row own
-in_shown list row [] [] h = refl
-in_shown list row [] (p ∷ ps) h = absurd h
-in_shown list row (c ∷ cs) [] h = absurd h
-in_shown list row (c ∷ cs) (p ∷ ps) h = λ i. cell_there list row p c h.0 i ∷ in_shown list row cs ps h.1 i
-
 -- ---- those with some values
 
 -- a row has these values in these columns
@@ -135,15 +118,6 @@ may_known columns values row known = sym (ap (λ b. has_values columns values ro
 filter_alike : (test other : Row → Bool) (rows : List Row) → AllByRecursion (λ row. test row ≡ other row) rows → filter test rows ≡ filter other rows
 filter_alike test other [] same = refl
 filter_alike test other (row ∷ rows) same = λ i. cond (same.0 i) (row ∷ filter_alike test other rows same.1 i) (filter_alike test other rows same.1 i)
-
--- ---- what a plain view shows of them
-
-pub those_shown : (list : List BoundExpr) (own columns : List ℕ) → AllZip (Shows list) own columns → (keep : Row → Bool) (values : List Value) (all few : List Row) → AreThoseWith own values all few
-    → AreThoseWith columns values (shown_by (shows list) keep all) (shown_by (shows list) keep few)
-those_shown list own columns zipped keep values all few those =
-    ap (shown_by (shows list) keep) those
-    ∙ left_shown (shows list) keep (may_have own values) (may_have columns values)
-    (λ row. ap (λ cells. pointwise is_same values cells || list_any is_null cells) (in_shown list row own columns zipped)) all
 
 -- ---- a key of a base table
 

@@ -1,6 +1,6 @@
 -- A query specification whose WHERE clause first compares columns of its only table with values has the rows that it has over what that table
 -- shows, through plain views if there are any, of the rows of the base table that may have these values: those with a key, or those that a scan finds.
-use Rattle.std.proofs.Common.{Result, ◌≡◌, ◌∙◌, ℕ, nat_lt, ◌<◌, Bool, true, false, List, [], ◌∷◌, Option, length, map, refl, sym, ap, subst, Ok, Err}
+use Rattle.std.proofs.Common.{Result, ◌≡◌, ◌∙◌, ℕ, nat_lt, ◌<◌, Bool, true, false, List, [], ◌∷◌, Option, filter, length, map, refl, sym, ap, subst, Ok, Err}
 use Rattle.std.specs.Prelude.{IfOk, if◌then◌else◌, slice_get}
 use Rattle.std.specs.Cmp.Lexicographic.{pointwise}
 use Rattle.std.specs.List.{AllByRecursion, AllZip, list_any}
@@ -17,16 +17,15 @@ use Rattle.sq_meaning.specs.Placed.{by_place}
 use Rattle.sq_meaning.specs.Query.{is_true, rows, truth}
 use Rattle.sq_meaning.specs.Status.{Outcome, and_then, kept, not_well_formed, well_formed}
 use Rattle.sq_meaning.specs.Tables.{rows_in}
-use Rattle.sq_meaning.specs.WellFormed.{AreRowsOf, Fits, Has, HasValue, IsRowOf}
+use Rattle.sq_meaning.specs.WellFormed.{AreRowsOf, Fits, Has, HasValue, IsNoSyntaxError, IsRowOf}
 use Rattle.sq_meaning.proofs.AnswerLaws.{all_weaker}
 use Rattle.sq_meaning.proofs.OutcomeLaws.{kept_map}
 use Rattle.sq_bound.specs.Condition.{cond_of, select_of}
-use Rattle.sq_bound.specs.WellFormed.{TableKinds, before_view}
+use Rattle.sq_bound.specs.WellFormed.{TableKinds, before_view, kinds_of_select}
 use Rattle.sq_bound.specs.declared.condition.BoundCond.{BoundCond}
-use Rattle.sq_bound.specs.declared.condition.BoundSpecification.{BoundSpecification, out-BoundSpecification}
+use Rattle.sq_bound.specs.declared.condition.BoundSpecification.{BoundSpecification}
 use Rattle.sq_bound.specs.declared.condition.TablePlace.{TablePlace}
 use Rattle.sq_bound.specs.declared.condition.TablePlace.TheVariants.{Base, View}
-use Rattle.sq_bound.specs.declared.expression.BoundExpr.{BoundExpr}
 use Rattle.sq_condition.specs.Specification.{as_line}
 use Rattle.sq_condition.proofs.Conditions.{neither_left, neither_right}
 use Rattle.sq_expression.specs.Frame.{inputs_of}
@@ -35,7 +34,7 @@ use Rattle.sq_query.specs.Key.{IsNamedBy, StandsOn}
 use Rattle.sq_query.specs.Needed.{IsNeeded, NeedsNone, ReadsInside}
 use Rattle.sq_query.specs.Row.{outside}
 use Rattle.sq_query.specs.Search.{AreBeside, IsOver, IsReadFor, IsReadWith, IsWhere, with_rows}
-use Rattle.sq_query.specs.Shown.{AreRight, AreShown, IsPath, IsPlainView, Shows, first_of, shown_of}
+use Rattle.sq_query.specs.Shown.{AreRight, AreShown, Asks, IsPath, IsPlainView, first_of, shown_of}
 use Rattle.sq_query.specs.Table.{AreMeant, rows_of_view, rows_read}
 use Rattle.sq_query.specs.Union.{AreFitting}
 use Rattle.sq_query.specs.ValueScan.{may_have}
@@ -46,8 +45,9 @@ use Rattle.sq_query.proofs.Keys.KeyOut.{false_without, named_so}
 use Rattle.sq_query.proofs.Keys.KeyTests.{if_some, in_row}
 use Rattle.sq_query.proofs.Needs.NeededViews.{reads_known}
 use Rattle.sq_query.proofs.Keys.Searched.{line_test, only_read, read_of_search, same_over_few, with_own}
-use Rattle.sq_query.proofs.PlainViews.ShownRows.{keeps, rows_shown, shown_by, shows}
-use Rattle.sq_query.proofs.PlainViews.Thinned.{AreThoseWith, kept_left, left_all, null_in_none, those_shown}
+use Rattle.sq_query.proofs.PlainViews.AskedViews.{plain_asked, plain_sure}
+use Rattle.sq_query.proofs.PlainViews.SureRows.{IsShort, IsSureWith}
+use Rattle.sq_query.proofs.PlainViews.Thinned.{AreThoseWith, kept_left, left_all, null_in_none}
 use Rattle.sq_query.proofs.Targets.WalkedRows.{there_within}
 
 -- ---- the table under a plain view is known
@@ -86,7 +86,7 @@ each_fits (Ok kinds) found h = h
 each_fits (Err status) found h = tt
 
 module _ (tables : TablePlace → Outcome (List Row)) (columns : TableKinds) (caller : Name) (queries : List BoundSpecification) (content : Content) (base : ℕ) (there : base < length content) (own_columns : List ℕ) (wanted : List Value) (few_rows : List Row)
-    (narrowed : AreThoseWith own_columns wanted (rows_in (table_at content base)) few_rows) (meant : AreMeant queries content caller tables) (fitting : AreFitting columns tables) where
+    (narrowed : AreThoseWith own_columns wanted (rows_in (table_at content base)) few_rows) (short : IsShort (rows_in (table_at content base))) (meant : AreMeant queries content caller tables) (fitting : AreFitting columns tables) where
   abbrev is_ok : List Row → Outcome (List Row)
   is_ok found = Ok found
 
@@ -102,42 +102,39 @@ module _ (tables : TablePlace → Outcome (List Row)) (columns : TableKinds) (ca
     all_are : tables (first_of views base) ≡ Ok all
     few_are : shown_few views ≡ Ok few
     those : AreThoseWith shown wanted all few
+    all_short : IsShort all
 
-  module _ (view : ℕ) (views : List ℕ) (between shown : List ℕ) (v : IsPlainView columns queries view (first_of views base)) (below : IsThinned views between)
-      (zipped : AllZip (Shows (out-BoundSpecification v.query).list) between shown) where
+  -- rows that end with no other status than 42000, and not with that
+  rows_there : (kinds : List Kind) (o : Outcome (List Row)) → IsSureWith IsShort o → Fits AreRowsOf (Ok kinds) o → (found : List Row) × (o ≡ Ok found) × IsShort found
+  rows_there kinds (Ok found) sure fits = (found, refl, sure)
+  rows_there kinds (Err status) sure fits = absurd (subst IsNoSyntaxError sure fits)
+
+  module _ (view : ℕ) (views : List ℕ) (between shown : List ℕ) (v : IsPlainView columns queries view (first_of views base)) (below : IsThinned views between) (zipped : AllZip (Asks v.query) between shown) where
     abbrev table : TablePlace
     table = first_of views base
 
-    abbrev list : List BoundExpr
-    list = (out-BoundSpecification v.query).list
+    abbrev with_few : TablePlace → Outcome (List Row)
+    with_few = with_rows table (shown_few views) tables
 
-    abbrev keep : Row → Bool
-    keep = keeps (out-BoundSpecification v.query).condition caller
+    view_is : tables (View view) ≡ rows_of_view tables caller v.query
+    view_is = meant.views view ∙ ap (λ (o : Option BoundSpecification). and_then (well_formed o) (rows_of_view tables caller)) v.is_query
 
-    abbrev IsOfTable : Row → Type 0
-    IsOfTable row = Has (λ ks. IsRowOf ks row) (before_view view columns table)
-
-    table_known : HasValue (before_view view columns table)
-    table_known = known_under columns view queries table v
-
-    all_fit : AllByRecursion IsOfTable below.all
-    all_fit =
-        fit_each (before_view view columns table) below.all table_known
-        (subst (λ (o : Outcome (List Kind)). Fits AreRowsOf o (Ok below.all)) (sym (before_same columns view table table_known)) (subst (Fits AreRowsOf (columns table)) below.all_are (fitting table)))
-
-    few_fit : AllByRecursion IsOfTable below.few
-    few_fit = subst (AllByRecursion IsOfTable) (sym below.those) (left_all (may_have between wanted) IsOfTable below.all all_fit)
+    view_fits : Fits AreRowsOf (Ok (kinds_of_select v.query)) (rows_of_view tables caller v.query)
+    view_fits = subst (Fits AreRowsOf (Ok (kinds_of_select v.query))) view_is (subst (λ (o : Outcome (List Kind)). Fits AreRowsOf o (tables (View view))) v.kinds_are (fitting (View view)))
 
     thinned_more : IsThinned (view ∷ views) shown
-    thinned_more = record {
-      all = shown_by (shows list) keep below.all;
-      few = shown_by (shows list) keep below.few;
-      all_are = meant.views view ∙ ap (λ (o : Option BoundSpecification). and_then (well_formed o) (rows_of_view tables caller)) v.is_query
-          ∙ rows_shown (before_view view columns) v.query table v.plain v.well caller tables below.all below.all_are all_fit;
-      few_are = ap (λ (o : Option BoundSpecification). and_then (well_formed o) (rows_of_view (with_rows table (shown_few views) tables) caller)) v.is_query
-          ∙ rows_shown (before_view view columns) v.query table v.plain v.well caller (with_rows table (shown_few views) tables) below.few (with_own table (shown_few views) tables ∙ below.few_are) few_fit;
-      those = those_shown list between shown zipped keep wanted below.all below.few below.those;
-    }
+    thinned_more =
+        let found = rows_there (kinds_of_select v.query) (rows_of_view tables caller v.query)
+        (plain_sure v.query table (before_view view columns) v.plain v.well caller tables below.all below.all_are below.all_short) view_fits in record {
+          all = found.0;
+          few = filter (may_have shown wanted) found.0;
+          all_are = view_is ∙ found.1;
+          few_are = ap (λ (o : Option BoundSpecification). and_then (well_formed o) (rows_of_view with_few caller)) v.is_query
+              ∙ plain_asked v.query table (before_view view columns) v.plain v.well caller tables with_few between shown zipped wanted below.all found.0 below.all_are
+              (with_own table (shown_few views) tables ∙ below.few_are ∙ ap is_ok below.those) found.1;
+          those = refl;
+          all_short = found.2;
+        }
 
   thinned : (views : List ℕ) (shown : List ℕ) → IsPath columns queries views base → AreShown queries views own_columns shown → IsThinned views shown
   thinned [] shown path same = record {
@@ -146,10 +143,11 @@ module _ (tables : TablePlace → Outcome (List Row)) (columns : TableKinds) (ca
     all_are = meant.bases base ∙ ap (λ (o : Outcome Table). and_then o (λ t. Ok (rows_in t))) (there_within content base there);
     few_are = refl;
     those = subst (λ (cs : List ℕ). AreThoseWith cs wanted (rows_in (table_at content base)) few_rows) same narrowed;
+    all_short = short;
   }
   thinned (view ∷ views) shown path are =
       thinned_more view views are.0 shown path.0 (thinned views are.0 path.1 are.1)
-      (if_some (λ (q : BoundSpecification). AllZip (Shows (out-BoundSpecification q).list) are.0 shown) (slice_get queries view) path.0.query are.2 path.0.is_query)
+      (if_some (λ (q : BoundSpecification). AllZip (Asks q) are.0 shown) (slice_get queries view) path.0.query are.2 path.0.is_query)
 
   -- none of them ends with a status
   pub few_right : (views : List ℕ) (shown : List ℕ) → IsPath columns queries views base → AreShown queries views own_columns shown → AreRight few_rows tables caller queries base views

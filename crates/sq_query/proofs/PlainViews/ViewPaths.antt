@@ -11,7 +11,7 @@ use Rattle.sq_meaning.specs.Status.{Outcome, and_then, well_formed}
 use Rattle.sq_meaning.specs.WellFormed.{HasValue}
 use Rattle.sq_bound.specs.WellFormed.{IsSelect, TableKinds, before_view}
 use Rattle.sq_bound.specs.declared.condition.BoundCond.{BoundCond}
-use Rattle.sq_bound.specs.declared.condition.BoundSpecification.{BoundSpecification, out-BoundSpecification}
+use Rattle.sq_bound.specs.declared.condition.BoundSpecification.{BoundSpecification}
 use Rattle.sq_bound.specs.declared.condition.TablePlace.{TablePlace}
 use Rattle.sq_bound.specs.declared.condition.TablePlace.TheVariants.{Base, View}
 use Rattle.sq_bound.specs.declared.names.View.{View as BoundView}
@@ -21,7 +21,7 @@ use Rattle.sq_expression.specs.declared.fault.Fault.{Fault}
 use Rattle.sq_expression.specs.declared.table.ViewRows.{ViewRows}
 use Rattle.sq_query.specs.Key.{IsNamedBy}
 use Rattle.sq_query.specs.Search.{IsOver, with_rows}
-use Rattle.sq_query.specs.Shown.{AreRight, AreShown, IsPath, IsPlainOver, IsPlainView, IsShownKey, ShowsAt, Shows, first_of, shown_of}
+use Rattle.sq_query.specs.Shown.{AreRight, AreShown, Asks, AsksAt, IsPath, IsPlainOver, IsPlainView, IsShownKey, first_of, shown_of}
 use Rattle.sq_query.specs.Table.{IsViewAt, rows_of_view}
 use Rattle.sq_query.specs.declared.key.KnownKey.{KnownKey}
 use Rattle.sq_query.proofs.Keys.KnownKeys.{same_some}
@@ -83,7 +83,7 @@ module _ (columns : TableKinds) (queries : List BoundSpecification) (view base :
 -- ---- one column through views
 
 -- one view more
-pub column_more : (columns : TableKinds) (queries : List BoundSpecification) (view under between column : ℕ) (o : Option (ℕ × ℕ)) → IsPlainView columns queries view (View under) → ShowsAt queries view (between ∷ []) (column ∷ [])
+pub column_more : (columns : TableKinds) (queries : List BoundSpecification) (view under between column : ℕ) (o : Option (ℕ × ℕ)) → IsPlainView columns queries view (View under) → AsksAt queries view (between ∷ []) (column ∷ [])
     → IfSome o (λ found. (views : List ℕ) × IsPath columns queries (under ∷ views) found.0 × AreShown queries (under ∷ views) (found.1 ∷ []) (between ∷ []))
     → IfSome o (λ found. (views : List ℕ) × IsPath columns queries (view ∷ views) found.0 × AreShown queries (view ∷ views) (found.1 ∷ []) (column ∷ []))
 column_more columns queries view under between column None v at below = tt
@@ -99,16 +99,16 @@ column_from columns queries table view column (Some found) is below = (view ∷ 
 -- ---- columns that are shown
 
 module _ (queries : List BoundSpecification) (view : ℕ) (q : BoundSpecification) (among : slice_get queries view ≡ Some q) (own : List ℕ) where
-  pub shows_at : (between columns : List ℕ) → AllZip (Shows (out-BoundSpecification q).list) between columns → ShowsAt queries view between columns
-  shows_at between columns zipped = subst (λ (o : Option BoundSpecification). IfSome o (λ s. AllZip (Shows (out-BoundSpecification s).list) between columns)) (sym among) zipped
+  pub shows_at : (between columns : List ℕ) → AllZip (Asks q) between columns → AsksAt queries view between columns
+  shows_at between columns zipped = subst (λ (o : Option BoundSpecification). IfSome o (λ s. AllZip (Asks s) between columns)) (sym among) zipped
 
-  pub shown_first : (r : Result (Option (List ℕ)) AllocError) → IfOk r (λ found. IfSome found (AllZip (Shows (out-BoundSpecification q).list) own)) → IfOk r (λ found. IfSome found (AreShown queries (view ∷ []) own))
+  pub shown_first : (r : Result (Option (List ℕ)) AllocError) → IfOk r (λ found. IfSome found (AllZip (Asks q) own)) → IfOk r (λ found. IfSome found (AreShown queries (view ∷ []) own))
   shown_first (Err e) h = tt
   shown_first (Ok None) h = tt
   shown_first (Ok (Some columns)) h = (own, refl, shows_at own columns h)
 
   pub shown_next : (views : List ℕ) (between : Option (List ℕ)) (r : Result (Option (List ℕ)) AllocError) → IfSome between (AreShown queries views own)
-      → IfOk r (λ found. IfSome found (λ shown. IsSomeAnd between (λ columns. AllZip (Shows (out-BoundSpecification q).list) columns shown))) → IfOk r (λ found. IfSome found (AreShown queries (view ∷ views) own))
+      → IfOk r (λ found. IfSome found (λ shown. IsSomeAnd between (λ columns. AllZip (Asks q) columns shown))) → IfOk r (λ found. IfSome found (AreShown queries (view ∷ views) own))
   shown_next views between (Err e) are h = tt
   shown_next views between (Ok None) are h = tt
   shown_next views None (Ok (Some columns)) are h = absurd h

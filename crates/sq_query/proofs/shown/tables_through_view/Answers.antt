@@ -12,6 +12,7 @@ use Rattle.sq_query.proofs.Keys.KeyTests.{if_some}
 use Rattle.sq_query.proofs.Targets.KnownConditions.{rows_fit}
 use Rattle.sq_query.proofs.Keys.Searched.{inside_read, only_read, where_stands}
 use Rattle.sq_query.proofs.Needs.TablesMeant.{tables_fit}
+use Rattle.sq_query.proofs.PlainViews.FewRows.{few_rows}
 use Rattle.sq_query.proofs.PlainViews.Thinned.{those_stored}
 use Rattle.sq_query.proofs.PlainViews.ThroughViews.{base_of_path, few_right, read_through}
 use Rattle.sq_query.proofs.shown.tables_through_view.Goals as goal
@@ -60,12 +61,13 @@ returns-in-Some g c = λ parameters tables may well.
     let fitting = tables_fit bases views columns content user tables (g.met.N.Names.kinds_of_bases names) may.there may.in_domains may.meant (g.met.N.Names.kinds_of_views names) in
     let known = only_read (λ t. HasValue (columns t)) query (View search.view) s.over c.requires.finds.1 in
     let few = rows_by_key content keys place search.key in
+    let short = few_rows (g.S.Store.row_numbers store) content place (g.met.S.Store.rises store) (g.met.S.Store.limited store) in
     let those = those_stored bases content keys place table.0 search.key table.1 there s.key.key c.requires.keys c.requires.not_null rows_are (g.met.S.Store.keyed store) in
     let own_columns = key_at keys place search.key.key in
     let along = search.view ∷ s.views in
-    let right = few_right tables columns user views content place there own_columns search.key.values few those may.meant fitting along s.key.columns s.path s.key.shown in
+    let right = few_right tables columns user views content place there own_columns search.key.values few those short may.meant fitting along s.key.columns s.path s.key.shown in
     let read = c.tables_by_shown_key.ensures may.in_domains tables may.meant s.views s.path right in (
       read.0,
-      read_through tables columns user views content place there own_columns search.key.values few those may.meant fitting parameters values may.inputs along s.path s.own s.key.columns s.key.shown s.key.by_columns known stands query
+      read_through tables columns user views content place there own_columns search.key.values few those short may.meant fitting parameters values may.inputs along s.path s.own s.key.columns s.key.shown s.key.by_columns known stands query
           search.others c.tables_by_shown_key.result s.over s.is_where s.beside read.1,
     )

@@ -8,6 +8,7 @@ use Rattle.sq_query.proofs.Keys.KeyTests.{if_some}
 use Rattle.sq_query.proofs.Needs.ReadTables.{handed}
 use Rattle.sq_query.proofs.Keys.Searched.{answered_memory, only_read, where_stands}
 use Rattle.sq_query.proofs.Needs.TablesMeant.{tables_fit}
+use Rattle.sq_query.proofs.PlainViews.FewRows.{few_rows}
 use Rattle.sq_query.proofs.PlainViews.ThroughViews.{base_known, few_right, read_alone}
 use Rattle.sq_query.proofs.value_scan.tables_by_scan.Goals as goal
 
@@ -49,10 +50,11 @@ returns-in-Some g c = λ parameters tables may well.
     let own = scan.column ∷ [] in
     let wanted = scan.value ∷ [] in
     let few = rows_that_may content scan.base own wanted in
-    let right = few_right tables columns user queries content scan.base there own wanted few refl may.meant fitting k.views (k.column ∷ []) k.path k.shown in
+    let short = few_rows (g.S.Store.row_numbers store) content scan.base (g.met.S.Store.rises store) (g.met.S.Store.limited store) in
+    let right = few_right tables columns user queries content scan.base there own wanted few refl short may.meant fitting k.views (k.column ∷ []) k.path k.shown in
     let read = c.tables_of_scan.ensures tables k.views k.table k.path right in (
       read.0,
-      read_alone tables columns user queries content scan.base there own wanted few refl may.meant fitting parameters values may.inputs k.views k.path s.own (k.column ∷ []) k.shown k.named
+      read_alone tables columns user queries content scan.base there own wanted few refl short may.meant fitting parameters values may.inputs k.views k.path s.own (k.column ∷ []) k.shown k.named
           scan.table k.table known stands query s.inner c.tables_of_scan.result s.over s.is_where s.none s.reads read.1,
     )
 
