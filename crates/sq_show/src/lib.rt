@@ -55,7 +55,6 @@ mod trace;
 mod value;
 mod value_words;
 mod view;
-mod ways;
 mod words;
 
 pub use cause::{
@@ -73,5 +72,4 @@ pub use sq_session::Session;
 pub use told::why;
 pub use trace::{TraceFault, TraceOptions, trace_action, trace_all};
 pub use view::write_view;
-pub use ways::write_ways;
 pub use words::write_cause;
