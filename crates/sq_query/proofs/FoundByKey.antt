@@ -13,3 +13,4 @@ pub mod RowTables
 pub mod Rows
 pub mod Served
 pub mod ServedWhere
+pub mod WithOne

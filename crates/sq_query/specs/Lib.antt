@@ -16,4 +16,5 @@ pub mod Sought
 pub mod Table
 pub mod Target
 pub mod Union
+pub mod Valued
 pub mod ValueScan

@@ -28,8 +28,10 @@ mod target;
 mod through;
 mod union;
 mod value_scan;
+mod valued;
 mod view;
 mod view_key;
+mod ways;
 
 pub use inputs::Inputs;
 pub use key::KnownKey;

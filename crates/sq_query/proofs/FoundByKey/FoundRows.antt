@@ -50,6 +50,7 @@ use Rattle.sq_query.specs.Several.{has_one_of}
 use Rattle.sq_query.specs.Sought.{IsRowAmong, found_of}
 use Rattle.sq_query.specs.Table.{AreOfStore, stored_rows}
 use Rattle.sq_query.specs.Union.{AreFitting}
+use Rattle.sq_query.specs.Valued.{may_have_one}
 use Rattle.sq_query.specs.declared.around.Around.{Around}
 use Rattle.sq_query.specs.declared.around.Standing.{Standing}
 use Rattle.sq_query.specs.declared.around.Standing.TheVariants.{OnNoLine}
@@ -64,6 +65,7 @@ use Rattle.sq_query.proofs.Keys.KeyTests.{if_some}
 use Rattle.sq_query.proofs.Keys.KeysSearch.{none_same, only_one}
 use Rattle.sq_query.proofs.Needs.NeededViews.{inside_weaker}
 use Rattle.sq_query.proofs.Keys.OnlyOne.{at_most_one, distinct_at}
+use Rattle.sq_query.proofs.FoundByKey.WithOne.{other_values}
 use Rattle.sq_query.proofs.FoundByKey.LeftOut.{kept_thinned, lines_are, stays}
 use Rattle.sq_query.proofs.Targets.WalkedRows.{there_within}
 
@@ -178,7 +180,8 @@ module _ (bases : List BaseTable) (columns : TableKinds) (content : Content) (ke
 
     abbrev has_named : (c : BoundCond) → IsNamed (IsFalse c) content keys own → Row → Bool
     has_named c (inl k) row = pointwise is_same k.0.values (in_columns row (key_at keys place k.0.key))
-    has_named c (inr k) row = list_any (λ v. pointwise is_same (v ∷ []) (in_columns row (key_at keys place k.0.key))) k.0.values.items
+    has_named c (inr (inl k)) row = list_any (λ v. pointwise is_same (v ∷ []) (in_columns row (key_at keys place k.0.key))) k.0.values.items
+    has_named c (inr (inr k)) row = may_have_one k.0 k.1 row
 
     few_named : (c : BoundCond) (k : IsNamed (IsFalse c) content keys own) → lent own.rows.items ≡ filter (has_named c k) all_rows
     few_named c (inl k) =
@@ -187,7 +190,8 @@ module _ (bases : List BaseTable) (columns : TableKinds) (content : Content) (ke
         (sym (filter_one (has_key (key_at keys place k.0.key) k.0.values) (table_at content place).rows
         (at_most_one (key_at keys place k.0.key) k.0.values (table_at content place).rows (distinct_at keys content place k.0.key keyed r.there k.1.named.key))))
         ∙ sym (filter_mapped (λ (s : Numbered). s.row) (has_named c (inl k)) (table_at content place).rows)
-    few_named c (inr k) = k.1.are ∙ sym (filter_mapped (λ (s : Numbered). s.row) (has_named c (inr k)) (table_at content place).rows)
+    few_named c (inr (inl k)) = k.1.are ∙ sym (filter_mapped (λ (s : Numbered). s.row) (has_named c (inr (inl k))) (table_at content place).rows)
+    few_named c (inr (inr k)) = k.2.are
 
     few_none : IsNoneNeeded q found a own → lent own.rows.items ≡ filter (λ (row : Row). false) all_rows
     few_none n = n.none ∙ sym (filter_nothing all_rows)
@@ -303,7 +307,8 @@ module _ (bases : List BaseTable) (columns : TableKinds) (content : Content) (ke
           out_named (inl (known, h)) lacks =
               let f = lacked {R = IsOneOf (IsFalse k.condition)} (key_at keys place known.key) known.values row h.named.named lacks in
               out_so f.0 (f.1 ∷ []) f.3 (record { not_null = λ x cell. not_null known.key h.named.key f.0 x f.2 cell; differs = (f.4, tt) })
-          out_named (inr (known, h)) lacks =
+          out_named (inr (inr k)) lacks = out_so k.0 k.1 k.2.named (other_values k.0 k.1 row lacks)
+          out_named (inr (inl (known, h))) lacks =
               let n = h.named.named.0 in
               let only = h.named.named.1 in
               let own_row : Numbered = record { number = 0; row = row } in

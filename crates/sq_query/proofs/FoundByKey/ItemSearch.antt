@@ -27,6 +27,7 @@ use Rattle.sq_query.specs.Row.{HasValueOn}
 use Rattle.sq_query.specs.Search.{IsWhere, rows_by_key}
 use Rattle.sq_query.specs.Several.{rows_by_values}
 use Rattle.sq_query.specs.Sought.{IsValueBehind}
+use Rattle.sq_query.specs.Valued.{rows_with_one}
 use Rattle.sq_query.specs.declared.around.Around.{Around}
 use Rattle.sq_query.specs.declared.key.KnownKey.{KnownKey}
 use Rattle.sq_query.specs.declared.key.KnownKeys.{KnownKeys}
@@ -70,7 +71,12 @@ rows_of_key IsFalse content keys base own known is named are =
 pub rows_of_keys : (IsFalse : ℕ → List Value → Type 0) (content : Content) (keys : List Keys) (base : ℕ) (own : BaseRows) (known : KnownKeys) → own.place ≡ base → AreKeysBy IsFalse keys base known → lent own.rows.items ≡ rows_by_values content keys base known
     → IsNamed IsFalse content keys own
 rows_of_keys IsFalse content keys base own known is named are =
-    inr (known, record { named = subst (λ (p : ℕ). AreKeysBy IsFalse keys p known) (sym is) named; are = are ∙ ap (λ (p : ℕ). rows_by_values content keys p known) (sym is) })
+    inr (inl (known, record { named = subst (λ (p : ℕ). AreKeysBy IsFalse keys p known) (sym is) named; are = are ∙ ap (λ (p : ℕ). rows_by_values content keys p known) (sym is) }))
+
+pub rows_of_values : (IsFalse : ℕ → List Value → Type 0) (content : Content) (keys : List Keys) (base n : ℕ) (vs : List Value) (o : Option BaseRows) → IsFalse n vs → IfSome o (λ own. own.place ≡ base)
+    → IfSome o (λ own. lent own.rows.items ≡ rows_with_one content base n vs) → IfSome o (IsNamed IsFalse content keys)
+rows_of_values IsFalse content keys base n vs None named is are = tt
+rows_of_values IsFalse content keys base n vs (Some own) named is are = inr (inr (n, vs, record { named = named; are = are ∙ ap (λ (p : ℕ). rows_with_one content p n vs) (sym is) }))
 
 pub own_named : (q : BoundSpecification) (item base : ℕ) (inner : Needed) (content : Content) (keys : List Keys) (a : Around) (values : List Value) (caller : Name) (found : List BaseRows) (ts : List TablePlace) (d : TablePlace) (condition : BoundCond)
     (r : Result (Option BaseRows) Fault) → ts ≡ items_of q → item < length (items_of q) → get_or ts item d ≡ Base base → base < length content → IsAlone q item base inner found → IsWhere q condition → IfOk r (λ own. IfSome own (λ rows. rows.place ≡ base))
