@@ -80,8 +80,16 @@ fn looked_up<'a, S: Store>(
 fn null_or_one(alloc: Global, values: &[Value]) -> Result<Vec<Row>, AllocError>
     ensures { IfOk result (λ several. several.items ≡ null_or_one values.now) }
 {
+    let mut several = each_alone(alloc, values)?;
+    several.insert(0, copy_row(alloc, &[Value::Null])?)?;
+    Ok(several)
+}
+
+/// Some values, each as a list of its own.
+fn each_alone(alloc: Global, values: &[Value]) -> Result<Vec<Row>, AllocError>
+    ensures { IfOk result (λ several. several.items ≡ map (λ v. v ∷ []) values.now) }
+{
     let mut several = Vec::new(alloc);
-    several.push(copy_row(alloc, &[Value::Null])?)?;
     for value in values {
         several.push(copy_row(alloc, from_ref(value))?)?;
     }
