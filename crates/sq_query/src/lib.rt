@@ -12,6 +12,7 @@ mod inner;
 mod inputs;
 mod items;
 mod key;
+mod known;
 mod meant;
 mod named;
 mod named_keys;
