@@ -7,3 +7,4 @@ pub mod GivenRows
 pub mod Storable
 pub mod Stored
 pub mod UpdatedRows
+pub mod WholeRows

@@ -23,6 +23,8 @@ use Rattle.sq_bound.specs.declared.statement.InsertedRows.{InsertedRows}
 use Rattle.sq_query.specs.MayRead.{MayEnd, MayRead}
 use Rattle.sq_query.specs.Row.{HasValueOn}
 use Rattle.sq_expression.specs.declared.fault.Fault.{Fault}
+use Rattle.sq_change.specs.declared.given.GivenRows.{GivenRows}
+use Rattle.sq_change.specs.declared.given.GivenRows.TheVariants as given
 
 -- a value for each column, in its domain
 abbrev pub AreStored : List ObjectColumn → List Value → Type 0
@@ -32,6 +34,11 @@ AreStored = AllZip (λ c v. IsInDomain c.domain v)
 abbrev pub IsStoredFor : List ObjectColumn → ℕ → Value → Type 0
 IsStoredFor columns position v =
     (c : ObjectColumn) × Contains columns c × (c.position ≡ position) × IsInDomain c.domain v
+
+-- the values that an insert statement gives, row by row
+abbrev pub all_given : GivenRows → List Row
+all_given (given.One row) = row ∷ []
+all_given (given.Several rows) = rows.items
 
 -- ---- values that may be stored (9.2)
 

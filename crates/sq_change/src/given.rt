@@ -1,6 +1,6 @@
 //! The rows that an insert statement makes (ISO/IEC 9075:1992, 13.8).
 
-ghost use Rattle.std.specs.Prelude.{◌≡◌, ◌<◌, [], length, nat_eq, true, vec_len, IfErr, IfOk, IfSome, List};
+ghost use Rattle.std.specs.Prelude.{◌≡◌, ◌<◌, ◌∷◌, ℕ, [], length, nat_eq, true, vec_len, IfErr, IfOk, IfSome, List, Some};
 ghost use Rattle.std.specs.List.{AllByRecursion, position};
 ghost use Rattle.std.specs.Option.{option_copied};
 ghost use Rattle.sq_value.specs.Domain.{IsInDomain};
@@ -15,7 +15,7 @@ ghost use Rattle.sq_expression.specs.Fault.{Meets, MeetsAs, rows_in};
 ghost use Rattle.sq_query.specs.MayRead.{MayEnd, MayRead};
 ghost use Rattle.sq_query.specs.Needed.{FindsSelect};
 ghost use Rattle.sq_change.specs.Changed.{FitTable, are_insertions, new_rows_in};
-ghost use Rattle.sq_change.specs.Given.{AreStorable, AreStored, FitColumns, IsStoredFor, MayGive};
+ghost use Rattle.sq_change.specs.Given.{AreStorable, AreStored, FitColumns, IsStoredFor, MayGive, all_given};
 ghost use Rattle.sq_change.specs.Made.{Shown, or_default, row_completed, row_stored, seen_by, value_at, values_given};
 ghost use Rattle.sq_change.specs.Made.{rows_found, rows_given, rows_made};
 ghost use Rattle.sq_change.specs.Statement.{IsShown, KeepsTables};
@@ -32,6 +32,15 @@ use sq_query::specification_rows;
 use sq_store::{Change, Meter, Store};
 use sq_value::{Row, Value};
 use std::alloc::Global;
+
+/// The values that an insert statement gives, row by row.
+#[derive(Drop)]
+pub(crate) enum GivenRows {
+    /// Those of VALUES.
+    One(Row),
+    /// Those of a query.
+    Several(Vec<Row>),
+}
 
 /// The new rows of an insert statement. All that is given is stored before any row gets its defaults.
 pub(crate) fn new_rows<N: Names, S: Store>(
@@ -57,7 +66,7 @@ pub(crate) fn new_rows<N: Names, S: Store>(
     ensures right { IfErr result MayEnd }
 {
     let given = given_rows(setting, insert, meter)?;
-    completed_rows(setting, table, insert.columns.as_slice(), given.as_slice())
+    completed_rows(setting, table, insert.columns.as_slice(), given)
 }
 
 /// The values that are given, row by row. The rows of a query are all computed before any is stored.
@@ -65,7 +74,7 @@ fn given_rows<N: Names, S: Store>(
     setting: &Setting<'_, N, S>,
     insert: &BoundInsert,
     meter: &mut Meter,
-) -> Result<Vec<Row>, Fault>
+) -> Result<GivenRows, Fault>
     requires given { MayGive (N.base_tables setting.now.names.now) (N.view_queries setting.now.names.now)
         (N.column_kinds setting.now.names.now)
         (S.content_now setting.now.store.now) setting.now.user setting.now.parameters.now
@@ -75,22 +84,21 @@ fn given_rows<N: Names, S: Store>(
     ensures made { let seen = seen_by (N.view_queries setting.now.names.now)
         (S.content_now setting.now.store.now) setting.now.user
         setting.now.parameters.now in (shown : Shown) → IsShown seen shown
-        → MeetsAs rows_in result (rows_given shown seen insert.now.columns insert.now.source) }
-    ensures some { IfOk result (λ rows. 0 < vec_len rows) }
-    ensures stored { IfOk result (λ rows. AllByRecursion (AreStored insert.now.columns) rows.items) }
+        → MeetsAs all_given result (rows_given shown seen insert.now.columns insert.now.source) }
+    ensures some { IfOk result (λ given. 0 < length (all_given given)) }
+    ensures stored { IfOk result (λ given. AllByRecursion (AreStored insert.now.columns) (all_given given)) }
     ensures right { IfErr result MayEnd }
 {
     let columns = insert.columns.as_slice();
     match &insert.source {
         InsertedRows::Values(values) => {
             let row = given_values(setting, columns, values.as_slice())?;
-            let mut rows = Vec::new(setting.alloc);
-            rows.push(row)?;
-            Ok(rows)
+            Ok(GivenRows::One(row))
         }
         InsertedRows::Query(query) => {
             let rows = rows_found(setting, query, meter)?;
-            stored_rows(setting.alloc, columns, rows.as_slice())
+            let stored = stored_rows(setting.alloc, columns, rows.as_slice())?;
+            Ok(GivenRows::Several(stored))
         }
     }
 }
@@ -192,6 +200,102 @@ fn stored_row(alloc: Global, columns: &[ObjectColumn], row: &[Value]) -> Result<
 
 /// The new rows, with a value for each column of the table.
 fn completed_rows<N: Names, S: Store>(
+    setting: &Setting<'_, N, S>,
+    table: &BaseTable,
+    columns: &[ObjectColumn],
+    given: GivenRows,
+) -> Result<Vec<Change>, Fault>
+    requires columns { AllByRecursion (IsColumnOf table.now) columns.now }
+    requires stored { AllByRecursion (AreStored columns.now) (all_given given) }
+    ensures meant { MeetsAs new_rows_in result
+        (each (row_completed setting.now.user table.now columns.now) (all_given given)) }
+    ensures insertions { IfOk result (λ changes. are_insertions changes.items ≡ true) }
+    ensures fit { IfOk result (λ changes. FitTable table.now changes.items) }
+    ensures length { IfOk result (λ changes. vec_len changes ≡ length (all_given given)) }
+    ensures right { IfErr result MayEnd }
+{
+    match given {
+        GivenRows::One(row) => only_completed(setting, table, columns, row),
+        GivenRows::Several(rows) => {
+            let changes = each_completed(setting, table, columns, rows.as_slice());
+            drop(rows);
+            changes
+        }
+    }
+}
+
+/// The only new row.
+fn only_completed<N: Names, S: Store>(
+    setting: &Setting<'_, N, S>,
+    table: &BaseTable,
+    columns: &[ObjectColumn],
+    given: Row,
+) -> Result<Vec<Change>, Fault>
+    requires columns { AllByRecursion (IsColumnOf table.now) columns.now }
+    requires stored { AreStored columns.now given }
+    ensures meant { MeetsAs new_rows_in result
+        (each (row_completed setting.now.user table.now columns.now) (given ∷ [])) }
+    ensures insertions { IfOk result (λ changes. are_insertions changes.items ≡ true) }
+    ensures fit { IfOk result (λ changes. FitTable table.now changes.items) }
+    ensures length { IfOk result (λ changes. vec_len changes ≡ 1) }
+    ensures right { IfErr result MayEnd }
+{
+    let row = completed_row(setting, table, columns, given)?;
+    let mut changes = Vec::with_capacity(setting.alloc, 1)?;
+    changes.push(Change::Insert(row))?;
+    Ok(changes)
+}
+
+/// A new row of values that are given. They are the row itself if they are for all columns of the table, in their order.
+#[tactic(auto, using(crate::proofs::NewRows::WholeRows::whole_row, crate::proofs::NewRows::WholeRows::whole_in))]
+fn completed_row<N: Names, S: Store>(
+    setting: &Setting<'_, N, S>,
+    table: &BaseTable,
+    columns: &[ObjectColumn],
+    given: Row,
+) -> Result<Row, Fault>
+    requires columns { AllByRecursion (IsColumnOf table.now) columns.now }
+    requires stored { AreStored columns.now given }
+    ensures meant { Meets result (row_completed setting.now.user table.now columns.now given) }
+    ensures wide { IfOk result (λ row. length row ≡ length table.now.columns) }
+    ensures in_domains { IfOk result (IsRowIn table.now.columns) }
+    ensures right { IfErr result MayEnd }
+{
+    let width = table.columns.len();
+    if given.len() == width && are_in_order(columns, width) {
+        return Ok(given);
+    }
+    let row = new_row(setting, table, columns, given.as_slice());
+    drop(given);
+    row
+}
+
+/// Whether a list names each of the first columns of a table at the column's own place.
+fn are_in_order(columns: &[ObjectColumn], count: usize) -> bool
+    ensures { result ≡ true → (place : ℕ) → place < count
+        → position (λ column. nat_eq column.position place) columns.now ≡ Some place }
+{
+    for place in 0..count {
+        if !is_at(columns, place) {
+            return false;
+        }
+    }
+    true
+}
+
+/// Whether a list names the column at a place at that place.
+fn is_at(columns: &[ObjectColumn], place: usize) -> bool
+    ensures { result ≡ true
+        → position (λ column. nat_eq column.position place) columns.now ≡ Some place }
+{
+    match listed_at(columns, place) {
+        Some(listed) => listed == place,
+        None => false,
+    }
+}
+
+/// Several new rows.
+fn each_completed<N: Names, S: Store>(
     setting: &Setting<'_, N, S>,
     table: &BaseTable,
     columns: &[ObjectColumn],

@@ -1,4 +1,5 @@
 pub mod Around
+pub mod FewRows
 pub mod Inner
 pub mod Items
 pub mod Key

@@ -7,6 +7,7 @@
 #![tactic(auto)]
 
 mod around;
+mod few_rows;
 mod inner;
 mod inputs;
 mod items;
@@ -31,6 +32,7 @@ mod value_scan;
 mod view;
 mod view_key;
 
+pub use few_rows::FewRows;
 pub use inputs::Inputs;
 pub use key::KnownKey;
 pub use meant::{key_of, numbers_of, rows_of};

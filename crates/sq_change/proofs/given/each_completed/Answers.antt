@@ -10,7 +10,7 @@ use Rattle.sq_change.specs.Made.{row_completed}
 use Rattle.sq_change.proofs.Changes.Applied.{one_put, wide_inserted}
 use Rattle.sq_change.proofs.OneByOne.InTurn.{made_all, made_failed, made_more, made_none}
 use Rattle.sq_change.proofs.NewRows.Domains.{all_at, inserted_in}
-use Rattle.sq_change.proofs.given.completed_rows.Goals as goal
+use Rattle.sq_change.proofs.given.each_completed.Goals as goal
 
 pub new_row-requires-clause-stored : goal.new_row-requires-clause-stored
 new_row-requires-clause-stored g c =

@@ -4,7 +4,7 @@ use Rattle.std.proofs.lemmas.List.{length_push}
 use Rattle.std.proofs.lemmas.Slice.Zip.{zip_end, zip_turn}
 use Rattle.sq_session.proofs.Parameters.Fitting.{fit_at, fit_even}
 use Rattle.sq_session.proofs.Parameters.Started.{given_all, started_all, started_next}
-use Rattle.sq_session.proofs.parameter.started_values.Goals as goal
+use Rattle.sq_session.proofs.parameter.start_values.Goals as goal
 
 pub started_value-requires : goal.started_value-requires
 started_value-requires c =
@@ -19,8 +19,8 @@ loop-parameter-preserved c =
     let turn =
     zip_turn c.args.parameters.now c.args.values.now c.loop-parameter.yielded c.into_iter-parameter-iterator.result c.loop-parameter.parameter-iterator c.next.new.self c.next.result (search rules) (search rules)
     c.loop-parameter.yielded_by (c.in-Some.parameter, c.in-Some.value) c.in-Some.is c.next.ensures.steps in
-    rw (c.in_ok-push.ensures.ok, length_push c.loop-parameter.yielded (c.in-Some.parameter, c.in-Some.value))
-    (started_next c.args.parameters.now c.args.values.now (length c.loop-parameter.yielded) c.in-Some.parameter.now c.in-Some.value.now c.in_ok-started_value.field-0 c.loop-parameter.started
+    rw (c.in_ok-push.ensures.items, length_push c.loop-parameter.yielded (c.in-Some.parameter, c.in-Some.value))
+    (started_next c.args.parameters.now c.args.values.now (length c.loop-parameter.yielded) c.in-Some.parameter.now c.in-Some.value.now c.in_ok-started_value.field-0 c.loop-parameter.started.items
     turn.0 turn.1 (turn.2 c.in-Some.parameter.now) (turn.3 c.in-Some.value.now) c.in_ok-started_value.ensures c.loop-parameter.invariant)
 
 pub returns : goal.returns
@@ -33,6 +33,6 @@ returns c =
     let even = fit_even parameters values c.requires in
     let all : length parameters ≤ length c.loop-parameter.yielded = omega (arith, ended, even) in
     record {
-      started = started_all parameters values (length c.loop-parameter.yielded) c.loop-parameter.started all c.loop-parameter.invariant;
-      given = given_all parameters values (length c.loop-parameter.yielded) c.loop-parameter.started even all c.loop-parameter.invariant;
+      started = started_all parameters values (length c.loop-parameter.yielded) c.loop-parameter.started.items all c.loop-parameter.invariant;
+      given = given_all parameters values (length c.loop-parameter.yielded) c.loop-parameter.started.items even all c.loop-parameter.invariant;
     }

@@ -2,7 +2,7 @@ use Rattle.std.proofs.Common.{◌≡◌, true, vec_len}
 use Rattle.sq_change.specs.Changed.{FitTable, are_insertions, new_rows_in}
 use Rattle.sq_change.specs.Made.{row_completed}
 use Rattle.sq_change.proofs.OneByOne.InTurn.{MadeTo}
-use Rattle.sq_change.proofs.given.completed_rows.Given as goal
+use Rattle.sq_change.proofs.given.each_completed.Given as goal
 
 abbrev pub invariant-loop-values : goal.invariant-loop-values
 invariant-loop-values g l = record {

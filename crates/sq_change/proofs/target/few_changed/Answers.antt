@@ -1,10 +1,8 @@
 -- Left open: the calls of rows_of and only_row, and the clauses there, meant, right and read; answered by Chosen, Held and others.
-use Rattle.std.proofs.Common.{◌≡◌, ℕ, ◌<◌, Bor, length, subst, sym, arith, Ok, Err}
-use Rattle.std.specs.Prelude.{IfSome, IsSome, Option, Vec}
-use Rattle.std.specs.declared.alloc.Global.{Global}
+use Rattle.std.proofs.Common.{◌≡◌, ℕ, ◌<◌, length, subst, sym, arith, Ok, Err}
+use Rattle.std.specs.Prelude.{IfSome, IsSome, Option}
 use Rattle.std.proofs.lemmas.Grind.{common_steps}
 use Rattle.sq_store.specs.Content.{row_at, table_at}
-use Rattle.sq_meaning.specs.Environment.{Row}
 use Rattle.sq_bound.specs.Fits.{under}
 use Rattle.sq_bound.specs.WellFormed.{IsChangeTarget, IsTarget}
 use Rattle.sq_bound.specs.declared.statement.ChangeTarget.{ChangeTarget}
@@ -12,12 +10,14 @@ use Rattle.sq_expression.specs.Fault.{MeetsAs}
 use Rattle.sq_expression.specs.declared.fault.Failure.TheVariants as failure
 use Rattle.sq_expression.specs.declared.fault.Fault.TheVariants as fault
 use Rattle.sq_expression.proofs.Views.{failed_as}
-use Rattle.sq_query.specs.Table.{numbered_in, stored_numbered}
+use Rattle.sq_query.specs.FewRows.{few_numbered, few_rows}
+use Rattle.sq_query.specs.Table.{stored_numbered}
+use Rattle.sq_query.specs.declared.few_rows.FewRows.{FewRows}
 use Rattle.sq_query.specs.Target.{AreRowsThere, conditions_of, is_true_of}
 use Rattle.sq_query.proofs.Targets.ChosenNumbers.{numbers_fail}
 use Rattle.sq_query.proofs.Needs.Finds.{target_finds}
 use Rattle.sq_meaning.specs.Change.{if_some}
-use Rattle.sq_change.specs.Changed.{numbers_with}
+use Rattle.sq_change.specs.Changed.{few_with}
 use Rattle.sq_change.specs.Made.{Seen, Shown, numbers_changed, seen_by}
 use Rattle.sq_change.specs.Statement.{IsShown}
 use Rattle.sq_change.proofs.Changes.Chosen.{reads_shown}
@@ -26,7 +26,7 @@ use Rattle.sq_change.proofs.OneByOne.Outcomes.{stops_as}
 use Rattle.sq_change.proofs.NewRows.Endings.{ends_so}
 use Rattle.sq_change.proofs.Changes.KeyedChange.{searched_read}
 use Rattle.sq_change.proofs.Changes.RowsChanged.{only_row, rows_none, rows_some}
-use Rattle.sq_change.proofs.target.rows_changed.Goals as goal
+use Rattle.sq_change.proofs.target.few_changed.Goals as goal
 
 pub rows_of-requires-clause-finds : goal.rows_of-requires-clause-finds
 rows_of-requires-clause-finds g c =
@@ -43,8 +43,8 @@ returns-else-is_empty-clause-there g c =
     let found = c.in_ok-rows-in-Searched in
     let there = found.ensures.there may.parameters may.tables (rw (c.inputs.ensures.user, c.inputs.ensures.parameters) may.reads)
     (subst (IsChangeTarget (g.N.Names.column_kinds c.args.setting.now.names.now) may.parameters) c.in-Searched.is may.target) in
-    subst (λ (u : ChangeTarget). AreRowsThere (table_at content (under u).table.place) (numbered_in found.rows)) (sym c.in-Searched.is)
-    (subst (λ (place : ℕ). AreRowsThere (table_at content place) (numbered_in found.rows)) t.is_under there)
+    subst (λ (u : ChangeTarget). AreRowsThere (table_at content (under u).table.place) (few_numbered found.rows)) (sym c.in-Searched.is)
+    (subst (λ (place : ℕ). AreRowsThere (table_at content place) (few_numbered found.rows)) t.is_under there)
 
 pub returns-else-is_empty-clause-meant : goal.returns-else-is_empty-clause-meant
 returns-else-is_empty-clause-meant g c =
@@ -55,8 +55,8 @@ returns-else-is_empty-clause-meant g c =
     let s : Seen = seen_by (g.N.Names.view_queries setting.names.now) (g.S.Store.content_now setting.store.now) setting.user setting.parameters.now in
     let well : IsTarget (g.N.Names.column_kinds setting.names.now) may.parameters t
     = subst (IsChangeTarget (g.N.Names.column_kinds setting.names.now) may.parameters) c.in-Searched.is may.target in
-    let some : 0 < length found.rows.items = grind (arith, common_steps) in
-    subst (λ (u : ChangeTarget). (shown : Shown) → IsShown s shown → MeetsAs numbers_with (Ok found.rows) (numbers_changed shown s u c.args.on)) (sym c.in-Searched.is)
+    let some : 0 < length (few_rows found.rows) = grind (arith, common_steps) in
+    subst (λ (u : ChangeTarget). (shown : Shown) → IsShown s shown → MeetsAs few_with (Ok found.rows) (numbers_changed shown s u c.args.on)) (sym c.in-Searched.is)
     (λ shown is. rows_some (is_true_of shown s.values s.user) (conditions_of t) (stored_numbered s.tables t.base) found.rows
     (rw (← c.inputs.ensures.user, ← c.inputs.ensures.parameters) (found.ensures.meant may.parameters shown (rw (c.inputs.ensures.user, c.inputs.ensures.parameters) (reads_shown may.reads is)) well)) some)
 
@@ -69,8 +69,8 @@ returns-then-is_empty-clause-meant g c =
     let s : Seen = seen_by (g.N.Names.view_queries setting.names.now) (g.S.Store.content_now setting.store.now) setting.user setting.parameters.now in
     let well : IsTarget (g.N.Names.column_kinds setting.names.now) may.parameters t
     = subst (IsChangeTarget (g.N.Names.column_kinds setting.names.now) may.parameters) c.in-Searched.is may.target in
-    let none : length found.rows.items ≡ 0 = grind (arith, common_steps) in
-    subst (λ (u : ChangeTarget). (shown : Shown) → IsShown s shown → MeetsAs {A = Vec (ℕ × Bor Row) Global} numbers_with (Err (fault.Status failure.NoData)) (numbers_changed shown s u c.args.on)) (sym c.in-Searched.is)
+    let none : length (few_rows found.rows) ≡ 0 = grind (arith, common_steps) in
+    subst (λ (u : ChangeTarget). (shown : Shown) → IsShown s shown → MeetsAs {A = FewRows} few_with (Err (fault.Status failure.NoData)) (numbers_changed shown s u c.args.on)) (sym c.in-Searched.is)
     (λ shown is. rows_none (is_true_of shown s.values s.user) (conditions_of t) (stored_numbered s.tables t.base) found.rows
     (rw (← c.inputs.ensures.user, ← c.inputs.ensures.parameters) (found.ensures.meant may.parameters shown (rw (c.inputs.ensures.user, c.inputs.ensures.parameters) (reads_shown may.reads is)) well)) none)
 
@@ -84,16 +84,16 @@ returns-in_err-rows-in-Searched-clause-meant g c =
     let well : IsTarget (g.N.Names.column_kinds setting.names.now) may.parameters t
     = subst (IsChangeTarget (g.N.Names.column_kinds setting.names.now) may.parameters) c.in-Searched.is may.target in
     let f = found.field-0.0 in
-    subst (λ (u : ChangeTarget). (shown : Shown) → IsShown s shown → MeetsAs numbers_with c.from_residual.result (numbers_changed shown s u c.args.on)) (sym c.in-Searched.is)
-    (λ shown is. stops_as numbers_with c.from_residual.result f _ if_some c.from_residual.ensures.1
-    (numbers_fail (is_true_of shown s.values s.user) (conditions_of t) (stored_numbered s.tables t.base) f (failed_as numbered_in f _
+    subst (λ (u : ChangeTarget). (shown : Shown) → IsShown s shown → MeetsAs few_with c.from_residual.result (numbers_changed shown s u c.args.on)) (sym c.in-Searched.is)
+    (λ shown is. stops_as few_with c.from_residual.result f _ if_some c.from_residual.ensures.1
+    (numbers_fail (is_true_of shown s.values s.user) (conditions_of t) (stored_numbered s.tables t.base) f (failed_as few_numbered f _
     (rw (← c.inputs.ensures.user, ← c.inputs.ensures.parameters) (found.ensures.meant may.parameters shown (rw (c.inputs.ensures.user, c.inputs.ensures.parameters) (reads_shown may.reads is)) well)))))
 
 pub returns-in-Some-clause-meant : goal.returns-in-Some-clause-meant
 returns-in-Some-clause-meant g c = λ shown is.
     let setting = c.args.setting.now in
     let s : Seen = seen_by (g.N.Names.view_queries setting.names.now) (g.S.Store.content_now setting.store.now) setting.user setting.parameters.now in
-    rw (c.in-Positioned.is, c.in-Some.is) (only_row c.in-Some.number c.only_row.result c.only_row.ensures.only c.only_row.ensures.memory)
+    rw (c.in-Positioned.is, c.in-Some.is) (only_row c.in-Some.number c.only_row.result c.only_row.ensures.only)
 
 pub returns-in-Some-clause-there : goal.returns-in-Some-clause-there
 returns-in-Some-clause-there g c = rw (← c.leaf_under.ensures, ← c.get.ensures) c.only_row.ensures.there

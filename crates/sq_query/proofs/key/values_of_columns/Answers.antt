@@ -4,7 +4,7 @@ use Rattle.std.specs.List.{AllZip}
 use Rattle.sq_query.specs.Key.{IsComparedWith}
 use Rattle.sq_query.proofs.Keys.KeyTests.{if_some, zip_more, zip_all}
 use Rattle.sq_query.proofs.Keys.KnownKeys.{not_none}
-use Rattle.sq_query.proofs.key.key_values.Goals as goal
+use Rattle.sq_query.proofs.key.values_of_columns.Goals as goal
 
 pub loop-column-init : goal.loop-column-init
 loop-column-init c = subst (AllZip (IsComparedWith c.args.tests.now c.args.call.now.parameters.now c.args.call.now.user) []) (sym c.new-values.ensures.items) tt
