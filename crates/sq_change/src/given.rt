@@ -247,7 +247,6 @@ fn only_completed<N: Names, S: Store>(
 }
 
 /// A new row of values that are given. They are the row itself if they are for all columns of the table, in their order.
-#[tactic(auto, using(crate::proofs::NewRows::WholeRows::whole_row, crate::proofs::NewRows::WholeRows::whole_in))]
 fn completed_row<N: Names, S: Store>(
     setting: &Setting<'_, N, S>,
     table: &BaseTable,

@@ -130,12 +130,7 @@ fn with_values<S: Store>(
     ensures err { OnErr result (machine.new ≡ machine.old) }
 {
     let mut started = mem::replace(&mut machine.started, Vec::new(alloc));
-    start_values(
-        alloc,
-        procedure.parameters.as_slice(),
-        values,
-        &mut started,
-    )?;
+    start_values(alloc, procedure.parameters.as_slice(), values, &mut started)?;
     let called = Called {
         alloc,
         catalog,

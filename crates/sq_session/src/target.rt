@@ -15,9 +15,9 @@ ghost use Rattle.sq_session.specs.Target.{AreSetAlike, IsSet, MayTake, MayTakeRo
 use crate::called::Called;
 use crate::reply::{Done, Output};
 use crate::retrieved::RetrievedRow;
+use smallvec::SmallVec;
 use sq_bound::{BoundSelect, ParameterDesc};
 use sq_expression::{Failure, Fault};
-use smallvec::SmallVec;
 use sq_items::Items;
 use sq_meaning::Status;
 use sq_value::{Decimal, RetrieveFault, Retrieved, Row, Value, retrieve};

@@ -49,7 +49,8 @@ pub whole_row : (user : Name) (t : BaseTable) (columns : List ObjectColumn) (giv
 whole_row user t columns given e are = each_given user columns given t.columns given 0 e (λ i v at.
     let lt = there given i v at in
     let listed : position (λ c. nat_eq c.position i) columns ≡ Some i = are i (omega (arith, lt, e)) in
-    ap (λ (o : Option ℕ). option_and_then (slice_get given) o) listed ∙ at)
+    let moved : i ≡ 0 + i = omega arith in
+    subst (λ (n : ℕ). value_at columns given n ≡ Some v) moved (ap (λ (o : Option ℕ). option_and_then (slice_get given) o) listed ∙ at))
 
 -- ---- their domains
 

@@ -6,7 +6,7 @@ use Rattle.sq_bound.specs.declared.names.ObjectColumn.{ObjectColumn}
 use Rattle.std.specs.List.{AllByRecursion}
 use Rattle.sq_expression.specs.Fault.{MeetsAs, rows_in}
 use Rattle.sq_expression.proofs.Views.{failed_as, handed_on_as}
-use Rattle.sq_change.specs.Given.{AreStorable, FitColumns}
+use Rattle.sq_change.specs.Given.{AreStorable, FitColumns, all_given}
 use Rattle.sq_change.specs.Made.{Shown, rows_found, seen_by}
 use Rattle.sq_query.specs.MayRead.{MayEnd}
 use Rattle.sq_query.specs.Needed.{FindsSelect}
@@ -68,5 +68,5 @@ returns-in_err-rows-in-Query-clause-made g c = λ shown is.
     let failed =
     query_on (g.N.Names.base_tables names) (g.N.Names.view_queries names) (g.N.Names.column_kinds names) content setting.user setting.parameters.now
     insert.columns insert.source q c.requires.given c.in-Query.is (λ (tables : Shown). MeetsAs rows_in (Err e) (rows_found tables seen q)) c.in_err-rows-in-Query.ensures.found shown is in
-    handed_on_as rows_in c.from_residual-in_err-rows-in-Query.result e _ c.from_residual-in_err-rows-in-Query.ensures.1
+    handed_on_as all_given c.from_residual-in_err-rows-in-Query.result e _ c.from_residual-in_err-rows-in-Query.ensures.1
     (query_ends shown seen insert.columns insert.source q c.in-Query.is e (failed_as rows_in e _ failed))
