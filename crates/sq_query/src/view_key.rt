@@ -105,7 +105,7 @@ fn key_by_shown(
 }
 
 /// For each of these columns of the base table under a plain view one that shows it, if all are shown.
-fn columns_through<N: Names>(
+pub(crate) fn columns_through<N: Names>(
     alloc: Global,
     names: &N,
     view: usize,

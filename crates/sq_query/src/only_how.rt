@@ -1,0 +1,165 @@
+//! How the rows of the only table of a query specification outside every query are found, as far as it is known before any call.
+
+use crate::item_hows::keys_of;
+use crate::needed::Needed;
+use crate::plain_view::{base_under, column_of_base};
+use crate::search::{only_table, tables_beside};
+use crate::value_scan::first_column;
+use crate::view_key::columns_through;
+use crate::way::{ColumnPlace, How, KeyPlace};
+use sq_bound::{BoundCond, BoundSpecification, Names, Reference, TablePlace, shortest_key};
+use sq_items::Items;
+use std::alloc::{AllocError, Global};
+use std::slice::from_ref;
+
+/// How the rows of a query specification's only table are found: by a key that its WHERE clause begins with, or in a scan for the value with
+/// which it first compares a column. `None` if there is no such table, or its subqueries may be what matters.
+pub(crate) fn how_of_only<N: Names>(
+    alloc: Global,
+    names: &N,
+    query: &BoundSpecification,
+) -> Result<Option<How>, AllocError> {
+    let Some(table) = only_table(query) else {
+        return Ok(None);
+    };
+    let Some(condition) = &query.condition else {
+        return Ok(None);
+    };
+    let found = key_of_only(alloc, names, query, table, condition)?;
+    if found.is_some() {
+        return Ok(found);
+    }
+    let inner = Needed::of_subqueries(alloc, query)?;
+    if !inner.is_empty() {
+        return Ok(None);
+    }
+    how_of_scan(alloc, names, table, condition)
+}
+
+/// The key of the base table, or of the one under a plain view, that a condition begins with.
+fn key_of_only<N: Names>(
+    alloc: Global,
+    names: &N,
+    query: &BoundSpecification,
+    table: TablePlace,
+    condition: &BoundCond,
+) -> Result<Option<How>, AllocError> {
+    let Some(others) = tables_beside(alloc, query, table)? else {
+        return Ok(None);
+    };
+    let is_alone = others.is_empty();
+    drop(others);
+    match table {
+        TablePlace::Base(base) => Ok(key_of_base(names, base, condition, is_alone)),
+        TablePlace::View(view) => key_of_view(alloc, names, view, condition),
+    }
+}
+
+/// The key of a base table that a condition without subqueries begins with.
+fn key_of_base<N: Names>(
+    names: &N,
+    base: usize,
+    condition: &BoundCond,
+    is_alone: bool,
+) -> Option<How> {
+    if !is_alone {
+        return None;
+    }
+    let key = shortest_key(keys_of(names, base), condition)?;
+    Some(How::Key(KeyPlace { base, key }))
+}
+
+/// The first key of the base table under a plain view with whose columns, as the view shows them, a condition begins.
+fn key_of_view<N: Names>(
+    alloc: Global,
+    names: &N,
+    view: usize,
+    condition: &BoundCond,
+) -> Result<Option<How>, AllocError> {
+    let Some(base) = base_under(names, view) else {
+        return Ok(None);
+    };
+    for (key, columns) in keys_of(names, base).iter().enumerate() {
+        if is_shown_key(alloc, names, view, columns, condition)? {
+            return Ok(Some(How::Key(KeyPlace { base, key })));
+        }
+    }
+    Ok(None)
+}
+
+/// Whether a view shows these columns of the base table under it, and a condition begins with them.
+fn is_shown_key<N: Names>(
+    alloc: Global,
+    names: &N,
+    view: usize,
+    columns: &Items<usize>,
+    condition: &BoundCond,
+) -> Result<bool, AllocError> {
+    match columns_through(alloc, names, view, columns.as_slice())? {
+        Some(shown) => {
+            let is_named = shortest_key(from_ref(&shown), condition).is_some();
+            drop(shown);
+            Ok(is_named)
+        }
+        None => Ok(false),
+    }
+}
+
+// ---- scans for a value
+
+/// How the rows are found that have the value with which a condition first compares a column by `=`, if it does.
+fn how_of_scan<N: Names>(
+    alloc: Global,
+    names: &N,
+    table: TablePlace,
+    condition: &BoundCond,
+) -> Result<Option<How>, AllocError> {
+    let Some(shown) = first_column(condition) else {
+        return Ok(None);
+    };
+    if !begins_with(alloc, shown, condition)? {
+        return Ok(None);
+    }
+    match column_of_base(names, table, shown) {
+        Some((base, column)) => Ok(Some(how_by_value(names, base, column))),
+        None => Ok(None),
+    }
+}
+
+/// Whether a condition first compares this column with a literal or a parameter.
+fn begins_with(alloc: Global, column: usize, condition: &BoundCond) -> Result<bool, AllocError> {
+    let mut columns = Items::new(alloc);
+    columns.push(column)?;
+    let begins = shortest_key(from_ref(&columns), condition).is_some();
+    drop(columns);
+    Ok(begins)
+}
+
+/// How the rows with a value in a column are found: quickly if the column alone refers to a table.
+fn how_by_value<N: Names>(names: &N, base: usize, column: usize) -> How {
+    if refers(names, base, column) {
+        How::Value(ColumnPlace { base, column })
+    } else {
+        How::Whole
+    }
+}
+
+/// Whether a reference of the base table at a place has this column alone.
+fn refers<N: Names>(names: &N, base: usize, column: usize) -> bool {
+    match names.bases().get(base) {
+        Some(table) => table
+            .get()
+            .references
+            .as_slice()
+            .iter()
+            .any(|reference| is_of_column(reference, column)),
+        None => false,
+    }
+}
+
+fn is_of_column(reference: &Reference, column: usize) -> bool {
+    match reference.by_key.as_slice() {
+        [only] => *only == column,
+        _ => false,
+    }
+}
