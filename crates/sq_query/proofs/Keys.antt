@@ -1,6 +1,7 @@
 -- A condition names a row by a key, and a search by the key finds what a scan of all rows finds.
 pub mod AddedRows
 pub mod EqualTests
+pub mod ExprRows
 pub mod KeyColumns
 pub mod KeyLacked
 pub mod KeyNames

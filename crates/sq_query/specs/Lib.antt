@@ -17,3 +17,4 @@ pub mod Table
 pub mod Target
 pub mod Union
 pub mod ValueScan
+pub mod Ways

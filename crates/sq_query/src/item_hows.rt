@@ -1,5 +1,8 @@
 //! How the rows of the items of a FROM clause are found, as far as it is known before any call.
 
+ghost use Rattle.std.specs.Prelude.{◌<◌, IfOk, length};
+ghost use Rattle.sq_query.specs.Ways.{IsHowOn};
+
 use crate::items::is_once;
 use crate::named::Sure;
 use crate::named_exprs::{Seen, key_of_several, named_key};
@@ -61,7 +64,9 @@ fn how_of_item<N: Names>(
     elsewhere: &Needed,
     seen: &Seen<'_>,
     by_several: bool,
-) -> Result<How, AllocError> {
+) -> Result<How, AllocError>
+    requires item { seen.now.item < length tables.now }
+{
     let TablePlace::Base(base) = tables[seen.item] else {
         return Ok(How::Whole);
     };
@@ -80,7 +85,9 @@ pub(crate) fn how_of_base(
     seen: &Seen<'_>,
     sure: Sure,
     by_several: bool,
-) -> Result<How, AllocError> {
+) -> Result<How, AllocError>
+    ensures { IfOk result (IsHowOn seen.now.item sure condition.now keys.now base) }
+{
     if let Some(key) = named_key(alloc, keys, condition, seen, sure)? {
         return Ok(How::Key(KeyPlace { base, key }));
     }

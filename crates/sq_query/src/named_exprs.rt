@@ -1,6 +1,10 @@
 //! The expressions by whose values a condition names the rows of an item: what its tests say that a column is equal to, as far as it is known
 //! beforehand that they have one value on all lines.
 
+ghost use Rattle.std.specs.Prelude.{◌≡◌, ◌++◌, [], IfOk, IfSome, OnOk, get_or, map, true};
+ghost use Rattle.sq_query.specs.Ways.{IsFoundBy, IsFoundByEach, IsFoundByKey, IsFoundByOne, IsFoundBySeveral, IsFoundByTest, IsFoundByTests, IsFoundByValues};
+ghost use Rattle.sq_query.specs.declared.named.Sure.TheVariants as at_sure;
+
 use crate::named::{Sure, equal_to, is_column_in, is_passed};
 use crate::way::How;
 use sq_bound::{BoundCond, BoundExpr, BoundTest, Operation, Place, Predicate};
@@ -26,7 +30,10 @@ pub(crate) fn named_key(
     condition: &BoundCond,
     seen: &Seen<'_>,
     sure: Sure,
-) -> Result<Option<usize>, AllocError> {
+) -> Result<Option<usize>, AllocError>
+    ensures { IfOk result (λ found. IfSome found
+        (IsFoundByKey seen.now.item sure condition.now keys.now)) }
+{
     for (number, key) in keys.iter().enumerate() {
         if is_named(alloc, key.as_slice(), condition, seen, sure)? {
             return Ok(Some(number));
@@ -42,7 +49,10 @@ fn is_named(
     condition: &BoundCond,
     seen: &Seen<'_>,
     sure: Sure,
-) -> Result<bool, AllocError> {
+) -> Result<bool, AllocError>
+    ensures { IfOk result (λ yes. yes ≡ true
+        → IsFoundByEach seen.now.item sure condition.now columns.now) }
+{
     for column in columns {
         if !is_named_by_one(alloc, condition, *column, seen, sure)? {
             return Ok(false);
@@ -58,7 +68,10 @@ fn is_named_by_one(
     column: usize,
     seen: &Seen<'_>,
     sure: Sure,
-) -> Result<bool, AllocError> {
+) -> Result<bool, AllocError>
+    ensures { IfOk result (λ yes. yes ≡ true
+        → IsFoundByOne seen.now.item sure condition.now column) }
+{
     match exprs_by_condition(alloc, condition, column, seen, sure)? {
         Some(exprs) => Ok(exprs.len() == 1),
         None => Ok(false),
@@ -72,7 +85,10 @@ pub(crate) fn key_of_several(
     condition: &BoundCond,
     seen: &Seen<'_>,
     sure: Sure,
-) -> Result<Option<usize>, AllocError> {
+) -> Result<Option<usize>, AllocError>
+    ensures { IfOk result (λ found. IfSome found
+        (IsFoundByValues seen.now.item sure condition.now keys.now)) }
+{
     for (number, key) in keys.iter().enumerate() {
         if is_named_by_several(alloc, key.as_slice(), condition, seen, sure)? {
             return Ok(Some(number));
@@ -88,7 +104,10 @@ fn is_named_by_several(
     condition: &BoundCond,
     seen: &Seen<'_>,
     sure: Sure,
-) -> Result<bool, AllocError> {
+) -> Result<bool, AllocError>
+    ensures { IfOk result (λ yes. yes ≡ true
+        → IsFoundBySeveral seen.now.item sure condition.now columns.now) }
+{
     match columns {
         [column] => Ok(exprs_by_condition(alloc, condition, *column, seen, sure)?.is_some()),
         _ => Ok(false),
@@ -105,7 +124,10 @@ fn exprs_by_condition<'c>(
     column: usize,
     seen: &Seen<'_>,
     sure: Sure,
-) -> Result<Option<Vec<&'c BoundExpr>>, AllocError> {
+) -> Result<Option<Vec<&'c BoundExpr>>, AllocError>
+    ensures { IfOk result (λ found. IfSome found (λ exprs.
+        IsFoundBy seen.now.item sure condition.now column (map (λ e. e.now) exprs.items))) }
+{
     let mut exprs = Vec::new(alloc);
     for term in condition.terms.as_slice() {
         match exprs_by_tests(alloc, term.tests.as_slice(), column, seen, sure)? {
@@ -124,7 +146,10 @@ fn exprs_by_tests<'c>(
     column: usize,
     seen: &Seen<'_>,
     sure: Sure,
-) -> Result<Option<Vec<&'c BoundExpr>>, AllocError> {
+) -> Result<Option<Vec<&'c BoundExpr>>, AllocError>
+    ensures { IfOk result (λ found. IfSome found (λ exprs.
+        IsFoundByTests seen.now.item sure tests.now column (map (λ e. e.now) exprs.items))) }
+{
     for test in tests {
         let exprs = exprs_by_test(alloc, test, column, seen, sure)?;
         if exprs.is_some() {
@@ -144,7 +169,10 @@ fn exprs_by_test<'c>(
     column: usize,
     seen: &Seen<'_>,
     sure: Sure,
-) -> Result<Option<Vec<&'c BoundExpr>>, AllocError> {
+) -> Result<Option<Vec<&'c BoundExpr>>, AllocError>
+    ensures { IfOk result (λ found. IfSome found (λ exprs.
+        IsFoundByTest seen.now.item sure test.now column (map (λ e. e.now) exprs.items))) }
+{
     match &test.predicate {
         Predicate::Bracketed(condition) => {
             if test.negated {
@@ -161,7 +189,9 @@ fn exprs_by_test<'c>(
 fn add_exprs<'c>(
     exprs: Vec<&'c BoundExpr>,
     all: &mut Vec<&'c BoundExpr>,
-) -> Result<(), AllocError> {
+) -> Result<(), AllocError>
+    ensures { OnOk result (all.new.items ≡ all.old.items ++ exprs.items) }
+{
     let mut more = exprs;
     all.append(&mut more)?;
     Ok(())
@@ -173,7 +203,10 @@ fn exprs_by_comparison<'c>(
     test: &'c BoundTest,
     column: usize,
     seen: &Seen<'_>,
-) -> Result<Option<Vec<&'c BoundExpr>>, AllocError> {
+) -> Result<Option<Vec<&'c BoundExpr>>, AllocError>
+    ensures { IfOk result (λ found. IfSome found (λ exprs.
+        IsFoundByTest seen.now.item at_sure.Unnoted test.now column (map (λ e. e.now) exprs.items))) }
+{
     match compared_exprs(test, seen.item, column) {
         Some(exprs) => {
             if are_known(exprs, seen) {
@@ -187,7 +220,9 @@ fn exprs_by_comparison<'c>(
 }
 
 /// The expressions to which a test compares a column of an item by `=` or IN.
-fn compared_exprs(test: &BoundTest, item: usize, column: usize) -> Option<&[BoundExpr]> {
+fn compared_exprs(test: &BoundTest, item: usize, column: usize) -> Option<&[BoundExpr]>
+    ensures { IfSome result (λ exprs. IsFoundByTest item at_sure.Unnoted test.now column exprs.now) }
+{
     match &test.predicate {
         Predicate::InList(is_negated, operand, elements) => {
             if is_column_in(test.negated, *is_negated, operand, item, column) {
@@ -204,7 +239,9 @@ fn compared_exprs(test: &BoundTest, item: usize, column: usize) -> Option<&[Boun
 }
 
 /// Each expression where it stands.
-fn lend_each(alloc: Global, exprs: &[BoundExpr]) -> Result<Vec<&BoundExpr>, AllocError> {
+fn lend_each(alloc: Global, exprs: &[BoundExpr]) -> Result<Vec<&BoundExpr>, AllocError>
+    ensures { IfOk result (λ lent. map (λ e. e.now) lent.items ≡ exprs.now) }
+{
     let mut lent = Vec::new(alloc);
     for expr in exprs {
         lent.push(expr)?;

@@ -1,5 +1,10 @@
 //! How the rows of the only table of a query specification outside every query are found, as far as it is known before any call.
 
+ghost use Rattle.sq_meaning.specs.WellFormed.{HasValue};
+ghost use Rattle.sq_bound.specs.WellFormed.{BasesAreThere};
+ghost use Rattle.sq_bound.specs.declared.condition.TablePlace.TheVariants as at_place;
+ghost use Rattle.sq_query.specs.Needed.{FindsSelect};
+
 use crate::item_hows::keys_of;
 use crate::needed::Needed;
 use crate::plain_view::{base_under, column_of_base};
@@ -18,7 +23,9 @@ pub(crate) fn how_of_only<N: Names>(
     alloc: Global,
     names: &N,
     query: &BoundSpecification,
-) -> Result<Option<How>, AllocError> {
+) -> Result<Option<How>, AllocError>
+    requires { FindsSelect (N.base_tables names.now) (N.column_kinds names.now) query.now }
+{
     let Some(table) = only_table(query) else {
         return Ok(None);
     };
@@ -43,7 +50,10 @@ fn key_of_only<N: Names>(
     query: &BoundSpecification,
     table: TablePlace,
     condition: &BoundCond,
-) -> Result<Option<How>, AllocError> {
+) -> Result<Option<How>, AllocError>
+    requires there { BasesAreThere (N.base_tables names.now) (N.column_kinds names.now) }
+    requires known { HasValue (N.column_kinds names.now table) }
+{
     let Some(others) = tables_beside(alloc, query, table)? else {
         return Ok(None);
     };
@@ -75,7 +85,10 @@ fn key_of_view<N: Names>(
     names: &N,
     view: usize,
     condition: &BoundCond,
-) -> Result<Option<How>, AllocError> {
+) -> Result<Option<How>, AllocError>
+    requires there { BasesAreThere (N.base_tables names.now) (N.column_kinds names.now) }
+    requires known { HasValue (N.column_kinds names.now (at_place.View view)) }
+{
     let Some(base) = base_under(names, view) else {
         return Ok(None);
     };
@@ -94,7 +107,10 @@ fn is_shown_key<N: Names>(
     view: usize,
     columns: &Items<usize>,
     condition: &BoundCond,
-) -> Result<bool, AllocError> {
+) -> Result<bool, AllocError>
+    requires there { BasesAreThere (N.base_tables names.now) (N.column_kinds names.now) }
+    requires known { HasValue (N.column_kinds names.now (at_place.View view)) }
+{
     match columns_through(alloc, names, view, columns.as_slice())? {
         Some(shown) => {
             let is_named = shortest_key(from_ref(&shown), condition).is_some();
@@ -113,7 +129,10 @@ fn how_of_scan<N: Names>(
     names: &N,
     table: TablePlace,
     condition: &BoundCond,
-) -> Result<Option<How>, AllocError> {
+) -> Result<Option<How>, AllocError>
+    requires there { BasesAreThere (N.base_tables names.now) (N.column_kinds names.now) }
+    requires known { HasValue (N.column_kinds names.now table) }
+{
     let Some(shown) = first_column(condition) else {
         return Ok(None);
     };

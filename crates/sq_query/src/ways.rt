@@ -1,6 +1,12 @@
 //! How the rows of each table that a statement reads are found, as far as it is known before any call. A way is sure if no value is null with
 //! which columns are compared, and each has a value: then no more rows are read than it says. Fewer may be.
 
+ghost use Rattle.std.specs.Prelude.{◌≡◌, IfOk};
+ghost use Rattle.std.specs.List.{AllByRecursion};
+ghost use Rattle.sq_bound.specs.Joined.{specifications_of, term_specifications};
+ghost use Rattle.sq_query.specs.Needed.{FindsQuery, FindsSelect};
+ghost use Rattle.sq_query.specs.Ways.{IsHowOnRow, IsHowUnder};
+
 use crate::inner::{beside_term, beside_test, with_around, with_subqueries};
 use crate::item_hows::{how_of_base, hows_of_items, keys_of};
 use crate::named::Sure;
@@ -31,7 +37,9 @@ pub fn ways_of_query<N: Names>(
     alloc: Global,
     names: &N,
     query: &BoundQuery,
-) -> Result<Vec<Way>, AllocError> {
+) -> Result<Vec<Way>, AllocError>
+    requires { FindsQuery (N.base_tables names.now) (N.column_kinds names.now) query.now }
+{
     let mut ways = Vec::new(alloc);
     add_of_query(alloc, names, query, &mut ways)?;
     Ok(ways)
@@ -42,7 +50,9 @@ pub fn ways_of_specification<N: Names>(
     alloc: Global,
     names: &N,
     query: &BoundSpecification,
-) -> Result<Vec<Way>, AllocError> {
+) -> Result<Vec<Way>, AllocError>
+    requires { FindsSelect (N.base_tables names.now) (N.column_kinds names.now) query.now }
+{
     let mut ways = Vec::new(alloc);
     add_of_outermost(alloc, names, query, &mut ways)?;
     Ok(ways)
@@ -67,7 +77,9 @@ pub fn ways_of_target<N: Names>(
 }
 
 /// How the row of a target is found that is looked for by its key, if it names one; all rows are looked at otherwise.
-pub fn way_of_walk(alloc: Global, target: &Target) -> Result<Way, AllocError> {
+pub fn way_of_walk(alloc: Global, target: &Target) -> Result<Way, AllocError>
+    ensures { IfOk result (λ way. (way.table ≡ target.now.table) × IsHowUnder target.now way.how) }
+{
     Ok(Way {
         table: target.table,
         how: how_under(alloc, target, false)?,
@@ -77,13 +89,17 @@ pub fn way_of_walk(alloc: Global, target: &Target) -> Result<Way, AllocError> {
 // ---- targets
 
 /// How the rows of a target are found.
-fn how_of_target(alloc: Global, target: &Target) -> Result<How, AllocError> {
+fn how_of_target(alloc: Global, target: &Target) -> Result<How, AllocError>
+    ensures { IfOk result (IsHowUnder target.now) }
+{
     how_under(alloc, target, true)
 }
 
 /// How the rows of a target are found, by several values too if that is said: by the key that is noted for it or, if none is, by one that its
 /// condition names.
-fn how_under(alloc: Global, target: &Target, by_several: bool) -> Result<How, AllocError> {
+fn how_under(alloc: Global, target: &Target, by_several: bool) -> Result<How, AllocError>
+    ensures { IfOk result (IsHowUnder target.now) }
+{
     let base = target.base;
     if let Some(key) = target.key {
         return Ok(How::Key(KeyPlace { base, key }));
@@ -106,7 +122,9 @@ fn how_of_row(
     base: usize,
     condition: &BoundCond,
     by_several: bool,
-) -> Result<How, AllocError> {
+) -> Result<How, AllocError>
+    ensures { IfOk result (IsHowOnRow condition.now keys.now base) }
+{
     match shortest_key(keys, condition) {
         Some(key) => Ok(How::Key(KeyPlace { base, key })),
         None => {
@@ -147,7 +165,10 @@ fn add_of_query<N: Names>(
     names: &N,
     query: &BoundQuery,
     ways: &mut Vec<Way>,
-) -> Result<(), AllocError> {
+) -> Result<(), AllocError>
+    requires readable { AllByRecursion (FindsSelect (N.base_tables names.now) (N.column_kinds names.now))
+        (specifications_of query.now) }
+{
     add_of_query_term(alloc, names, &query.first, ways)?;
     for union in query.rest.as_slice() {
         add_of_query_term(alloc, names, &union.term, ways)?;
@@ -161,7 +182,10 @@ fn add_of_query_term<N: Names>(
     names: &N,
     term: &BoundTerm,
     ways: &mut Vec<Way>,
-) -> Result<(), AllocError> {
+) -> Result<(), AllocError>
+    requires readable { AllByRecursion (FindsSelect (N.base_tables names.now) (N.column_kinds names.now))
+        (term_specifications term.now) }
+{
     match term {
         BoundTerm::Specification(query) => add_of_outermost(alloc, names, query, ways),
         BoundTerm::Bracketed(query) => add_of_query(alloc, names, query.get(), ways),
@@ -174,7 +198,9 @@ fn add_of_outermost<N: Names>(
     names: &N,
     query: &BoundSpecification,
     ways: &mut Vec<Way>,
-) -> Result<(), AllocError> {
+) -> Result<(), AllocError>
+    requires { FindsSelect (N.base_tables names.now) (N.column_kinds names.now) query.now }
+{
     let only = how_of_only(alloc, names, query)?;
     let nowhere = Needed::new(alloc);
     let around = Beneath {

@@ -233,7 +233,7 @@ module _ (s : Sought) (values : List Value) (user : Name) where
   list_tree : (test : BoundTest) (a : BoundExpr) (es : List BoundExpr) → test.negated ≡ false → test.predicate ≡ bound.InList false a es → test_of [] test ≡ in_list (expr_of [] a) (map (expr_of []) es)
   list_tree test a es plain is = test_of-out [] test ∙ ap (λ (b : Bool). not_if b (predicate_of [] test.predicate)) plain ∙ ap (predicate_of []) is ∙ predicate_of-InList [] false a es
 
-  list_names : (test : BoundTest) (a : BoundExpr) (es : List BoundExpr) (n : ℕ) (vs : List Value) → test.negated ≡ false → test.predicate ≡ bound.InList false a es → IsColumnOf s.item n a → AllZip (IsSameOnLines s values user) es vs → IsFalseBy s Unnoted values user test n vs
+  pub list_names : (test : BoundTest) (a : BoundExpr) (es : List BoundExpr) (n : ℕ) (vs : List Value) → test.negated ≡ false → test.predicate ≡ bound.InList false a es → IsColumnOf s.item n a → AllZip (IsSameOnLines s values user) es vs → IsFalseBy s Unnoted values user test n vs
   list_names test a es n vs plain is own known =
       let c = in_list (column_here n) (map (expr_of []) es) in
       alike (IsTrusted Unnoted test) (IsTrusted Unnoted test) (λ columns tables h. h) (test_of [] test) c (list_tree test a es plain is ∙ ap (λ (x : PlacedExpr). in_list x (map (expr_of []) es)) own) n vs
@@ -248,28 +248,38 @@ module _ (s : Sought) (values : List Value) (user : Name) where
 
   -- ---- a test, whatever is known of it, and one in brackets
 
+  pub comparison_names : (sure : Sure) (test : BoundTest) (n : ℕ) (vs : List Value) → IsFalseBy s Unnoted values user test n vs → IsFalseBy s sure values user test n vs
+  comparison_names sure test n vs h = alike (IsTrusted sure test) (IsTrusted Unnoted test) (λ columns tables known. tt) (test_of [] test) (test_of [] test) refl n vs h
+
   pub comparison_found : (sure : Sure) (test : BoundTest) (n : ℕ) (r : Result (Option (Vec Value Global)) Fault) → IfOk r (Found (IsFalseBy s Unnoted values user test) n) → IfOk r (Found (IsFalseBy s sure values user test) n)
   comparison_found sure test n (Err f) h = tt
   comparison_found sure test n (Ok None) h = tt
-  comparison_found sure test n (Ok (Some vs)) h = alike (IsTrusted sure test) (IsTrusted Unnoted test) (λ columns tables known. tt) (test_of [] test) (test_of [] test) refl n vs.items h
+  comparison_found sure test n (Ok (Some vs)) h = comparison_names sure test n vs.items h
+
+  pub brackets_name : (sure within : Sure) (own : BoundCond) (test : BoundTest) (n : ℕ) (vs : List Value) → IsBracketed own test → within ≡ sure_within sure test → IsFalseOf s within values user own n vs → IsFalseBy s sure values user test n vs
+  brackets_name sure within own test n vs is are h =
+      alike (IsTrusted sure test) (AreTrustedIn (sure_within sure test) own) (trusted_within sure own test is) (test_of [] test) (cond_of [] own) (bracketed_tree test own is) n vs
+      (subst (λ (k : Sure). IsFalseOf s k values user own n vs) are h)
 
   pub brackets_found : (sure within : Sure) (own : BoundCond) (test : BoundTest) (n : ℕ) (r : Result (Option (Vec Value Global)) Fault) → IsBracketed own test → within ≡ sure_within sure test → IfOk r (Found (IsFalseOf s within values user own) n) → IfOk r (Found (IsFalseBy s sure values user test) n)
   brackets_found sure within own test n (Err f) is are h = tt
   brackets_found sure within own test n (Ok None) is are h = tt
-  brackets_found sure within own test n (Ok (Some vs)) is are h =
-      alike (IsTrusted sure test) (AreTrustedIn (sure_within sure test) own) (trusted_within sure own test is) (test_of [] test) (cond_of [] own) (bracketed_tree test own is) n vs.items
-      (subst (λ (k : Sure). IsFalseOf s k values user own n vs.items) are h)
+  brackets_found sure within own test n (Ok (Some vs)) is are h = brackets_name sure within own test n vs.items is are h
 
   -- ---- AND
 
   abbrev joined : List BoundTest → PlacedCond
   joined tests = conjunction (conds (map (test_of []) tests))
 
+  pub test_names : (sure : Sure) (tests : List BoundTest) (i : ℕ) (test : BoundTest) (n : ℕ) (vs : List Value) → i < length tests → test ≡ slice_index_or tests i test → AllByRecursion (IsPassed sure) (take i tests) → IsFalseBy s sure values user test n vs
+      → IsFalseAt s values user (AreTrusted sure tests) (joined tests) n vs
+  test_names sure tests i test n vs within at passed h = λ columns kinds levels tables scopes line row on stands trusted there other.
+      all_is tables (beneath scopes line values user) tests ∙ and_false columns kinds levels tables scopes line row on there n vs other sure tests i test within (sym at) passed trusted h stands
+
   pub test_found : (sure : Sure) (tests : List BoundTest) (i : ℕ) (test : BoundTest) (n : ℕ) (found : Option (Vec Value Global)) → i < length tests → test ≡ slice_index_or tests i test → AllByRecursion (IsPassed sure) (take i tests) → Found (IsFalseBy s sure values user test) n found
       → Found (IsFalseAt s values user (AreTrusted sure tests) (joined tests)) n found
   test_found sure tests i test n None within at passed h = tt
-  test_found sure tests i test n (Some vs) within at passed h = λ columns kinds levels tables scopes line row on stands trusted there other.
-      all_is tables (beneath scopes line values user) tests ∙ and_false columns kinds levels tables scopes line row on there n vs.items other sure tests i test within (sym at) passed trusted h stands
+  test_found sure tests i test n (Some vs) within at passed h = test_names sure tests i test n vs.items within at passed h
 
   -- ---- OR
 
