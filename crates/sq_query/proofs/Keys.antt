@@ -17,5 +17,6 @@ pub mod NamedRows
 pub mod NamedTests
 pub mod NotedKeys
 pub mod OnlyOne
+pub mod RowHows
 pub mod Searched
 pub mod ShortestKnown

@@ -1,5 +1,5 @@
 -- How the rows of the items of FROM are found, as far as it is known before any call (ISO/IEC 9075:1992, 7.4 and 7.6; own rule).
-use Rattle.std.specs.Prelude.{◌≡◌, ◌<◌, ◌⊎◌, ⊤, ⊥, ℕ, get_or, length, map, true, List, [], ◌∷◌, Some}
+use Rattle.std.specs.Prelude.{◌≡◌, ◌<◌, ◌⊎◌, ⊤, ℕ, get_or, length, map, true, List, [], ◌∷◌, Some}
 use Rattle.std.specs.List.{AllByRecursion, AllZip}
 use Rattle.sq_lex.specs.declared.name.Name.{Name}
 use Rattle.sq_value.specs.declared.value.Value.{Value}

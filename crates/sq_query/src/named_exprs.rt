@@ -190,7 +190,7 @@ fn add_exprs<'c>(
     exprs: Vec<&'c BoundExpr>,
     all: &mut Vec<&'c BoundExpr>,
 ) -> Result<(), AllocError>
-    ensures { OnOk result (all.new.items ≡ all.old.items ++ exprs.items) }
+    ensures { OnOk result (all.new.items ≡ all.old.items ++ exprs.entry.items) }
 {
     let mut more = exprs;
     all.append(&mut more)?;
