@@ -244,9 +244,16 @@ fn lend_each(alloc: Global, exprs: &[BoundExpr]) -> Result<Vec<&BoundExpr>, Allo
 {
     let mut lent = Vec::new(alloc);
     for expr in exprs {
-        lent.push(expr)?;
+        lent.push(lend(expr))?;
     }
     Ok(lent)
+}
+
+/// An expression where it stands.
+fn lend(expr: &BoundExpr) -> &BoundExpr
+    ensures { result.now ≡ expr.now }
+{
+    expr
 }
 
 // ---- what is known beforehand

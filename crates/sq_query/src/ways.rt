@@ -4,7 +4,7 @@
 ghost use Rattle.std.specs.Prelude.{◌≡◌, IfOk};
 ghost use Rattle.std.specs.List.{AllByRecursion};
 ghost use Rattle.sq_bound.specs.Joined.{specifications_of, term_specifications};
-ghost use Rattle.sq_query.specs.Needed.{FindsQuery, FindsSelect};
+ghost use Rattle.sq_query.specs.Needed.{FindsSelect};
 ghost use Rattle.sq_query.specs.Ways.{IsHowOnRow, IsHowUnder};
 
 use crate::inner::{beside_term, beside_test, with_around, with_subqueries};
@@ -38,7 +38,8 @@ pub fn ways_of_query<N: Names>(
     names: &N,
     query: &BoundQuery,
 ) -> Result<Vec<Way>, AllocError>
-    requires { FindsQuery (N.base_tables names.now) (N.column_kinds names.now) query.now }
+    requires { AllByRecursion (FindsSelect (N.base_tables names.now) (N.column_kinds names.now))
+        (specifications_of query.now) }
 {
     let mut ways = Vec::new(alloc);
     add_of_query(alloc, names, query, &mut ways)?;

@@ -53,9 +53,9 @@ lent_exprs es = map (λ (e : Bor BoundExpr). e.now) es
 pub lent_more : (es more next : List (Bor BoundExpr)) → next ≡ es ++ more → lent_exprs next ≡ lent_exprs es ++ lent_exprs more
 lent_more es more next grown = ap lent_exprs grown ∙ map-append (λ (e : Bor BoundExpr). e.now) es more
 
-pub one_lent : (so_far next : List (Bor BoundExpr)) (e : Bor BoundExpr) (es : List BoundExpr) (i : ℕ) → i < length es → e.now ≡ slice_index_or es i e.now → next ≡ so_far ++ e ∷ [] → lent_exprs so_far ≡ take i es → lent_exprs next ≡ take (i + 1) es
-one_lent so_far next e es i within at grown held =
-    lent_more so_far (e ∷ []) next grown ∙ ap (λ (l : List BoundExpr). l ++ e.now ∷ []) held ∙ ap (λ (x : BoundExpr). take i es ++ x ∷ []) at ∙ sym (take_more es i e.now within)
+pub one_lent : (so_far next : List (Bor BoundExpr)) (e : Bor BoundExpr) (es : List BoundExpr) (i : ℕ) (x : BoundExpr) → i < length es → x ≡ slice_index_or es i x → e.now ≡ x → next ≡ so_far ++ e ∷ [] → lent_exprs so_far ≡ take i es → lent_exprs next ≡ take (i + 1) es
+one_lent so_far next e es i x within at is grown held =
+    lent_more so_far (e ∷ []) next grown ∙ ap (λ (l : List BoundExpr). l ++ e.now ∷ []) held ∙ ap (λ (y : BoundExpr). take i es ++ y ∷ []) (is ∙ at) ∙ sym (take_more es i x within)
 
 -- ---- a test
 
