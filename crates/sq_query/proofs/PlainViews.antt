@@ -5,6 +5,7 @@ pub mod AskedViews
 pub mod Classes
 pub mod FewRows
 pub mod LookedUp
+pub mod QuietConds
 pub mod QuietExprs
 pub mod SureRows
 pub mod Thinned

@@ -57,15 +57,11 @@ abbrev pub is_sure_call : SetFunctionCall → Bool
 is_sure_call CountRows = true
 is_sure_call (Over a) = stays_in_range a.function && is_quiet_beside a.operand
 
-abbrev pub is_unwritten : Option BoundCond → Bool
-is_unwritten None = true
-is_unwritten (Some c) = false
-
--- the groups of a query: GROUP BY is there and HAVING is not, and no set function ever ends with a status
+-- the groups of a query: GROUP BY is there, and neither a set function nor HAVING ever ends with a status
 abbrev pub is_sure_grouping : Grouping → Bool
 is_sure_grouping g =
     nat_lt 0 (length (out-Grouping g).columns)
-    && is_unwritten (out-Grouping g).having
+    && option_all is_quiet_cond (out-Grouping g).having
     && list_all is_sure_call (out-Grouping g).set_functions
 
 -- The query of a plain view: over one table alone, none of its clauses ever ends with a status and, if it is grouped, GROUP BY is there.

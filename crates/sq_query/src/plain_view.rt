@@ -11,7 +11,7 @@ ghost use Rattle.sq_bound.specs.WellFormed.{BasesAreThere};
 ghost use Rattle.sq_bound.specs.declared.condition.BoundSpecification.{out-BoundSpecification};
 ghost use Rattle.sq_bound.specs.declared.condition.TablePlace.TheVariants as at_place;
 ghost use Rattle.sq_query.specs.Search.{IsOver};
-ghost use Rattle.sq_query.specs.Shown.{AreShown, Asks, IsPath, IsPlainOver, Shows, first_of, is_grouped_by, is_quiet_beside, is_sure_call, is_sure_grouping, is_unwritten, stays_in_range};
+ghost use Rattle.sq_query.specs.Shown.{AreShown, Asks, IsPath, IsPlainOver, Shows, first_of, is_grouped_by, is_quiet_beside, is_sure_call, is_sure_grouping, stays_in_range};
 
 use crate::needed::view_at;
 use crate::search::only_table;
@@ -147,7 +147,7 @@ fn shows_surely(query: &BoundSpecification) -> bool
     ensures sure { result ≡ true → option_all is_quiet_cond (out-BoundSpecification query.now).condition
         ≡ true }
 {
-    are_quiet_exprs(query.list.as_slice()) && is_quiet_where(&query.condition)
+    are_quiet_exprs(query.list.as_slice()) && is_quiet_clause(&query.condition)
 }
 
 fn are_quiet_exprs(list: &[BoundExpr]) -> bool
@@ -171,7 +171,7 @@ fn is_quiet_expr(expr: &BoundExpr) -> bool
     }
 }
 
-fn is_quiet_where(condition: &Option<BoundCond>) -> bool
+fn is_quiet_clause(condition: &Option<BoundCond>) -> bool
     ensures { result ≡ option_all is_quiet_cond condition.now }
 {
     match condition {
@@ -190,22 +190,13 @@ fn are_sure_groups(grouping: &Option<Grouping>) -> bool
     }
 }
 
-/// Whether GROUP BY is there and HAVING is not, and no set function ever ends with a status.
+/// Whether GROUP BY is there, and neither a set function nor HAVING ever ends with a status.
 fn is_sure_grouping(groups: &Grouping) -> bool
     ensures { result ≡ is_sure_grouping groups.now }
 {
     0 < groups.columns.len()
-        && is_unwritten(&groups.having)
+        && is_quiet_clause(&groups.having)
         && are_sure_calls(groups.set_functions.as_slice())
-}
-
-fn is_unwritten(having: &Option<BoundCond>) -> bool
-    ensures { result ≡ is_unwritten having.now }
-{
-    match having {
-        Some(_) => false,
-        None => true,
-    }
 }
 
 fn are_sure_calls(calls: &[SetFunctionCall]) -> bool

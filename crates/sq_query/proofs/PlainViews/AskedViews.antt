@@ -1,7 +1,7 @@
 -- Asking the table of a plain view by columns asks the view by those that show them: over the rows of the table that may have some values, the
 -- query of the view has those of its rows that may have them. And it never ends with a status (ISO/IEC 9075:1992, 7.6 to 7.9 and 11.19).
-use Rattle.std.proofs.Common.{◌≡◌, ◌∙◌, ℕ, Bool, true, false, ◌&&◌, ◌||◌, ◌++◌, List, [], ◌∷◌, Option, Some, None, filter, length, map, nat_eq, nat_lt, refl, sym, ap, subst, Ok}
-use Rattle.std.specs.Prelude.{⊤, if◌then◌else◌}
+use Rattle.std.proofs.Common.{◌≡◌, ◌∙◌, ℕ, zero, suc, Bool, true, false, ◌&&◌, ◌||◌, ◌++◌, List, [], ◌∷◌, Option, Some, None, filter, length, map, nat_eq, nat_lt, refl, sym, ap, subst, Ok, Err}
+use Rattle.std.specs.Prelude.{⊤, if◌then◌else◌, slice_index_or}
 use Rattle.std.specs.Cmp.Lexicographic.{pointwise}
 use Rattle.std.specs.List.{AllByRecursion, AllZip, list_all, list_any}
 use Rattle.std.specs.Option.{option_map}
@@ -11,19 +11,23 @@ use Rattle.sq_lex.specs.declared.name.Name.{Name}
 use Rattle.sq_value.specs.Comparison.{is_same}
 use Rattle.sq_value.specs.Key.{in_columns}
 use Rattle.sq_value.specs.SetFunctions.{is_null as is_null_value}
+use Rattle.sq_value.specs.declared.truth.Truth.{Truth}
 use Rattle.sq_value.specs.declared.value.Value.{Value}
 use Rattle.sq_meaning.specs.Environment.{Env, Line, Place, Row, Scope, alone, outermost, within}
 use Rattle.sq_meaning.specs.Expression.{value}
 use Rattle.sq_meaning.specs.Placed.{Placed, by_place}
-use Rattle.sq_meaning.specs.Query.{clause_functions, clause_truth, is_grouped, is_some_of, is_true, list_functions, listed_values, rows, scopes_of}
-use Rattle.sq_meaning.specs.Quiet.{are_quiet, is_quiet}
+use Rattle.sq_meaning.specs.Query.{clause_functions, clause_truth, is_grouped, is_some_of, is_true, list_functions, listed_values, rows, scopes_of, truth}
+use Rattle.sq_meaning.specs.Quiet.{is_quiet_expr}
 use Rattle.sq_meaning.specs.Rows.{firsts, product, same_row}
 use Rattle.sq_meaning.specs.Status.{Outcome, and_then, each, kept}
-use Rattle.sq_meaning.specs.Syntax.{Conds, a_cond, absent, between, compare, compare_quantified, compare_subquery, conjunction, disjunction, exists, expressions, in_list, in_subquery, is_null, like, negated, no_cond, select}
+use Rattle.sq_meaning.specs.declared.status.Status.{Status}
+use Rattle.sq_meaning.specs.Sure.{IsSureOutcome}
+use Rattle.sq_meaning.specs.Syntax.{Conds, a_cond, absent, between, compare, compare_quantified, compare_subquery, conjunction, disjunction, exists, expressions, in_list, in_subquery, is_null, like, literal, negated, no_cond, select}
 use Rattle.sq_meaning.specs.WellFormed.{IsDeclaredAt, WellFormedColumn, WellFormedExpr, WellFormedSelect, kinds_by_place, of_lines, shown_level}
 use Rattle.sq_meaning.proofs.AnswerLaws.{all_true, all_weaker}
+use Rattle.sq_meaning.proofs.SureLaws.{sure_truth}
 use Rattle.sq_bound.specs.Condition.{Groups, PlacedClause, PlacedCond, PlacedSelect, clause_of, cond_of, groups_by, groups_if, groups_of, select_by, select_of}
-use Rattle.sq_bound.specs.Expression.{PlacedExpr, expr_of, place_meant}
+use Rattle.sq_bound.specs.Expression.{PlacedExpr, expr_of, missing, place_meant}
 use Rattle.sq_bound.specs.Groups.{AreGroupsIfAny, AreGroupsOf}
 use Rattle.sq_bound.specs.Names.{option_all}
 use Rattle.sq_bound.specs.Noted.{IsNoted}
@@ -40,11 +44,12 @@ use Rattle.sq_bound.specs.declared.expression.SetFunctionCall.{SetFunctionCall}
 use Rattle.sq_bound.proofs.ConditionLaws.{groups_of-out, select_of-out}
 use Rattle.sq_bound.proofs.Nested.{select_itself}
 use Rattle.sq_bound.proofs.QuietRows.{no_tables}
-use Rattle.sq_bound.proofs.QuietTruths.{both_left, both_right}
+use Rattle.sq_bound.proofs.QuietTruths.{both_left, both_right, quiet_sure}
 use Rattle.sq_condition.specs.Specification.{as_line}
+use Rattle.sq_condition.proofs.AlikeConds.{cond_same}
 use Rattle.sq_condition.proofs.NoFunctions.{have_none}
 use Rattle.sq_query.specs.Needed.{ReadsClause, ReadsCond, ReadsConds, ReadsSelect}
-use Rattle.sq_query.specs.Shown.{Asks, IsPlainOver, Shows, is_grouped_by, is_quiet_beside, is_sure_call, is_sure_grouping, is_unwritten}
+use Rattle.sq_query.specs.Shown.{Asks, IsPlainOver, Shows, is_grouped_by, is_quiet_beside, is_sure_call, is_sure_grouping}
 use Rattle.sq_query.specs.Table.{rows_of_view}
 use Rattle.sq_query.specs.ValueScan.{may_have}
 use Rattle.sq_query.proofs.Needs.AnyTables.{listed_over, scopes_over}
@@ -52,32 +57,80 @@ use Rattle.sq_query.proofs.Needs.SameTables.{over_rows, same_clause, shown_of, w
 use Rattle.sq_query.proofs.PlainViews.AskedCells.{IsKnown, IsOwn, all_cells, cells_alike, clause_sure, first_row, key_cells, listed_sure, may_alike, own_there, shown_cells}
 use Rattle.sq_query.proofs.PlainViews.AskedRows.{AreAlikeBy, ShowsAlike, asked_lines}
 use Rattle.sq_query.proofs.PlainViews.Classes.{map_filtered}
-use Rattle.sq_query.proofs.PlainViews.SureRows.{AreSureOn, AreSureParts, IsShort, IsSure, IsSureWith, as_short, call_sure, map_long, rows_sure, true_sure}
+use Rattle.sq_query.proofs.PlainViews.QuietConds.{AreMade, IsMade, cond_made, made_quiet}
+use Rattle.sq_query.proofs.PlainViews.QuietExprs.{quiet_holds}
+use Rattle.sq_query.proofs.PlainViews.SureRows.{AreSureOn, AreSureParts, IsShort, IsSure, IsSureWith, as_short, call_sure, map_long, rows_sure, sure_so, true_sure}
 
 -- ---- what a quiet clause reads
 
+abbrev any_leaf : PlacedExpr → Type 0
+any_leaf e = Unit {0}
+
 mutual
-  quiet_reads : (P : TablePlace → Type 0) (c : PlacedCond) → is_quiet c ≡ true → ReadsCond P c
-  quiet_reads P (compare op a b) h = tt
-  quiet_reads P (compare_subquery op a q) h = absurd cc
-  quiet_reads P (compare_quantified op k a q) h = absurd cc
-  quiet_reads P (between a low high) h = tt
-  quiet_reads P (in_subquery a q) h = absurd cc
-  quiet_reads P (in_list a es) h = tt
-  quiet_reads P (like text pattern escape) h = tt
-  quiet_reads P (is_null a) h = tt
-  quiet_reads P (exists q) h = absurd cc
-  quiet_reads P (negated c) h = quiet_reads P c h
-  quiet_reads P (conjunction cs) h = all_read P cs h
-  quiet_reads P (disjunction cs) h = all_read P cs h
+  made_reads : (P : TablePlace → Type 0) (c : PlacedCond) → IsMade any_leaf c → ReadsCond P c
+  made_reads P (compare op a b) h = tt
+  made_reads P (compare_subquery op a q) h = absurd h
+  made_reads P (compare_quantified op k a q) h = absurd h
+  made_reads P (between a low high) h = tt
+  made_reads P (in_subquery a q) h = absurd h
+  made_reads P (in_list a es) h = tt
+  made_reads P (like text pattern escape) h = tt
+  made_reads P (is_null a) h = tt
+  made_reads P (exists q) h = absurd h
+  made_reads P (negated c) h = made_reads P c h
+  made_reads P (conjunction cs) h = all_read P cs h
+  made_reads P (disjunction cs) h = all_read P cs h
 
-  all_read : (P : TablePlace → Type 0) (cs : Conds (Placed TablePlace)) → are_quiet cs ≡ true → ReadsConds P cs
+  all_read : (P : TablePlace → Type 0) (cs : Conds (Placed TablePlace)) → AreMade any_leaf cs → ReadsConds P cs
   all_read P no_cond h = tt
-  all_read P (a_cond c cs) h = (quiet_reads P c (both_left (is_quiet c) (are_quiet cs) h), all_read P cs (both_right (is_quiet c) (are_quiet cs) h))
+  all_read P (a_cond c cs) h = (made_reads P c h.0, all_read P cs h.1)
 
-clause_reads : (P : TablePlace → Type 0) (c : Option BoundCond) → option_all is_quiet_cond c ≡ true → ReadsClause P (clause_of [] c)
-clause_reads P None sure = tt
-clause_reads P (Some c) sure = quiet_reads P (cond_of [] c) sure
+clause_reads : (P : TablePlace → Type 0) (functions : List PlacedExpr) (c : Option BoundCond) → option_all is_quiet_cond c ≡ true → ReadsClause P (clause_of functions c)
+clause_reads P functions None sure = tt
+clause_reads P functions (Some c) sure = made_reads P (cond_of functions c) (cond_made functions any_leaf (λ e quiet. tt) c sure)
+
+-- ---- a HAVING clause, whose set functions are sure
+
+module _ (f : TablePlace → Outcome (List Row)) (here : Env (Unit {0})) where
+  as_literal : Outcome Value → PlacedExpr
+  as_literal (Ok v) = literal v
+  as_literal (Err status) = missing
+
+  literal_same : (o : Outcome Value) → IsSure o → o ≡ value (by_place f) (as_literal o) here
+  unfolding as_literal
+  literal_same (Ok v) h = refl
+  literal_same (Err status) h = ap (λ (s : Status). let is : Outcome Value = Err s in is) h
+
+  literal_quiet : (o : Outcome Value) → is_quiet_expr (as_literal o) ≡ true
+  unfolding as_literal
+  literal_quiet (Ok v) = refl
+  literal_quiet (Err status) = refl
+
+  abbrev evaluated : PlacedExpr → PlacedExpr
+  evaluated e = as_literal (value (by_place f) e here)
+
+  same_there : (functions : List PlacedExpr) → AllByRecursion (λ e. IsSure (value (by_place f) e here)) functions → (n : ℕ)
+      → value (by_place f) (slice_index_or functions n missing) here ≡ value (by_place f) (slice_index_or (map evaluated functions) n missing) here
+  same_there [] sure n = refl
+  same_there (e ∷ functions) sure zero = literal_same (value (by_place f) e here) sure.0
+  same_there (e ∷ functions) sure (suc n) = same_there functions sure.1 n
+
+  quiet_there : (functions : List PlacedExpr) (n : ℕ) → is_quiet_expr (slice_index_or (map evaluated functions) n missing) ≡ true
+  quiet_there [] n = refl
+  quiet_there (e ∷ functions) zero = literal_quiet (value (by_place f) e here)
+  quiet_there (e ∷ functions) (suc n) = quiet_there functions n
+
+  no_rows : (t : TablePlace) → true ≡ false → IsSureOutcome (f t)
+  no_rows t e = cc
+
+  having_sure : (functions : List PlacedExpr) → AllByRecursion (λ e. IsSure (value (by_place f) e here)) functions → (c : Option BoundCond) → option_all is_quiet_cond c ≡ true → IsSure (clause_truth (by_place f) (clause_of functions c) here)
+  having_sure functions sure None quiet = tt
+  having_sure functions sure (Some c) quiet =
+      let literals = map evaluated functions in
+      let all_quiet = made_quiet (cond_of literals c) (cond_made literals (λ e. is_quiet_expr e ≡ true)
+      (quiet_holds literals (λ e. is_quiet_expr e ≡ true) (λ v. refl) (λ p. refl) refl (λ p. refl) (quiet_there functions) (λ sign e h. h)) c quiet) in
+      subst (λ (o : Outcome Truth). IsSure o) (sym (cond_same f functions literals here here (record { inputs = refl; user = refl; columns = λ p. refl; of_group = same_there functions sure }) c))
+      (sure_so (truth (by_place f) (cond_of literals c) here) (sure_truth (λ t. true) f no_rows (cond_of literals c) (quiet_sure (λ t. true) (cond_of literals c) all_quiet) here))
 
 -- ---- the tree of such a query
 
@@ -100,12 +153,13 @@ module _ (t : TablePlace) (columns : TableKinds) (caller : Name) (distinct : Boo
     some : is_by_groups ≡ true → is_some_of by ≡ true
     calls : (f : TablePlace → Outcome (List Row)) (scope : Scope (Unit {0})) → IsShort scope.group → AllByRecursion (λ e. IsSure (value (by_place f) e (within scope env))) functions
     own : is_by_groups ≡ true → list_functions {N = Placed TablePlace} (expressions es) ++ clause_functions having ≡ functions
-    no_having : having ≡ absent
+    havings : (f : TablePlace → Outcome (List Row)) (scope : Scope (Unit {0})) → IsShort scope.group → IsSure (clause_truth (by_place f) having (within scope env))
+    having_reads : (P : TablePlace → Type 0) → ReadsClause P having
     stands : WellFormedSelect (by_place no_tables) (kinds_by_place columns []) (IsDeclaredAt []) [] tree
 
   module _ (p : IsPlainTree) where
     tree_reads : (P : TablePlace → Type 0) → P t → ReadsSelect P tree
-    tree_reads P first = ((first, tt), clause_reads P condition p.sure, subst (ReadsClause P) (sym p.no_having) tt)
+    tree_reads P first = ((first, tt), clause_reads P [] condition p.sure, p.having_reads P)
 
     -- ---- it never ends with a status
 
@@ -114,7 +168,7 @@ module _ (t : TablePlace) (columns : TableKinds) (caller : Name) (distinct : Boo
       parts = record {
         some = p.some;
         calls = λ g scope short. subst (λ (fs : List PlacedExpr). AreSureOn f distinct es by having env fs scope) (sym (p.own g)) (p.calls f scope short);
-        havings = λ scope short. subst (λ (c : PlacedClause). IsSure (clause_truth (by_place f) c (within scope env))) (sym p.no_having) tt;
+        havings = λ scope short. p.havings f scope short;
         listed = λ scope short. listed_sure f (within scope env) functions (p.calls f scope short) bound p.listed;
       }
 
@@ -151,9 +205,9 @@ module _ (t : TablePlace) (columns : TableKinds) (caller : Name) (distinct : Boo
       same_phases : (lines : List Line) → and_then (kept (wanted_of g g distinct (expressions es) t (clause_of [] condition) by having env g) lines) (shown_of g g distinct (expressions es) t (clause_of [] condition) by having env g)
           ≡ and_then (kept (wanted_of f f distinct (expressions es) t (clause_of [] condition) by having env f) lines) (shown_of f f distinct (expressions es) t (clause_of [] condition) by having env f)
       same_phases lines =
-          λ i. and_then (kept (λ line. is_true (same_clause g f (clause_of [] condition) (clause_reads (λ u. g u ≡ f u) condition p.sure) (within (alone (tt ∷ []) line) env) i)) lines)
+          λ i. and_then (kept (λ line. is_true (same_clause g f (clause_of [] condition) (clause_reads (λ u. g u ≡ f u) [] condition p.sure) (within (alone (tt ∷ []) line) env) i)) lines)
           (λ found. and_then (scopes_over g f (expressions es) by having (tt ∷ []) found env i)
-          (λ scopes. and_then (kept (λ scope. is_true (same_clause g f having (subst (ReadsClause (λ u. g u ≡ f u)) (sym p.no_having) tt) (within scope env) i)) scopes)
+          (λ scopes. and_then (kept (λ scope. is_true (same_clause g f having (p.having_reads (λ u. g u ≡ f u)) (within scope env) i)) scopes)
           (λ left. and_then (each (λ scope. listed_over g f (expressions es) (within scope env) i) left)
           (λ found_rows. Ok (if distinct then firsts same_row found_rows else found_rows)))))
 
@@ -187,10 +241,6 @@ calls_sure : (f : TablePlace → Outcome (List Row)) (env : Env (Unit {0})) (sco
 calls_sure f env scope short [] sure = tt
 calls_sure f env scope short (call ∷ calls) sure =
     (call_sure f env scope short call (both_left (is_sure_call call) (list_all is_sure_call calls) sure), calls_sure f env scope short calls (both_right (is_sure_call call) (list_all is_sure_call calls) sure))
-
-none_written : (c : Option BoundCond) → is_unwritten c ≡ true → c ≡ None
-none_written None h = refl
-none_written (Some c) h = cc
 
 module _ (q : BoundSpecification) (t : TablePlace) (columns : TableKinds) (plain : IsPlainOver q t) (well : IsSelect columns [] [] q) (caller : Name) where
   abbrev distinct : Bool
@@ -234,7 +284,8 @@ module _ (q : BoundSpecification) (t : TablePlace) (columns : TableKinds) (plain
           some = λ g. absurd (false≢true (sym no_group ∙ g));
           calls = λ f scope short. tt;
           own = λ g. absurd (false≢true (sym no_group ∙ g));
-          no_having = refl;
+          havings = λ f scope short. tt;
+          having_reads = λ P. tt;
           stands = stands_as _ tree_is;
         };
         among = λ ns h g. absurd (false≢true (sym no_group ∙ g));
@@ -247,26 +298,28 @@ module _ (q : BoundSpecification) (t : TablePlace) (columns : TableKinds) (plain
       let functions = map call_of calls in
       let both : is_sure_grouping g ≡ true = ap (option_all is_sure_grouping) (sym is) ∙ plain.groups in
       let has_columns = nat_lt 0 (length places) in
-      let is_free = is_unwritten (out-Grouping g).having in
+      let is_free = option_all is_quiet_cond (out-Grouping g).having in
       let are_sure = list_all is_sure_call calls in
       let first = both_left (has_columns && is_free) are_sure both in
       let some = some_meant places (both_left has_columns is_free first) in
-      let none = none_written (out-Grouping g).having (both_right has_columns is_free first) in
+      let quiet = both_right has_columns is_free first in
       let sure = both_right (has_columns && is_free) are_sure both in
-      let groups_are : groups_of g ≡ groups_by places functions absent = groups_of-out g ∙ ap (λ (c : Option BoundCond). groups_by places functions (clause_of functions c)) none in
+      let having = clause_of functions (out-Grouping g).having in
+      let groups_are : groups_of g ≡ groups_by places functions having = groups_of-out g in
       let tree_is = tree_with (Some g) is ∙ ap (λ (gs : Groups). select_by distinct bound (t ∷ []) (clause_of [] condition) gs) groups_are in
       let notes : AreGroupsOf bound g = subst (AreGroupsIfAny bound) is noted in record {
         functions = functions;
         by = map place_meant places;
-        having = absent;
+        having = having;
         is_tree = tree_is;
         is_plain = record {
           listed = plain.listed;
           sure = plain.sure;
           some = λ grouped. some;
           calls = λ f scope short. calls_sure f (outermost [] caller) scope short calls sure;
-          own = λ grouped. subst (λ (c : Option BoundCond). list_functions {N = Placed TablePlace} (expressions (map (expr_of functions) bound)) ++ clause_functions (clause_of functions c) ≡ functions) none notes.functions;
-          no_having = refl;
+          own = λ grouped. notes.functions;
+          havings = λ f scope short. having_sure f (within scope (outermost [] caller)) functions (calls_sure f (outermost [] caller) scope short calls sure) (out-Grouping g).having quiet;
+          having_reads = λ P. clause_reads P functions (out-Grouping g).having quiet;
           stands = stands_as _ tree_is;
         };
         among = λ ns h grouped. all_weaker (λ n. option_all (is_grouped_by n) (out-BoundSpecification q).grouping ≡ true) (λ n. list_any (λ (p : Place). nat_eq p.column n) (map place_meant places) ≡ true)
