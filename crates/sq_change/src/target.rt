@@ -205,7 +205,7 @@ pub(crate) fn replace_rows<N: Names, S: Store>(
     ensures fit { IfOk result (λ changes. FitTable table.now changes.items) }
     ensures right { IfErr result MayEnd }
 {
-    let mut changes = Vec::new(setting.alloc);
+    let mut changes = Vec::with_capacity(setting.alloc, rows.len())?;
     for found in rows {
         let row = updated_row(setting, assignments, found.1)?;
         changes.push(Change::Replace(found.0, row))?;

@@ -53,9 +53,9 @@ updated_row-requires-clause-assignable g c =
 
 pub loop-found-init : goal.loop-found-init
 loop-found-init g c = record {
-  meant = λ shown. made_none _ c.args.rows.now _ (rw c.new-changes.ensures.items refl);
-  replacements = rw c.new-changes.ensures.items tt;
-  fit = rw c.new-changes.ensures.items (record { wide = refl; in_domains = tt });
+  meant = λ shown. made_none _ c.args.rows.now _ (rw c.in_ok-changes.ensures.items refl);
+  replacements = rw c.in_ok-changes.ensures.items tt;
+  fit = rw c.in_ok-changes.ensures.items (record { wide = refl; in_domains = tt });
 }
 
 pub loop-found-preserved : goal.loop-found-preserved
