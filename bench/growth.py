@@ -26,6 +26,7 @@ ELEMENTS = (
     "CREATE TABLE S (K INTEGER, A INTEGER)",
     "CREATE VIEW V AS SELECT K, A FROM R WHERE A >= 0",
     "CREATE VIEW W AS SELECT K, A FROM S WHERE A >= 0",
+    "CREATE VIEW G (K, A) AS SELECT K, COUNT(*) FROM R GROUP BY K",
 )
 SCHEMA = "CREATE SCHEMA AUTHORIZATION U\n" + "\n".join(ELEMENTS) + "\n"
 # Without an index over the referring column sqlite3 reads the whole table for each parent that is deleted.
@@ -252,11 +253,11 @@ def selected(table, n):
                calls("ONE ({}, *)", keys(n)), asked("A", f"FROM {table} WHERE K = {{}}", keys(n)))
 
 
-def opened(n):
-    procedures = ("DECLARE X CURSOR FOR SELECT A FROM R WHERE K = :K\nPROCEDURE OPX (SQLCODE, :K INTEGER); OPEN X;\n"
+def opened(table, n):
+    procedures = (f"DECLARE X CURSOR FOR SELECT A FROM {table} WHERE K = :K\nPROCEDURE OPX (SQLCODE, :K INTEGER); OPEN X;\n"
                   "PROCEDURE FEX (SQLCODE, :A INTEGER); FETCH X INTO :A;\nPROCEDURE CLX (SQLCODE); CLOSE X;\n")
     return Row({"R": one_more(n)}, procedures, calls("OPX ({}); CALL M.FEX (*); CALL M.CLX", keys(n)),
-               asked("A", "FROM R WHERE K = {}", keys(n)))
+               asked("A", f"FROM {table} WHERE K = {{}}", keys(n)))
 
 
 def united(n):
@@ -355,6 +356,11 @@ def parent_and_children(n):
     return sought("COUNT(*)", "FROM P, C WHERE P.K = {} AND C.A = P.K", {"P": one_more(n), "C": to_themselves(n)}, n)
 
 
+def by_a_subquery(test, n):
+    rest = f"FROM R WHERE K {test} (SELECT A FROM P WHERE P.K = {{}})"
+    return sought("COUNT(*)", rest, {"P": to_themselves(n), "R": one_more(n)}, n)
+
+
 def sought_in_having(n):
     rest = "FROM P WHERE K = {0} HAVING COUNT(*) <= (SELECT COUNT(*) FROM R WHERE R.K = {0})"
     return sought("COUNT(*)", rest, {"P": one_more(n), "R": one_more(n)}, n)
@@ -419,7 +425,8 @@ ROWS = {
     "FETCH, then positioned UPDATE": fetched_and_updated,
     "SELECT INTO by key": lambda n: selected("R", n),
     "SELECT INTO by key from a view": lambda n: selected("V", n),
-    "OPEN, FETCH, CLOSE by key": opened,
+    "OPEN, FETCH, CLOSE by key": lambda n: opened("R", n),
+    "OPEN, FETCH, CLOSE of a group of a view, by key": lambda n: opened("G", n),
     "OPEN, FETCH, positioned UPDATE of the tested column, CLOSE": opened_and_updated,
     "OPEN, two FETCHes, CLOSE of a UNION of two lookups by key": united,
     "UPDATE by key through a view": updated_through_a_view,
@@ -438,6 +445,8 @@ ROWS = {
     "join of two tables by IN with two keys": joined_by_one_of_two,
     "SELECT INTO of the children of a row": children,
     "join of a row with its children": parent_and_children,
+    "SELECT INTO by the value of a subquery": lambda n: by_a_subquery("=", n),
+    "SELECT INTO by IN with a subquery": lambda n: by_a_subquery("IN", n),
     "SELECT INTO where HAVING has a subquery by key": sought_in_having,
     "SELECT INTO by key where a subquery has a row by key": selected_where_there,
     "UPDATE by key where a subquery has a row by key": updated_where_there,

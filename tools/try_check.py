@@ -2,7 +2,7 @@
 """Tries `check` on texts with their wanted lines, and on the texts of every run of crates/sq_cases/data.
 
 try_check.py PROGRAM: the status is 0 if each of tools/checks.txt comes to its lines, which show each fault of a name with one; each of
-tools/words.txt to its lines and words, which show each warning; each text of tools/hints.txt to its hint, and each hint of the program has a text there; and of
+tools/words.txt to its lines and words, which show each warning; each of tools/ways.txt to the lines that `--ways` adds; each text of tools/hints.txt to its hint, and each hint of the program has a text there; and of
 each run: the schemas and modules are refused as the run says; or each procedure that
 a call of the run answers with 42000 has a fault, by the name that the run gives it, no procedure that answers otherwise has one,
 behind the faults of a name stands one that the texts have, and the exit status says whether there is a fault; and the same is said of these
@@ -97,6 +97,21 @@ def says(program, run, lines):
         found = said(program, words if run.script else words[:-2], room)
         forms = are_same(found, *(said(program, [*(words if run.script else words[:-2]), form], room) for form in ("--quiet", "--json")))
     return forms and (found[1] + found[0]).splitlines() == lines
+
+
+def finds(program, run, lines):
+    """Whether `--ways` adds the lines of a case of tools/ways.txt to what `check` prints, in each form, and none to what `--quiet` leaves."""
+    with tempfile.TemporaryDirectory() as room:
+        words = words_of(run, room)
+        few = said(program, [*words, "--quiet"], room)
+        before, found = said(program, words, room), said(program, [*words, "--ways"], room)
+        quiet, objects = (said(program, [*words, "--ways", form], room) for form in ("--quiet", "--json"))
+    added = [line for line in plain(found[0]) if line not in plain(before[0])]
+    told = [it for it in map(json.loads, objects[0].splitlines()) if it["weight"] == "remark"]
+    return (
+        (added, quiet, found[1:]) == (lines, few, before[1:])
+        and [f"{it['file']}:{it['line']}:{it['column']}: {it['part']}: {it['says']}" for it in told if f"{it['part']}: {it['says']}" in "\n".join(lines)] == lines
+    )
 
 
 def hints():
@@ -225,6 +240,8 @@ def tried(program):
     yield "warnings", are_warnings_shown(worded)
     for run, lines in worded:
         yield run.name, says(program, run, lines)
+    for run, lines in own_cases(ROOT / "tools/ways.txt"):
+        yield run.name, finds(program, run, lines)
     tried_hints = list(hints())
     yield "hints", {line.removeprefix("  hint: ") for _, _, words in tried_hints for line in words[-1:]} >= hints_of_program()
     for heading, text, words in tried_hints:

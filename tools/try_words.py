@@ -96,6 +96,7 @@ Options:
       --script <F>  A file with a script
       --quiet       Says nothing but refusals and faults
       --json        Prints an object of JSON for each line
+      --ways        Says how the rows of tables are found
   -h, --help        Print help
 """
 SHELL_OPTIONS = """\

@@ -18,7 +18,9 @@ use Rattle.sq_bound.specs.declared.names.BaseColumn.{BaseColumn}
 use Rattle.sq_bound.specs.declared.names.BaseTable.{BaseTable}
 use Rattle.sq_bound.specs.declared.statement.BoundUpdate.{BoundUpdate}
 use Rattle.sq_bound.specs.declared.statement.ChangeTarget.{ChangeTarget}
+use Rattle.sq_query.specs.FewRows.{few_rows}
 use Rattle.sq_query.specs.Row.{IsOnRow}
+use Rattle.sq_query.specs.declared.few_rows.FewRows.{FewRows}
 use Rattle.sq_change.specs.Made.{Seen, Shown, rows_updated}
 use Rattle.sq_change.specs.Reference.{KeepsKeys}
 use Rattle.sq_change.specs.Statement.{Chosen, base_of}
@@ -27,6 +29,9 @@ use Rattle.sq_change.specs.declared.complete.Changed.{Changed}
 -- the numbers of rows that a statement is going to change
 abbrev pub numbers_with : Vec (ℕ × Bor (List Value)) Global → List ℕ
 numbers_with rows = map (λ found. found.0) rows.items
+
+abbrev pub few_with : FewRows → List ℕ
+few_with rows = map (λ found. found.0) (few_rows rows)
 
 -- the rows that changes put in a table
 abbrev pub new_rows_in : Vec Change Global → List (List Value)

@@ -16,7 +16,7 @@ use crate::complete::{Changed, complete};
 use crate::given::new_rows;
 use crate::setting::Setting;
 use crate::target::{
-    all_keys, keys_assigned, leaf_under, numbers_changed, remove_rows, replace_rows, rows_changed,
+    all_keys, few_changed, keys_assigned, leaf_under, numbers_changed, remove_rows, replace_rows,
 };
 use sq_bound::{BoundInsert, BoundUpdate, ChangeTarget, Names};
 use sq_expression::{Failure, Fault};
@@ -179,7 +179,7 @@ pub fn find_updated<N: Names, S: Store>(
 {
     let table = leaf_under(&update.target).table.get();
     let assignments = update.assignments.as_slice();
-    let rows = rows_changed(setting, &update.target, on, meter)?;
+    let rows = few_changed(setting, &update.target, on, meter)?;
     let changes = replace_rows(setting, table, assignments, rows.as_slice());
     drop(rows);
     make_changed(changes, keys_assigned(setting.alloc, table, assignments))

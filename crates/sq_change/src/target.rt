@@ -1,16 +1,19 @@
 //! The rows that UPDATE and DELETE change (ISO/IEC 9075:1992, 13.6, 13.7, 13.9 and 13.10).
 
-ghost use Rattle.std.specs.Prelude.{◌≡◌, ◌<◌, ◌≤◌, ◌+◌, ◌∷◌, [], length, map, true, IfErr, IfOk, IfSome, IsSome, Some};
+ghost use Rattle.std.specs.Prelude.{◌≡◌, ◌<◌, ◌≤◌, ◌+◌, ◌∷◌, [], ℕ, List, length, map, true, IfErr, IfOk, IfSome, IsSome, Some};
 ghost use Rattle.std.specs.List.{AllByRecursion};
 ghost use Rattle.sq_store.specs.Content.{row_at, table_at};
+ghost use Rattle.sq_store.specs.declared.table.Table.{Table};
+ghost use Rattle.sq_meaning.specs.Status.{Outcome};
 ghost use Rattle.sq_bound.specs.Fits.{IsBase, IsColumnOf, IsRowIn, are_columns, under};
 ghost use Rattle.sq_bound.specs.declared.names.BaseTable.{BaseTable as AnyTable};
+ghost use Rattle.sq_query.specs.FewRows.{few_numbered};
 ghost use Rattle.sq_query.specs.Keyed.{IsKeyedChange};
 ghost use Rattle.sq_query.specs.MayRead.{MayEnd};
 ghost use Rattle.sq_query.specs.Table.{numbered_in, numbered_row};
 ghost use Rattle.sq_query.specs.Target.{AreNumbersOf, AreRowsThere, numbers_in};
 ghost use Rattle.sq_expression.specs.Fault.{Meets, MeetsAs};
-ghost use Rattle.sq_change.specs.Changed.{AreReplacements, FitTable, numbers_with, rows_replaced_in};
+ghost use Rattle.sq_change.specs.Changed.{AreReplacements, FitTable, few_with, numbers_with, rows_replaced_in};
 ghost use Rattle.sq_change.specs.Given.{AreAssignable, MayAssign};
 ghost use Rattle.sq_change.specs.Made.{Shown, numbers_changed, row_updated, rows_updated, seen_by};
 ghost use Rattle.sq_change.specs.Reference.{LosesAll, LosesAssigned, is_assigned};
@@ -21,7 +24,7 @@ use crate::storing::stored_value;
 use sq_bound::{BaseTable, BoundAssignment, ChangeTarget, Leaf, Names};
 use sq_expression::{Failure, Fault};
 use sq_items::Items;
-use sq_query::{numbers_of, rows_of};
+use sq_query::{FewRows, numbers_of, rows_of};
 use sq_store::{Change, Meter, Store};
 use sq_value::{Row, copy_row};
 use std::alloc::{AllocError, Global};
@@ -96,6 +99,55 @@ fn list_only(alloc: Global, number: u64) -> Result<Vec<u64>, Fault>
 
 /// The rows that a statement changes, with their numbers. They are the rows that the search condition keeps, at
 /// least one, or the row that a cursor is on.
+pub(crate) fn few_changed<'a, N: Names, S: Store>(
+    setting: &Setting<'a, N, S>,
+    target: &ChangeTarget,
+    on: Option<u64>,
+    meter: &mut Meter,
+) -> Result<FewRows<'a>, Fault>
+    requires can { CanChoose (N.base_tables setting.now.names.now) (N.view_queries setting.now.names.now)
+        (N.column_kinds setting.now.names.now) (S.content_now setting.now.store.now) setting.now.user
+        setting.now.parameters.now target.now on }
+    requires there { IfSome on
+        (λ n. IsSome (row_at
+        (table_at (S.content_now setting.now.store.now) (under target.now).table.place) n)) }
+    requires kept { KeepsTables (N.base_tables setting.now.names.now) (S.content_now setting.now.store.now)
+        (S.key_columns setting.now.store.now) }
+    ensures meant { let seen = seen_by (N.view_queries setting.now.names.now)
+        (S.content_now setting.now.store.now) setting.now.user
+        setting.now.parameters.now in (shown : Shown) → IsShown seen shown
+        → MeetsAs few_with result (numbers_changed shown seen target.now on) }
+    ensures there { IfOk result
+        (λ rows. AreRowsThere (table_at (S.content_now setting.now.store.now) (under target.now).table.place)
+        (few_numbered rows)) }
+    ensures right { IfErr result MayEnd }
+    ensures read { IsKeyedChange target.now setting.now.parameters.now setting.now.user
+        → meter.new ≤ meter.old + 1 }
+{
+    match target {
+        ChangeTarget::Searched(target) => {
+            let rows = rows_of(
+                setting.alloc,
+                setting.names,
+                target,
+                setting.store,
+                setting.inputs(),
+                meter,
+            )?;
+            if rows.as_slice().is_empty() {
+                return Err(Fault::Status(Failure::NoData));
+            }
+            Ok(rows)
+        }
+        ChangeTarget::Positioned(_) => match on {
+            Some(number) => Ok(only_row(setting, leaf_under(target).table.get(), number)),
+            None => unreachable!(),
+        },
+    }
+}
+
+/// The rows that a statement changes, with their numbers, in a list. They are the rows that the search condition keeps, at
+/// least one, or the row that a cursor is on.
 pub fn rows_changed<'a, N: Names, S: Store>(
     setting: &Setting<'a, N, S>,
     target: &ChangeTarget,
@@ -121,25 +173,22 @@ pub fn rows_changed<'a, N: Names, S: Store>(
     ensures read { IsKeyedChange target.now setting.now.parameters.now setting.now.user
         → meter.new ≤ meter.old + 1 }
 {
-    match target {
-        ChangeTarget::Searched(target) => {
-            let rows = rows_of(
-                setting.alloc,
-                setting.names,
-                target,
-                setting.store,
-                setting.inputs(),
-                meter,
-            )?;
-            if rows.is_empty() {
-                return Err(Fault::Status(Failure::NoData));
-            }
-            Ok(rows)
-        }
-        ChangeTarget::Positioned(_) => match on {
-            Some(number) => only_row(setting, leaf_under(target).table.get(), number),
-            None => unreachable!(),
-        },
+    list_rows(setting.alloc, few_changed(setting, target, on, meter))
+}
+
+/// Rows in a list, or their fault.
+fn list_rows<'a>(
+    alloc: Global,
+    rows: Result<FewRows<'a>, Fault>,
+) -> Result<Vec<(u64, &'a Row)>, Fault>
+    ensures meant { (o : Outcome (List ℕ)) → MeetsAs few_with rows.entry o → MeetsAs numbers_with result o }
+    ensures there { (table : Table) → IfOk rows.entry (λ found. AreRowsThere table (few_numbered found))
+        → IfOk result (λ found. AreRowsThere table (numbered_in found)) }
+    ensures right { IfErr rows.entry MayEnd → IfErr result MayEnd }
+{
+    match rows {
+        Ok(rows) => Ok(rows.into_vec(alloc)?),
+        Err(fault) => Err(fault),
     }
 }
 
@@ -148,20 +197,14 @@ fn only_row<'a, N: Names, S: Store>(
     setting: &Setting<'a, N, S>,
     table: &BaseTable,
     number: u64,
-) -> Result<Vec<(u64, &'a Row)>, Fault>
+) -> FewRows<'a>
     requires place { table.now.place < length (S.content_now setting.now.store.now) }
     requires there { IsSome (row_at (table_at (S.content_now setting.now.store.now) table.now.place) number) }
-    ensures only { IfOk result (λ rows. numbers_with rows ≡ number ∷ []) }
-    ensures there { IfOk result
-        (λ rows. AreRowsThere (table_at (S.content_now setting.now.store.now) table.now.place)
-        (numbered_in rows)) }
-    ensures memory { IfErr result (λ f. f ≡ Fault.NoMemory) }
-    ensures right { IfErr result MayEnd }
+    ensures only { few_with result ≡ number ∷ [] }
+    ensures there { AreRowsThere (table_at (S.content_now setting.now.store.now) table.now.place)
+        (few_numbered result) }
 {
-    let row = row_under(setting, table, number);
-    let mut rows = Vec::new(setting.alloc);
-    rows.push((number, row))?;
-    Ok(rows)
+    FewRows::One((number, row_under(setting, table, number)))
 }
 
 /// The row under a number.
@@ -205,7 +248,7 @@ pub(crate) fn replace_rows<N: Names, S: Store>(
     ensures fit { IfOk result (λ changes. FitTable table.now changes.items) }
     ensures right { IfErr result MayEnd }
 {
-    let mut changes = Vec::new(setting.alloc);
+    let mut changes = Vec::with_capacity(setting.alloc, rows.len())?;
     for found in rows {
         let row = updated_row(setting, assignments, found.1)?;
         changes.push(Change::Replace(found.0, row))?;

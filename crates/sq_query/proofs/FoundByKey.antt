@@ -1,5 +1,6 @@
 -- A query has the rows that it has over those rows of each table of FROM that were found by a key.
 pub mod AroundValues
+pub mod FewerRows
 pub mod FoundRead
 pub mod FoundRows
 pub mod Grown
@@ -7,6 +8,8 @@ pub mod InnerSearch
 pub mod ItemRows
 pub mod ItemSearch
 pub mod ItemValues
+pub mod KnownRows
+pub mod KnownSearch
 pub mod LeftOut
 pub mod LineValues
 pub mod RowTables
@@ -14,3 +17,4 @@ pub mod Rows
 pub mod Served
 pub mod ServedHaving
 pub mod ServedWhere
+pub mod WithOne

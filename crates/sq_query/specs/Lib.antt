@@ -1,8 +1,10 @@
 pub mod Around
+pub mod FewRows
 pub mod Inner
 pub mod Items
 pub mod Key
 pub mod Keyed
+pub mod Known
 pub mod MayRead
 pub mod Meant
 pub mod Named
@@ -16,5 +18,6 @@ pub mod Sought
 pub mod Table
 pub mod Target
 pub mod Union
+pub mod Valued
 pub mod ValueScan
 pub mod Ways

@@ -108,14 +108,18 @@ IsChosenAsMeant result bases queries columns content user values conditions row 
     → AllByRecursion (IsOnRow columns parameters row) conditions
     → Meets result (are_true (truth_on_row tables values user row) conditions)
 
--- the rows that a target means
-abbrev pub HasTargetRows : Result (Vec (ℕ × Bor Row) Global) Fault → List BaseTable → List BoundSpecification
-    → TableKinds → Content → Name → List Value → Target → Type 0
-HasTargetRows result bases queries columns content user values target =
+-- the rows that a target means, as a list or a single one shows them
+abbrev pub ShowsTargetRows : {A : Type 0} → (A → List Numbered) → Result A Fault → List BaseTable
+    → List BoundSpecification → TableKinds → Content → Name → List Value → Target → Type 0
+ShowsTargetRows view result bases queries columns content user values target =
     (parameters : List Kind) (tables : TablePlace → Outcome (List Row))
     → MayRead bases queries columns content user values parameters tables
     → IsTarget columns parameters target
-    → MeetsAs numbered_in result (rows_of_target tables content values user target)
+    → MeetsAs view result (rows_of_target tables content values user target)
+
+abbrev pub HasTargetRows : Result (Vec (ℕ × Bor Row) Global) Fault → List BaseTable → List BoundSpecification
+    → TableKinds → Content → Name → List Value → Target → Type 0
+HasTargetRows = ShowsTargetRows numbered_in
 
 -- ---- conditions
 

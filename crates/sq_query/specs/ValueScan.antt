@@ -1,4 +1,4 @@
--- Scans of a table for a value with which the first test of a condition compares a column: rows that have another value there are passed
+-- Scans of a plain view for a value with which the first test of a condition compares a column: rows that have another value there are passed
 -- over (ISO/IEC 9075:1992, 7.4 and 7.6; own rule).
 use Rattle.std.specs.Prelude.{◌≡◌, ◌||◌, ℕ, Bool, List, [], ◌∷◌, filter}
 use Rattle.std.specs.Cmp.Lexicographic.{pointwise}
@@ -15,10 +15,11 @@ use Rattle.sq_bound.specs.Condition.{select_of}
 use Rattle.sq_bound.specs.WellFormed.{TableKinds}
 use Rattle.sq_bound.specs.declared.condition.BoundCond.{BoundCond}
 use Rattle.sq_bound.specs.declared.condition.BoundSpecification.{BoundSpecification}
+use Rattle.sq_bound.specs.declared.condition.TablePlace.TheVariants.{View}
 use Rattle.sq_query.specs.Key.{IsNamedBy}
 use Rattle.sq_query.specs.Needed.{IsNeeded, NeedsNone, ReadsInside}
 use Rattle.sq_query.specs.Search.{IsOver, IsWhere}
-use Rattle.sq_query.specs.Shown.{AreShown, IsPath, first_of}
+use Rattle.sq_query.specs.Shown.{AreShown, IsPath}
 use Rattle.sq_query.specs.declared.needed.Needed.{Needed}
 use Rattle.sq_query.specs.declared.value_scan.ValueScan.{ValueScan}
 
@@ -31,22 +32,21 @@ may_have columns values row =
 abbrev pub rows_that_may : Content → ℕ → List ℕ → List Value → List Row
 rows_that_may content base columns values = filter (may_have columns values) (rows_in (table_at content base))
 
--- The first test of a condition compares a column of a table with the value of the scan, and the column is, through plain views if there
--- are any, that of the base table.
+-- The first test of a condition compares a column of a plain view with the value of the scan, and the column shows, through other plain views
+-- if there are any, that of the base table.
 pub record IsScanOf (own : BoundCond) (columns : TableKinds) (queries : List BoundSpecification)
     (parameters : List Value) (user : Name) (scan : ValueScan) : Type 0 where
   pub views : List ℕ
-  pub table : scan.table ≡ first_of views scan.base
-  pub path : IsPath columns queries views scan.base
+  pub path : IsPath columns queries (scan.view ∷ views) scan.base
   pub column : ℕ
-  pub shown : AreShown queries views (scan.column ∷ []) (column ∷ [])
+  pub shown : AreShown queries (scan.view ∷ views) (scan.column ∷ []) (column ∷ [])
   pub named : IsNamedBy (column ∷ []) own parameters user (scan.value ∷ [])
 
--- the scan is one by the WHERE clause of a query specification over its table alone, which has no subquery
+-- the scan is one by the WHERE clause of a query specification over its view alone, which has no subquery
 pub record IsValueScan (q : BoundSpecification) (columns : TableKinds) (queries : List BoundSpecification)
     (parameters : List Value) (user : Name) (scan : ValueScan) : Type 0 where
   pub own : BoundCond
-  pub over : IsOver q scan.table
+  pub over : IsOver q (View scan.view)
   pub is_where : IsWhere q own
   pub scans : IsScanOf own columns queries parameters user scan
   pub inner : Needed

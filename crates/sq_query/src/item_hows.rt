@@ -3,11 +3,12 @@
 ghost use Rattle.std.specs.Prelude.{◌<◌, length};
 
 use crate::items::is_once;
+use crate::lookup::{Lookup, add_compared};
 use crate::named::Sure;
-use crate::named_exprs::{Seen, key_of_several, named_key};
+use crate::named_exprs::{Seen, is_named_by_some, key_of_several, named_key};
 use crate::needed::Needed;
-use crate::way::{How, KeyPlace};
-use sq_bound::{BoundCond, BoundSpecification, Names, TablePlace};
+use crate::way::{ColumnPlace, How, KeyPlace};
+use sq_bound::{BaseTable, BoundCond, BoundSpecification, Names, Reference, TablePlace};
 use sq_items::Items;
 use std::alloc::{AllocError, Global};
 
@@ -25,17 +26,25 @@ pub(crate) fn hows_of_items<N: Names>(
         return Ok(hows);
     };
     let tables = query.from.tables.as_slice();
+    let lookups = [Lookup::Key, Lookup::Keys, Lookup::Index, Lookup::Walk];
     for _ in 0..tables.len() {
         hows = hows_of_each(
-            alloc, names, tables, condition, elsewhere, &hows, is_within, false,
+            alloc,
+            names,
+            tables,
+            condition,
+            elsewhere,
+            &hows,
+            is_within,
+            &lookups[..1],
         )?;
     }
     hows_of_each(
-        alloc, names, tables, condition, elsewhere, &hows, is_within, true,
+        alloc, names, tables, condition, elsewhere, &hows, is_within, &lookups,
     )
 }
 
-/// How the rows of each item are found with the help of what was found before, by several values too if that is said.
+/// How the rows of each item are found by these lookups with the help of what was found before.
 fn hows_of_each<N: Names>(
     alloc: Global,
     names: &N,
@@ -44,7 +53,7 @@ fn hows_of_each<N: Names>(
     elsewhere: &Needed,
     before: &Vec<How>,
     is_within: bool,
-    by_several: bool,
+    lookups: &[Lookup],
 ) -> Result<Vec<How>, AllocError> {
     let mut hows = Vec::new(alloc);
     for item in 0..tables.len() {
@@ -53,9 +62,7 @@ fn hows_of_each<N: Names>(
             hows: before.as_slice(),
             is_within,
         };
-        hows.push(how_of_item(
-            alloc, names, tables, condition, elsewhere, &seen, by_several,
-        )?)?;
+        hows.push(how_of_item(alloc, names, tables, condition, elsewhere, &seen, lookups)?)?;
     }
     Ok(hows)
 }
@@ -68,7 +75,7 @@ fn how_of_item<N: Names>(
     condition: &BoundCond,
     elsewhere: &Needed,
     seen: &Seen<'_>,
-    by_several: bool,
+    lookups: &[Lookup],
 ) -> Result<How, AllocError>
     requires item { seen.now.item < length tables.now }
 {
@@ -78,36 +85,63 @@ fn how_of_item<N: Names>(
     if elsewhere.contains(TablePlace::Base(base)) || !is_once(base, seen.item, tables) {
         return Ok(How::Whole);
     }
-    how_of_base(
-        alloc,
-        keys_of(names, base),
-        base,
-        condition,
-        seen,
-        Sure::Noted,
-        by_several,
-    )
+    match names.bases().get(base) {
+        Some(table) => how_of_base(
+            alloc,
+            table.get(),
+            base,
+            condition,
+            seen,
+            Sure::Noted,
+            lookups,
+        ),
+        None => Ok(How::Whole),
+    }
 }
 
-/// How the rows of a base table with these keys are found that a condition names.
+/// How the rows of a base table at a place are found that a condition names: by the first of these lookups that there is.
 pub(crate) fn how_of_base(
     alloc: Global,
-    keys: &[Items<usize>],
+    table: &BaseTable,
     base: usize,
     condition: &BoundCond,
     seen: &Seen<'_>,
     sure: Sure,
-    by_several: bool,
+    lookups: &[Lookup],
 ) -> Result<How, AllocError> {
-    if let Some(key) = named_key(alloc, keys, condition, seen, sure)? {
-        return Ok(How::Key(KeyPlace { base, key }));
+    for lookup in lookups {
+        if let Some(how) = how_by_lookup(alloc, table, base, condition, seen, sure, *lookup)? {
+            return Ok(how);
+        }
     }
-    if !by_several {
-        return Ok(How::Whole);
-    }
-    match key_of_several(alloc, keys, condition, seen, sure)? {
-        Some(key) => Ok(How::Several(KeyPlace { base, key })),
-        None => Ok(How::Whole),
+    Ok(How::Whole)
+}
+
+/// How the rows of a base table are found that a condition names, if there is this lookup to them.
+fn how_by_lookup(
+    alloc: Global,
+    table: &BaseTable,
+    base: usize,
+    condition: &BoundCond,
+    seen: &Seen<'_>,
+    sure: Sure,
+    lookup: Lookup,
+) -> Result<Option<How>, AllocError> {
+    let keys = table.keys.as_slice();
+    match lookup {
+        Lookup::Key => {
+            let found = named_key(alloc, keys, condition, seen, sure)?;
+            Ok(found.map(|key| How::Key(KeyPlace { base, key })))
+        }
+        Lookup::Keys => {
+            let found = key_of_several(alloc, keys, condition, seen, sure)?;
+            Ok(found.map(|key| How::Several(KeyPlace { base, key })))
+        }
+        Lookup::Index => {
+            let found = column_of_index(alloc, table, condition, seen, sure)?;
+            Ok(found.map(|column| How::Value(ColumnPlace { base, column })))
+        }
+        Lookup::Walk => Ok(Some(How::Whole)),
     }
 }
 
@@ -116,5 +150,41 @@ pub(crate) fn keys_of<N: Names>(names: &N, base: usize) -> &[Items<usize>] {
     match names.bases().get(base) {
         Some(table) => table.get().keys.as_slice(),
         None => &[],
+    }
+}
+
+// ---- columns of which the store has an index
+
+/// The first column that refers to a table and by which a condition names the rows of an item.
+fn column_of_index(
+    alloc: Global,
+    table: &BaseTable,
+    condition: &BoundCond,
+    seen: &Seen<'_>,
+    sure: Sure,
+) -> Result<Option<usize>, AllocError> {
+    let mut columns = Vec::new(alloc);
+    add_compared(condition, seen.item, &mut columns)?;
+    for column in columns.as_slice() {
+        if refers(table, *column) && is_named_by_some(alloc, condition, *column, seen, sure)? {
+            return Ok(Some(*column));
+        }
+    }
+    Ok(None)
+}
+
+/// Whether a reference of a base table has this column alone.
+pub(crate) fn refers(table: &BaseTable, column: usize) -> bool {
+    table
+        .references
+        .as_slice()
+        .iter()
+        .any(|reference| is_of_column(reference, column))
+}
+
+fn is_of_column(reference: &Reference, column: usize) -> bool {
+    match reference.by_key.as_slice() {
+        [only] => *only == column,
+        _ => false,
     }
 }

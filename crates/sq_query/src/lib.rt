@@ -8,11 +8,14 @@
 
 mod around;
 mod elsewhere;
+mod few_rows;
 mod inner;
 mod inputs;
 mod item_hows;
 mod items;
 mod key;
+mod known;
+mod lookup;
 mod meant;
 mod named;
 mod named_exprs;
@@ -32,11 +35,13 @@ mod target;
 mod through;
 mod union;
 mod value_scan;
+mod valued;
 mod view;
 mod view_key;
 mod way;
 mod ways;
 
+pub use few_rows::FewRows;
 pub use inputs::Inputs;
 pub use key::KnownKey;
 pub use meant::{key_of, numbers_of, rows_of};

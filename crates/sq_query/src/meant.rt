@@ -11,14 +11,16 @@ ghost use Rattle.sq_bound.specs.Fits.{IsBase, keys_of_bases, not_nulls_hold};
 ghost use Rattle.sq_bound.specs.WellFormed.{IsTarget, TableKinds};
 ghost use Rattle.sq_bound.specs.declared.condition.TablePlace.{TablePlace};
 ghost use Rattle.sq_expression.specs.Fault.{MeetsAs};
+ghost use Rattle.sq_query.specs.FewRows.{few_numbered};
 ghost use Rattle.sq_query.specs.Inner.{HasKeys};
 ghost use Rattle.sq_query.specs.Keyed.{IsKeyedTarget, IsKeyedUnder, ReadsNoTable};
 ghost use Rattle.sq_query.specs.MayRead.{MayEnd, MayRead};
 ghost use Rattle.sq_query.specs.Meant.{IsKeyUnder};
 ghost use Rattle.sq_query.specs.Needed.{FindsConds};
-ghost use Rattle.sq_query.specs.Table.{numbered_in, numbered_row, stored_numbered};
-ghost use Rattle.sq_query.specs.Target.{AreNumbersOf, AreRowsThere, HasTargetRows, IsChosenAsMeant, conditions_of, is_true_of, numbers_chosen, numbers_in};
+ghost use Rattle.sq_query.specs.Table.{numbered_row, stored_numbered};
+ghost use Rattle.sq_query.specs.Target.{AreNumbersOf, AreRowsThere, IsChosenAsMeant, ShowsTargetRows, conditions_of, is_true_of, numbers_chosen, numbers_in};
 
+use crate::few_rows::FewRows;
 use crate::inputs::Inputs;
 use crate::key::{KnownKey, known_key};
 use crate::named_keys::key_of_condition;
@@ -42,13 +44,13 @@ pub fn rows_of<'a, N: Names, S: Store>(
     store: &'a S,
     inputs: Inputs<'_>,
     meter: &mut Meter,
-) -> Result<Vec<(u64, &'a Row)>, Fault>
+) -> Result<FewRows<'a>, Fault>
     requires finds { FindsConds (N.base_tables names.now) (N.column_kinds names.now)
         (conditions_of target.now) }
     requires base { IsBase (N.base_tables names.now) target.now.leaf.table }
     requires keys { S.key_columns store.now ≡ keys_of_bases (N.base_tables names.now) }
     requires not_null { not_nulls_hold (N.base_tables names.now) (S.content_now store.now) ≡ true }
-    ensures meant { HasTargetRows result (N.base_tables names.now) (N.view_queries names.now)
+    ensures meant { ShowsTargetRows few_numbered result (N.base_tables names.now) (N.view_queries names.now)
         (N.column_kinds names.now) (S.content_now store.now) inputs.entry.user inputs.entry.parameters.now
         target.now }
     ensures there { (parameters : List Kind) (tables : TablePlace → Outcome (List (List AnyValue)))
@@ -57,7 +59,7 @@ pub fn rows_of<'a, N: Names, S: Store>(
         inputs.entry.user inputs.entry.parameters.now parameters tables
         → IsTarget (N.column_kinds names.now) parameters target.now
         → IfOk result (λ rows. AreRowsThere (table_at (S.content_now store.now) target.now.base)
-        (numbered_in rows)) }
+        (few_numbered rows)) }
     ensures right { (parameters : List Kind) (tables : TablePlace → Outcome (List (List AnyValue)))
         → MayRead (N.base_tables names.now) (N.view_queries names.now) (N.column_kinds names.now)
         (S.content_now store.now)
@@ -80,7 +82,7 @@ pub fn rows_of<'a, N: Names, S: Store>(
             drop(known);
             rows
         }
-        None => rows_by_values(names, &*target, store, &call, meter),
+        None => FewRows::listed(rows_by_values(names, &*target, store, &call, meter)),
     }
 }
 
@@ -217,7 +219,7 @@ fn rows_by_key<'a, N: Names, S: Store>(
     call: &Context<'_>,
     known: &KnownKey,
     meter: &mut Meter,
-) -> Result<Vec<(u64, &'a Row)>, Fault>
+) -> Result<FewRows<'a>, Fault>
     requires key { IsKeyUnder target.now (S.content_now store.now)
         (S.key_columns store.now) call.now.parameters.now call.now.user
         known.now }
@@ -226,7 +228,7 @@ fn rows_by_key<'a, N: Names, S: Store>(
     requires not_null { not_nulls_hold (N.base_tables names.now) (S.content_now store.now) ≡ true }
     requires finds { FindsConds (N.base_tables names.now) (N.column_kinds names.now)
         (conditions_of target.now) }
-    ensures meant { HasTargetRows result (N.base_tables names.now) (N.view_queries names.now)
+    ensures meant { ShowsTargetRows few_numbered result (N.base_tables names.now) (N.view_queries names.now)
         (N.column_kinds names.now) (S.content_now store.now) call.now.user call.now.parameters.now
         target.now }
     ensures read { ReadsNoTable target.now → meter.new ≤ meter.old + 1 }
@@ -234,9 +236,9 @@ fn rows_by_key<'a, N: Names, S: Store>(
     match store.find_key(target.base, known.key, &known.values, meter) {
         Some(found) => {
             let is_chosen = is_meant(&*names, &*target, &*found.1, &*store, &*call, meter)?;
-            row_if(call.alloc, is_chosen, found)
+            Ok(FewRows::one_if(call.alloc, is_chosen, found))
         }
-        None => Ok(Vec::new(call.alloc)),
+        None => Ok(FewRows::none(call.alloc)),
     }
 }
 
@@ -265,23 +267,6 @@ fn is_meant<'a, N: Names, S: Store>(
         }
         None => meets_target(names, target, row, true, store, call, meter),
     }
-}
-
-/// The one row that may be chosen.
-fn row_if<'a>(
-    alloc: Global,
-    is_chosen: bool,
-    found: (u64, &'a Row),
-) -> Result<Vec<(u64, &'a Row)>, Fault>
-    ensures rows { IfOk result
-        (λ rows. numbered_in rows ≡ (if is_chosen then numbered_row found.entry ∷ [] else [])) }
-    ensures memory { IfErr result (λ fault. fault ≡ Fault.NoMemory) }
-{
-    let mut rows = Vec::new(alloc);
-    if is_chosen {
-        rows.push(found)?;
-    }
-    Ok(rows)
 }
 
 /// The numbers of rows.

@@ -94,9 +94,20 @@ fn is_named_by_several(
     sure: Sure,
 ) -> Result<bool, AllocError> {
     match columns {
-        [column] => Ok(exprs_by_condition(alloc, condition, *column, seen, sure)?.is_some()),
+        [column] => is_named_by_some(alloc, condition, *column, seen, sure),
         _ => Ok(false),
     }
+}
+
+/// Whether a condition names the rows of an item by expressions for a column.
+pub(crate) fn is_named_by_some(
+    alloc: Global,
+    condition: &BoundCond,
+    column: usize,
+    seen: &Seen<'_>,
+    sure: Sure,
+) -> Result<bool, AllocError> {
+    Ok(exprs_by_condition(alloc, condition, column, seen, sure)?.is_some())
 }
 
 // ---- expressions

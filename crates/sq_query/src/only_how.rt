@@ -5,20 +5,21 @@ ghost use Rattle.sq_bound.specs.WellFormed.{BasesAreThere};
 ghost use Rattle.sq_bound.specs.declared.condition.TablePlace.TheVariants as at_place;
 ghost use Rattle.sq_query.specs.Needed.{FindsSelect};
 
-use crate::item_hows::keys_of;
+use crate::item_hows::{keys_of, refers};
 use crate::needed::Needed;
-use crate::plain_view::{base_under, column_of_base};
-use crate::search::{only_table, tables_beside};
+use crate::plain_view::{base_under, column_under, view_under};
+use crate::search::{over_base, tables_beside};
 use crate::value_scan::first_column;
 use crate::view_key::columns_through;
 use crate::way::{ColumnPlace, How, KeyPlace};
-use sq_bound::{BoundCond, BoundSpecification, Names, Reference, TablePlace, shortest_key};
+use sq_bound::{BoundCond, BoundSpecification, Names, TablePlace, shortest_key};
 use sq_items::Items;
 use std::alloc::{AllocError, Global};
 use std::slice::from_ref;
 
-/// How the rows of a query specification's only table are found: by a key that its WHERE clause begins with, or in a scan for the value with
-/// which it first compares a column. `None` if there is no such table, or its subqueries may be what matters.
+/// How the rows of a query specification's only table are found: of a base table by a key that its WHERE clause begins with, of a view by a
+/// key of the base table under it, or in a scan for the value with which it first compares a column. `None` if they are looked for as those
+/// of any item.
 pub(crate) fn how_of_only<N: Names>(
     alloc: Global,
     names: &N,
@@ -26,57 +27,54 @@ pub(crate) fn how_of_only<N: Names>(
 ) -> Result<Option<How>, AllocError>
     requires { FindsSelect (N.base_tables names.now) (N.column_kinds names.now) query.now }
 {
-    let Some(table) = only_table(query) else {
-        return Ok(None);
-    };
-    let Some(condition) = &query.condition else {
-        return Ok(None);
-    };
-    let found = key_of_only(alloc, names, query, table, condition)?;
-    if found.is_some() {
-        return Ok(found);
+    match view_under(query) {
+        Some(view) => how_of_view(alloc, names, query, view),
+        None => key_of_base(alloc, names, query),
     }
+}
+
+/// The key of the only table, a base table, that a WHERE clause without subqueries begins with.
+fn key_of_base<N: Names>(
+    alloc: Global,
+    names: &N,
+    query: &BoundSpecification,
+) -> Result<Option<How>, AllocError> {
+    let Some((base, condition)) = over_base(query) else {
+        return Ok(None);
+    };
     let inner = Needed::of_subqueries(alloc, query)?;
     if !inner.is_empty() {
         return Ok(None);
     }
-    how_of_scan(alloc, names, table, condition)
+    match shortest_key(keys_of(names, base), condition) {
+        Some(key) => Ok(Some(How::Key(KeyPlace { base, key }))),
+        None => Ok(None),
+    }
 }
 
-/// The key of the base table, or of the one under a plain view, that a condition begins with.
-fn key_of_only<N: Names>(
+/// How the rows of a view are found by those of the base table under it. A scan is made beside no subquery.
+fn how_of_view<N: Names>(
     alloc: Global,
     names: &N,
     query: &BoundSpecification,
-    table: TablePlace,
-    condition: &BoundCond,
+    view: usize,
 ) -> Result<Option<How>, AllocError>
     requires there { BasesAreThere (N.base_tables names.now) (N.column_kinds names.now) }
-    requires known { HasValue (N.column_kinds names.now table) }
+    requires known { HasValue (N.column_kinds names.now (at_place.View view)) }
 {
-    let Some(others) = tables_beside(alloc, query, table)? else {
+    let Some(condition) = &query.condition else {
+        return Ok(None);
+    };
+    let Some(others) = tables_beside(alloc, query, TablePlace::View(view))? else {
         return Ok(None);
     };
     let is_alone = others.is_empty();
     drop(others);
-    match table {
-        TablePlace::Base(base) => Ok(key_of_base(names, base, condition, is_alone)),
-        TablePlace::View(view) => key_of_view(alloc, names, view, condition),
+    let found = key_of_view(alloc, names, view, condition)?;
+    if found.is_some() || !is_alone {
+        return Ok(found);
     }
-}
-
-/// The key of a base table that a condition without subqueries begins with.
-fn key_of_base<N: Names>(
-    names: &N,
-    base: usize,
-    condition: &BoundCond,
-    is_alone: bool,
-) -> Option<How> {
-    if !is_alone {
-        return None;
-    }
-    let key = shortest_key(keys_of(names, base), condition)?;
-    Some(How::Key(KeyPlace { base, key }))
+    how_of_scan(alloc, names, view, condition)
 }
 
 /// The first key of the base table under a plain view with whose columns, as the view shows them, a condition begins.
@@ -123,15 +121,15 @@ fn is_shown_key<N: Names>(
 
 // ---- scans for a value
 
-/// How the rows are found that have the value with which a condition first compares a column by `=`, if it does.
+/// How the rows of the base table under a view are found that have the value with which a condition first compares a column by `=`, if it does.
 fn how_of_scan<N: Names>(
     alloc: Global,
     names: &N,
-    table: TablePlace,
+    view: usize,
     condition: &BoundCond,
 ) -> Result<Option<How>, AllocError>
     requires there { BasesAreThere (N.base_tables names.now) (N.column_kinds names.now) }
-    requires known { HasValue (N.column_kinds names.now table) }
+    requires known { HasValue (N.column_kinds names.now (at_place.View view)) }
 {
     let Some(shown) = first_column(condition) else {
         return Ok(None);
@@ -139,7 +137,7 @@ fn how_of_scan<N: Names>(
     if !begins_with(alloc, shown, condition)? {
         return Ok(None);
     }
-    match column_of_base(names, table, shown) {
+    match column_under(names, view, shown) {
         Some((base, column)) => Ok(Some(how_by_value(names, base, column))),
         None => Ok(None),
     }
@@ -156,29 +154,8 @@ fn begins_with(alloc: Global, column: usize, condition: &BoundCond) -> Result<bo
 
 /// How the rows with a value in a column are found: quickly if the column alone refers to a table.
 fn how_by_value<N: Names>(names: &N, base: usize, column: usize) -> How {
-    if refers(names, base, column) {
-        How::Value(ColumnPlace { base, column })
-    } else {
-        How::Whole
-    }
-}
-
-/// Whether a reference of the base table at a place has this column alone.
-fn refers<N: Names>(names: &N, base: usize, column: usize) -> bool {
     match names.bases().get(base) {
-        Some(table) => table
-            .get()
-            .references
-            .as_slice()
-            .iter()
-            .any(|reference| is_of_column(reference, column)),
-        None => false,
-    }
-}
-
-fn is_of_column(reference: &Reference, column: usize) -> bool {
-    match reference.by_key.as_slice() {
-        [only] => *only == column,
-        _ => false,
+        Some(table) if refers(table.get(), column) => How::Value(ColumnPlace { base, column }),
+        _ => How::Whole,
     }
 }

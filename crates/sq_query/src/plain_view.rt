@@ -11,7 +11,7 @@ ghost use Rattle.sq_bound.specs.WellFormed.{BasesAreThere};
 ghost use Rattle.sq_bound.specs.declared.condition.BoundSpecification.{out-BoundSpecification};
 ghost use Rattle.sq_bound.specs.declared.condition.TablePlace.TheVariants as at_place;
 ghost use Rattle.sq_query.specs.Search.{IsOver};
-ghost use Rattle.sq_query.specs.Shown.{AreShown, Asks, IsPath, IsPlainOver, Shows, first_of, is_grouped_by, is_quiet_beside, is_sure_call, is_sure_grouping, is_unwritten, stays_in_range};
+ghost use Rattle.sq_query.specs.Shown.{AreShown, Asks, IsPath, IsPlainOver, Shows, is_grouped_by, is_quiet_beside, is_sure_call, is_sure_grouping, is_unwritten, stays_in_range};
 
 use crate::needed::view_at;
 use crate::search::only_table;
@@ -35,26 +35,12 @@ pub(crate) fn base_under<N: Names>(names: &N, view: usize) -> Option<usize>
     }
 }
 
-/// The base table under a table, itself or a plain view, and the column of it by which it is asked where the table is asked by a column.
-pub(crate) fn column_of_base<N: Names>(
+/// The base table under a plain view, and the column of it by which it is asked where the view is asked by a column.
+pub(crate) fn column_under<N: Names>(
     names: &N,
-    table: TablePlace,
+    view: usize,
     column: usize,
 ) -> Option<(usize, usize)>
-    requires there { BasesAreThere (N.base_tables names.now) (N.column_kinds names.now) }
-    requires known { HasValue (N.column_kinds names.now table) }
-    ensures { IfSome result (λ found. (views : List ℕ) × (table ≡ first_of views found.0)
-        × IsPath (N.column_kinds names.now) (N.view_queries names.now) views found.0
-        × AreShown (N.view_queries names.now) views (found.1 ∷ []) (column ∷ [])) }
-{
-    match table {
-        TablePlace::Base(base) => Some((base, column)),
-        TablePlace::View(view) => column_under(names, view, column),
-    }
-}
-
-/// The base table under a plain view, and the column of it that a column of the view shows.
-fn column_under<N: Names>(names: &N, view: usize, column: usize) -> Option<(usize, usize)>
     requires there { BasesAreThere (N.base_tables names.now) (N.column_kinds names.now) }
     requires known { HasValue (N.column_kinds names.now (at_place.View view)) }
     ensures { IfSome result (λ found. (views : List ℕ)

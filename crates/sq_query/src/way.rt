@@ -17,7 +17,7 @@ pub enum How {
     Key(KeyPlace),
     /// By several values of the only column of a key.
     Several(KeyPlace),
-    /// By a value of a column that refers to a table: the rows with that value or null.
+    /// By values of a column that refers to a table: the rows with one of them or null.
     Value(ColumnPlace),
     /// All rows are looked at.
     Whole,

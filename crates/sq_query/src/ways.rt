@@ -7,17 +7,17 @@ ghost use Rattle.sq_bound.specs.Joined.{specifications_of, term_specifications};
 ghost use Rattle.sq_query.specs.Needed.{FindsSelect};
 
 use crate::elsewhere::{beside_term, beside_test, with_around, with_lines_of, with_subqueries};
-use crate::item_hows::{how_of_base, hows_of_items, keys_of};
+use crate::item_hows::{how_of_base, hows_of_items};
+use crate::lookup::Lookup;
 use crate::named::Sure;
 use crate::named_exprs::{Seen, is_one_row};
 use crate::needed::Needed;
 use crate::only_how::how_of_only;
 use crate::way::{How, KeyPlace, Way};
 use sq_bound::{
-    BoundCond, BoundConj, BoundQuery, BoundSpecification, BoundTerm, Names, Predicate, TablePlace,
-    Target, shortest_key,
+    BaseTable, BoundCond, BoundConj, BoundQuery, BoundSpecification, BoundTerm, Names, Predicate,
+    TablePlace, Target, shortest_key,
 };
-use sq_items::Items;
 use std::alloc::{AllocError, Global};
 
 /// What stands around a query specification or a condition.
@@ -82,7 +82,7 @@ pub fn way_of_walk(alloc: Global, target: &Target) -> Result<Way, AllocError>
 {
     Ok(Way {
         table: target.table,
-        how: how_under(alloc, target, false)?,
+        how: how_under(alloc, target, &[Lookup::Key])?,
     })
 }
 
@@ -90,12 +90,11 @@ pub fn way_of_walk(alloc: Global, target: &Target) -> Result<Way, AllocError>
 
 /// How the rows of a target are found.
 fn how_of_target(alloc: Global, target: &Target) -> Result<How, AllocError> {
-    how_under(alloc, target, true)
+    how_under(alloc, target, &[Lookup::Key, Lookup::Keys])
 }
 
-/// How the rows of a target are found, by several values too if that is said: by the key that is noted for it or, if none is, by one that its
-/// condition names.
-fn how_under(alloc: Global, target: &Target, by_several: bool) -> Result<How, AllocError> {
+/// How the rows of a target are found: by the key that is noted for it or, if none is, by these lookups.
+fn how_under(alloc: Global, target: &Target, lookups: &[Lookup]) -> Result<How, AllocError> {
     let base = target.base;
     if let Some(key) = target.key {
         return Ok(How::Key(KeyPlace { base, key }));
@@ -104,8 +103,7 @@ fn how_under(alloc: Global, target: &Target, by_several: bool) -> Result<How, Al
         return Ok(How::Whole);
     };
     if target.leaf.get().is_quiet {
-        let keys = target.leaf.get().table.get().keys.as_slice();
-        how_of_row(alloc, keys, base, own, by_several)
+        how_of_row(alloc, target.leaf.get().table.get(), base, own, lookups)
     } else {
         Ok(How::Whole)
     }
@@ -114,12 +112,12 @@ fn how_under(alloc: Global, target: &Target, by_several: bool) -> Result<How, Al
 /// How the rows of a base table are found that a condition on them names.
 fn how_of_row(
     alloc: Global,
-    keys: &[Items<usize>],
+    table: &BaseTable,
     base: usize,
     condition: &BoundCond,
-    by_several: bool,
+    lookups: &[Lookup],
 ) -> Result<How, AllocError> {
-    match shortest_key(keys, condition) {
+    match shortest_key(table.keys.as_slice(), condition) {
         Some(key) => Ok(How::Key(KeyPlace { base, key })),
         None => {
             let seen = Seen {
@@ -127,15 +125,7 @@ fn how_of_row(
                 hows: &[],
                 is_within: true,
             };
-            how_of_base(
-                alloc,
-                keys,
-                base,
-                condition,
-                &seen,
-                Sure::Unnoted,
-                by_several,
-            )
+            how_of_base(alloc, table, base, condition, &seen, Sure::Unnoted, lookups)
         }
     }
 }

@@ -16,7 +16,7 @@ ghost use Rattle.sq_session.specs.Step.{MayCall, ending};
 
 use crate::called::Called;
 use crate::machine::Machine;
-use crate::parameter::started_values;
+use crate::parameter::start_values;
 use crate::reply::{Done, Reply};
 use sq_bound::BoundStatement;
 use sq_catalog::Catalog;
@@ -25,6 +25,7 @@ use sq_module::{BoundProcedure, Program};
 use sq_store::{Meter, Store};
 use sq_value::Value;
 use std::alloc::{AllocError, Global};
+use std::mem;
 
 /// Performs the statement of a procedure. One with a fault changes nothing.
 pub(crate) fn call<S: Store>(
@@ -128,16 +129,17 @@ fn with_values<S: Store>(
         (started_values procedure.now.parameters values.now) machine.old result machine.new meter.new }
     ensures err { OnErr result (machine.new ≡ machine.old) }
 {
-    let values = started_values(alloc, procedure.parameters.as_slice(), values)?;
+    let mut started = mem::replace(&mut machine.started, Vec::new(alloc));
+    start_values(alloc, procedure.parameters.as_slice(), values, &mut started)?;
     let called = Called {
         alloc,
         catalog,
         cursors: program.cursors.as_slice(),
         procedure,
-        values: values.as_slice(),
+        values: started.as_slice(),
     };
     let ended = performed_with(&called, statement, machine, meter);
-    drop(values);
+    machine.started = started;
     ended
 }
 

@@ -22,6 +22,7 @@ use sq_bound::{BoundFetch, BoundSelect};
 use sq_expression::{Failure, Fault};
 use sq_query::specification_rows;
 use sq_store::{Meter, Store};
+use sq_value::Value;
 use std::alloc::{AllocError, Global};
 use std::marker::Model;
 
@@ -30,6 +31,8 @@ use std::marker::Model;
 pub(crate) struct Machine<S: Store> {
     pub(crate) store: S,
     pub(crate) cursors: Vec<CursorState>,
+    /// The list of the last call's parameters. It is kept, so that the next call asks for no memory to store its own.
+    pub(crate) started: Vec<Value>,
 }
 
 impl<S: Store> Model for Machine<S> {
@@ -59,7 +62,11 @@ impl<S: Store> Machine<S> {
             }) }
     {
         match closed_cursors(alloc, cursors) {
-            Ok(cursors) => Ok(Machine { store, cursors }),
+            Ok(cursors) => Ok(Machine {
+                store,
+                cursors,
+                started: Vec::new(alloc),
+            }),
             Err(error) => {
                 drop(store);
                 Err(error)

@@ -1,6 +1,6 @@
 //! The parameters of a call: which values they take, and at which they start (ISO/IEC 9075:1992, 12.3).
 
-ghost use Rattle.std.specs.Prelude.{◌≡◌, ◌==◌, false, true, map, IfOk};
+ghost use Rattle.std.specs.Prelude.{◌≡◌, ◌==◌, false, true, map, IfOk, OnOk};
 ghost use Rattle.std.specs.List.{list_all};
 ghost use Rattle.sq_value.specs.Memory.{takes_memory};
 ghost use Rattle.sq_value.specs.Text.{only_blanks_past};
@@ -78,11 +78,28 @@ pub fn started_values(
     ensures started { IfOk result (λ started. started ≡ started_values parameters.now values.now) }
     ensures given { IfOk result (AreGiven (kinds_of_parameters parameters.now)) }
 {
-    let mut started = Items::from_vec(Vec::with_capacity(alloc, parameters.len())?);
+    let mut started = Vec::new(alloc);
+    start_values(alloc, parameters, values, &mut started)?;
+    Ok(Items::from_vec(started))
+}
+
+/// Puts the values at which the parameters start into a list, in the place of what it has.
+pub(crate) fn start_values(
+    alloc: Global,
+    parameters: &[ParameterDesc],
+    values: &[Value],
+    started: &mut Vec<Value>,
+) -> Result<(), AllocError>
+    requires { fit (map declared parameters.now) values.now ≡ true }
+    ensures started { OnOk result (started.new.items ≡ started_values parameters.now values.now) }
+    ensures given { OnOk result (AreGiven (kinds_of_parameters parameters.now) started.new.items) }
+{
+    started.clear();
+    started.reserve(parameters.len())?;
     for (parameter, value) in parameters.iter().zip(values) {
         started.push(started_value(alloc, *parameter, value)?)?;
     }
-    Ok(started)
+    Ok(())
 }
 
 /// What is handed in, stored; null starts a parameter at zero, at blanks or at the empty text (own rule).

@@ -15,12 +15,14 @@ ghost use Rattle.sq_session.specs.Target.{AreSetAlike, IsSet, MayTake, MayTakeRo
 use crate::called::Called;
 use crate::reply::{Done, Output};
 use crate::retrieved::RetrievedRow;
+use smallvec::SmallVec;
 use sq_bound::{BoundSelect, ParameterDesc};
 use sq_expression::{Failure, Fault};
 use sq_items::Items;
 use sq_meaning::Status;
 use sq_value::{Decimal, RetrieveFault, Retrieved, Row, Value, retrieve};
 use std::alloc::{AllocError, Global};
+use std::marker::Model;
 use std::mem;
 
 /// A parameter's place, and its new value.
@@ -30,10 +32,52 @@ struct Assignment {
     value: Value,
 }
 
+/// The filler of places that hold no assignment yet.
+impl Default for Assignment {
+    fn default() -> Assignment {
+        Assignment {
+            parameter: 0,
+            value: Value::Null,
+        }
+    }
+}
+
+/// A list of assignments, four of them in place. Contracts see it as its elements in order.
+#[derive(Drop)]
+struct AssignmentList {
+    elements: SmallVec<Assignment, 4>,
+}
+
+impl Model for AssignmentList {
+    ghost use Rattle.std.specs.Prelude.{List};
+    ghost use Rattle.sq_session.specs.declared.target.Assignment.{Assignment as AnyAssignment};
+
+    ghost Value = { List AnyAssignment };
+
+    ghost view = { λ list. list.elements.items };
+}
+
+impl AssignmentList {
+    fn new(alloc: Global) -> AssignmentList
+        ensures { result ≡ [] }
+    {
+        AssignmentList {
+            elements: SmallVec::new(alloc),
+        }
+    }
+
+    fn push(&mut self, assignment: Assignment) -> Result<(), AllocError>
+        ensures { OnOk result (self.new ≡ self.old ++ assignment ∷ []) }
+    {
+        self.elements.push(assignment)?;
+        Ok(())
+    }
+}
+
 /// What targets and their indicators are set to, and whether a text was cut.
 #[derive(Drop)]
 struct Assignments {
-    list: Items<Assignment>,
+    list: AssignmentList,
     is_cut: bool,
 }
 
@@ -99,13 +143,13 @@ fn make_done(called: &Called<'_>, assignments: Assignments) -> Result<Done, Allo
 fn outputs_of(
     alloc: Global,
     parameters: &[ParameterDesc],
-    assignments: Items<Assignment>,
+    assignments: AssignmentList,
 ) -> Result<Items<Output>, AllocError>
     ensures { IfOk result (λ outputs. outputs ≡ outputs_from 0 assignments parameters.now) }
 {
-    let mut assignments = assignments.into_vec();
-    let outputs = outputs_taken(alloc, parameters, assignments.as_mut_slice());
-    drop(assignments);
+    let AssignmentList { mut elements } = assignments;
+    let outputs = outputs_taken(alloc, parameters, elements.as_mut_slice());
+    drop(elements);
     outputs
 }
 
@@ -160,7 +204,7 @@ fn assignments_of(
     ensures { Meets result (row_set called.now.procedure.now.parameters targets.now (values_of row.now)) }
 {
     let mut assignments = Assignments {
-        list: Items::from_vec(Vec::with_capacity(called.alloc, targets.len())?),
+        list: AssignmentList::new(called.alloc),
         is_cut: false,
     };
     let parameters = called.procedure.parameters.as_slice();
@@ -238,8 +282,7 @@ impl Assignments {
                   ++ record { parameter = parameter; value = value } ∷ [];
             }) }
     {
-        self.list.push(Assignment { parameter, value })?;
-        Ok(())
+        self.list.push(Assignment { parameter, value })
     }
 }
 

@@ -17,4 +17,5 @@ pub mod Paging
 pub mod SoFar
 pub mod ViewRows
 pub mod ViewShown
+pub mod WaysFound
 pub mod Worded

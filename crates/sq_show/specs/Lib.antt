@@ -30,4 +30,5 @@ pub mod Traced
 pub mod Value
 pub mod ValueFault
 pub mod View
+pub mod Ways
 pub mod Words

@@ -55,6 +55,7 @@ mod trace;
 mod value;
 mod value_words;
 mod view;
+mod ways;
 mod words;
 
 pub use cause::{
@@ -72,4 +73,5 @@ pub use sq_session::Session;
 pub use told::why;
 pub use trace::{TraceFault, TraceOptions, trace_action, trace_all};
 pub use view::write_view;
+pub use ways::write_ways;
 pub use words::write_cause;

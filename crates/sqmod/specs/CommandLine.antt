@@ -94,9 +94,11 @@ checking =
     let with_schemas = with_rule (new_app (codes "check")) (files_rule (codes "schema")) in
     with_rule (with_rule with_schemas (files_rule (codes "module"))) (value_rule (codes "script"))
 
--- `check [--schema F]... [--module F]... [--script F] [--quiet] [--json]`
+-- `check [--schema F]... [--module F]... [--script F] [--quiet] [--json] [--ways]`
 abbrev pub check : App
-check = with_rule (with_rule checking (flag_rule (codes "quiet"))) (flag_rule (codes "json"))
+check =
+    with_rule (with_rule (with_rule checking (flag_rule (codes "quiet"))) (flag_rule (codes "json")))
+    (flag_rule (codes "ways"))
 
 -- `trace [--schema F]... [--module F]... --script F [--rows N]`
 abbrev pub tracing : App
@@ -217,6 +219,7 @@ pub record MakesCheck (rows : List Row) (request : CheckRequest) : Type 0 where
   pub script : option_map (λ file. file.now) request.script ≡ first_of (codes "script") rows
   pub quiet : IsFlag rows (codes "quiet") request.quiet
   pub json : IsFlag rows (codes "json") request.json
+  pub ways : IsFlag rows (codes "ways") request.ways
 
 -- The request that `trace` makes of what it was given.
 pub record MakesTrace (rows : List Row) (request : TraceRequest) : Type 0 where

@@ -25,6 +25,8 @@ pub(crate) struct Checking<'a> {
     pub(crate) sources: &'a Sources,
     pub(crate) script: Option<Script<'a>>,
     pub(crate) form: Form,
+    /// It is said, too, how the rows of tables are found.
+    pub(crate) ways: bool,
 }
 
 /// A script's file and text.
@@ -102,6 +104,7 @@ fn checking_of<'a>(
         sources,
         script,
         form: form_of(asked),
+        ways: asked.ways,
     }
 }
 

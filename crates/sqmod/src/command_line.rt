@@ -76,6 +76,8 @@ pub(crate) struct CheckRequest<'a> {
     pub(crate) quiet: bool,
     /// Each line is an object of JSON.
     pub(crate) json: bool,
+    /// It is said, too, how the rows of tables are found.
+    pub(crate) ways: bool,
 }
 
 /// A name to be explained: a status, a refusal or a fault. Without a name, all names are listed.
@@ -112,7 +114,7 @@ pub(crate) enum Task<'a> {
 }
 
 /// Reads `sqmod run [--schema F]... [--module F]... --script F [--rows N]`,
-/// `sqmod check [--schema F]... [--module F]... [--script F] [--quiet] [--json]`,
+/// `sqmod check [--schema F]... [--module F]... [--script F] [--quiet] [--json] [--ways]`,
 /// `sqmod trace [--schema F]... [--module F]... --script F [--rows N] [--tables] [--stop] [--html F]`,
 /// `sqmod shell [--schema F]... [--module F]... [--rows N]`, `sqmod explain [NAME]`,
 /// `sqmod test FOLDER... [--filter GLOB]... [--shard K/N] [--junit F] [--list] [--update]`,
@@ -188,6 +190,7 @@ fn check_request_of<'a>(
         script: check.get_str("script"),
         quiet: check.get_flag("quiet"),
         json: check.get_flag("json"),
+        ways: check.get_flag("ways"),
     })
 }
 
@@ -325,9 +328,11 @@ fn check_command<'a>(alloc: Global) -> Result<Command<'a>, AllocError>
     ensures app { IfOk result (λ command. app_of command ≡ spec.check) }
     ensures local { IfOk result (λ command. (fields_of command).has_globals ≡ false) }
 {
+    let ways = flag_option(alloc, "ways", "Says how the rows of tables are found");
     checking_command(alloc)?
         .arg(flag_option(alloc, "quiet", "Says nothing but refusals and faults"))?
-        .arg(flag_option(alloc, "json", "Prints an object of JSON for each line"))
+        .arg(flag_option(alloc, "json", "Prints an object of JSON for each line"))?
+        .arg(ways)
 }
 
 /// The command `check` with the options that name files.

@@ -87,6 +87,7 @@ fn write_judged(
         checking.request,
         checking.sources,
         checking.form,
+        checking.ways,
         &judged,
     );
     drop(judged);
@@ -100,6 +101,7 @@ fn write_left<'a>(
     request: &'a TextsRequest<'a>,
     sources: &'a Sources,
     form: Form,
+    ways: bool,
     judged: &'a Judged,
 ) -> Result<(), AllocError> {
     let checking = Checking {
@@ -107,6 +109,7 @@ fn write_left<'a>(
         sources,
         script: None,
         form,
+        ways,
     };
     write_checked(out, alloc, &checking, &judged.left, &judged.checked)
 }

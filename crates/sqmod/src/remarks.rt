@@ -1,12 +1,15 @@
 //! Remarks on texts that are not refused: faults, whether cursors and views are updatable, and warnings.
 use crate::check::Checking;
+use crate::command_line::USUAL_ROW_NUMBERS;
 use crate::meanings::meaning_of;
 use crate::texts::Sources;
 use sq_advice::{
     Advice, Doubt, Form, Item, Module, Part, Schemas, Slip, Source, Weight, slips_of, write_item,
 };
+use sq_heap::HeapStore;
 use sq_lex::Name;
-use sq_perform::{Checked, Note, Remark};
+use sq_perform::{Checked, Limits, Note, Remark, open_session};
+use sq_show::{Session, write_ways};
 use std::alloc::{AllocError, Global};
 use std::str;
 
@@ -22,9 +25,50 @@ pub(crate) fn write_checked<'a>(
     for (source, notes) in schemas.texts.iter().zip(checked.schemas.as_slice()) {
         write_remarks(out, alloc, checking.form, source, notes.as_slice())?;
     }
+    match session_of(alloc, checking, left)? {
+        Some(session) => {
+            let found = Some(&session);
+            let written = write_modules(out, alloc, checking, left, &schemas, checked, found);
+            drop(session);
+            written
+        }
+        None => write_modules(out, alloc, checking, left, &schemas, checked, None),
+    }
+}
+
+/// Opens a session of the rest of the texts, if it is to be said how the rows of tables are found.
+fn session_of(
+    alloc: Global,
+    checking: &Checking<'_>,
+    left: &Sources,
+) -> Result<Option<Session<HeapStore>>, AllocError> {
+    if !checking.ways {
+        return Ok(None);
+    }
+    let limits = Limits {
+        row_numbers: USUAL_ROW_NUMBERS,
+    };
+    let schemas = left.schemas.as_slice();
+    match open_session::<HeapStore>(alloc, schemas, left.modules.as_slice(), limits) {
+        Ok(session) => Ok(Some(session)),
+        Err(_) => Err(AllocError),
+    }
+}
+
+/// Adds the lines about each module.
+fn write_modules<'a>(
+    out: &mut Vec<u8>,
+    alloc: Global,
+    checking: &Checking<'a>,
+    left: &'a Sources,
+    schemas: &Schemas<'a>,
+    checked: &Checked,
+    session: Option<&Session<HeapStore>>,
+) -> Result<(), AllocError> {
+    let form = checking.form;
     for (index, notes) in checked.modules.iter().enumerate() {
-        if let Some(module) = module_of(alloc, checking, left, &schemas, index)? {
-            let written = write_notes(out, alloc, checking.form, &module, notes.as_slice());
+        if let Some(module) = module_of(alloc, checking, left, schemas, index)? {
+            let written = write_notes(out, alloc, form, &module, notes.as_slice(), session);
             drop(module);
             written?;
         }
@@ -94,12 +138,13 @@ fn write_notes(
     form: Form,
     module: &Module<'_, '_>,
     notes: &[Note],
+    session: Option<&Session<HeapStore>>,
 ) -> Result<(), AllocError> {
     for note in notes {
         match note.remark {
             Some(Remark::Fault(_)) => write_fault(out, alloc, form, module, note)?,
             Some(remark) => write_remark(out, alloc, form, &module.source, note, remark)?,
-            None => {}
+            None => write_ways_of(out, alloc, form, &module.source, note, session)?,
         }
     }
     match form {
@@ -121,6 +166,18 @@ fn write_remark(
         Remark::NotUpdatable(rule) => format!(in alloc; "not updatable: {rule}")?,
         _ => format!(in alloc; "updatable")?,
     };
+    write_said(out, alloc, form, source, note, says.as_str())
+}
+
+/// Adds what is said of a part.
+fn write_said(
+    out: &mut Vec<u8>,
+    alloc: Global,
+    form: Form,
+    source: &Source<'_>,
+    note: &Note,
+    says: &str,
+) -> Result<(), AllocError> {
     let part = Some(part_of(note));
     let beside: Option<&Advice> = None;
     let item = Item {
@@ -130,10 +187,30 @@ fn write_remark(
         line: note.line,
         column: note.column,
         part,
-        says: says.as_str(),
+        says,
         advice: beside,
     };
     write_item(out, alloc, &item, form)
+}
+
+/// Adds how the rows of each table are found that a procedure reads, if that is asked for.
+fn write_ways_of(
+    out: &mut Vec<u8>,
+    alloc: Global,
+    form: Form,
+    source: &Source<'_>,
+    note: &Note,
+    session: Option<&Session<HeapStore>>,
+) -> Result<(), AllocError> {
+    let Some(session) = session else {
+        return Ok(());
+    };
+    let mut lines = Vec::new(alloc);
+    write_ways(alloc, session, note.owner, note.name, &mut lines)?;
+    for says in str::from_utf8(lines.as_slice()).unwrap_or("").lines() {
+        write_said(out, alloc, form, source, note, says)?;
+    }
+    Ok(())
 }
 
 fn part_of(note: &Note) -> Part {

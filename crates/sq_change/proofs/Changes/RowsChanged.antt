@@ -11,30 +11,30 @@ use Rattle.sq_expression.specs.Fault.{Meets, MeetsAs, status_of}
 use Rattle.sq_expression.specs.declared.fault.Failure.TheVariants as failure
 use Rattle.sq_expression.specs.declared.fault.Fault.{Fault}
 use Rattle.sq_expression.specs.declared.fault.Fault.TheVariants as fault
-use Rattle.sq_query.specs.Table.{numbered_in}
+use Rattle.sq_query.specs.FewRows.{few_numbered, few_rows}
+use Rattle.sq_query.specs.declared.few_rows.FewRows.{FewRows}
 use Rattle.sq_query.specs.Target.{chosen, numbers_chosen}
 use Rattle.sq_query.proofs.Targets.ChosenNumbers.{numbers_are}
-use Rattle.sq_change.specs.Changed.{numbers_with}
+use Rattle.sq_change.specs.Changed.{few_with}
 use Rattle.sq_change.specs.Made.{number_given}
 use Rattle.sq_change.proofs.Changes.Chosen.{some_found}
 
-module _ {X : Type 0} (test : X → Numbered → Outcome Bool) (xs : List X) (o : Outcome (List Numbered)) (rows : Vec (ℕ × Bor Row) Global) (found : and_then o (chosen test xs) ≡ Ok (numbered_in rows)) where
-  pub rows_some : 0 < length rows.items → and_then (and_then o (numbers_chosen test xs)) if_some ≡ Ok (numbers_with rows)
+module _ {X : Type 0} (test : X → Numbered → Outcome Bool) (xs : List X) (o : Outcome (List Numbered)) (rows : FewRows) (found : and_then o (chosen test xs) ≡ Ok (few_numbered rows)) where
+  pub rows_some : 0 < length (few_rows rows) → and_then (and_then o (numbers_chosen test xs)) if_some ≡ Ok (few_with rows)
   rows_some some =
-      some_found (and_then o (numbers_chosen test xs)) (numbers_with rows) (subst (λ n. 0 < n) (sym (length-map rows.items (λ (r : ℕ × Bor Row). r.0))) some) (numbers_are test xs o rows found)
+      some_found (and_then o (numbers_chosen test xs)) (few_with rows) (subst (λ n. 0 < n) (sym (length-map (few_rows rows) (λ (r : ℕ × Bor Row). r.0))) some) (numbers_are test xs o (few_rows rows) found)
 
   -- a search that finds none ends so
-  pub rows_none : length rows.items ≡ 0 → Meets {A = List ℕ} (Err (fault.Status failure.NoData)) (and_then (and_then o (numbers_chosen test xs)) if_some)
-  rows_none none = ap (λ (p : Outcome (List ℕ)). and_then p if_some) (numbers_are test xs o rows found) ∙ by rows.items none
+  pub rows_none : length (few_rows rows) ≡ 0 → Meets {A = List ℕ} (Err (fault.Status failure.NoData)) (and_then (and_then o (numbers_chosen test xs)) if_some)
+  rows_none none = ap (λ (p : Outcome (List ℕ)). and_then p if_some) (numbers_are test xs o (few_rows rows) found) ∙ by (few_rows rows) none
     where
       by : (rs : List (ℕ × Bor Row)) → length rs ≡ 0 → if_some (map (λ (r : ℕ × Bor Row). r.0) rs) ≡ Err (status_of failure.NoData)
       by [] h = refl
       by (r ∷ rs) h = absurd (omega arith)
 
 -- the row that a cursor is on
-pub only_row : (n : ℕ) (r : Result (Vec (ℕ × Bor Row) Global) Fault) → IfOk r (λ rows. numbers_with rows ≡ n ∷ []) → IfErr r (λ f. f ≡ fault.NoMemory) → MeetsAs numbers_with r (number_given (Some n))
-only_row n (Ok rows) only memory = ap Ok (sym only)
-only_row n (Err f) only memory = subst (λ (x : Fault). MeetsAs {A = Vec (ℕ × Bor Row) Global} numbers_with (Err x) (number_given (Some n))) (sym memory) tt
+pub only_row : (n : ℕ) (rows : FewRows) → few_with rows ≡ n ∷ [] → MeetsAs few_with (Ok rows) (number_given (Some n))
+only_row n rows only = ap Ok (sym only)
 
 -- ---- lists
 

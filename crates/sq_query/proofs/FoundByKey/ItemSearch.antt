@@ -27,6 +27,7 @@ use Rattle.sq_query.specs.Row.{HasValueOn}
 use Rattle.sq_query.specs.Search.{IsWhere, rows_by_key}
 use Rattle.sq_query.specs.Several.{rows_by_values}
 use Rattle.sq_query.specs.Sought.{IsValueBehind}
+use Rattle.sq_query.specs.Valued.{HasRowsWithOne, rows_with_one}
 use Rattle.sq_query.specs.declared.around.Around.{Around}
 use Rattle.sq_query.specs.declared.key.KnownKey.{KnownKey}
 use Rattle.sq_query.specs.declared.key.KnownKeys.{KnownKeys}
@@ -63,22 +64,27 @@ at_index (y ∷ xs) (suc i) d x within is = at_index xs i d x (omega arith) is
 -- ---- an item whose rows WHERE names
 
 pub rows_of_key : (IsFalse : ℕ → List Value → Type 0) (content : Content) (keys : List Keys) (base : ℕ) (own : BaseRows) (known : KnownKey) → own.place ≡ base → IsKeyBy IsFalse keys base known → lent own.rows.items ≡ rows_by_key content keys base known
-    → IsNamed IsFalse content keys own
+    → (own.place ≡ base) × IsNamed IsFalse content keys own
 rows_of_key IsFalse content keys base own known is named are =
-    inl (known, record { named = subst (λ (p : ℕ). IsKeyBy IsFalse keys p known) (sym is) named; are = are ∙ ap (λ (p : ℕ). rows_by_key content keys p known) (sym is) })
+    (is, inl (known, record { named = subst (λ (p : ℕ). IsKeyBy IsFalse keys p known) (sym is) named; are = are ∙ ap (λ (p : ℕ). rows_by_key content keys p known) (sym is) }))
 
 pub rows_of_keys : (IsFalse : ℕ → List Value → Type 0) (content : Content) (keys : List Keys) (base : ℕ) (own : BaseRows) (known : KnownKeys) → own.place ≡ base → AreKeysBy IsFalse keys base known → lent own.rows.items ≡ rows_by_values content keys base known
-    → IsNamed IsFalse content keys own
+    → (own.place ≡ base) × IsNamed IsFalse content keys own
 rows_of_keys IsFalse content keys base own known is named are =
-    inr (known, record { named = subst (λ (p : ℕ). AreKeysBy IsFalse keys p known) (sym is) named; are = are ∙ ap (λ (p : ℕ). rows_by_values content keys p known) (sym is) })
+    (is, inr (inl (known, record { named = subst (λ (p : ℕ). AreKeysBy IsFalse keys p known) (sym is) named; are = are ∙ ap (λ (p : ℕ). rows_by_values content keys p known) (sym is) })))
+
+pub rows_of_values : (IsFalse : ℕ → List Value → Type 0) (content : Content) (keys : List Keys) (base n : ℕ) (vs : List Value) (o : Option BaseRows) → IsFalse n vs → IfSome o (HasRowsWithOne content base n vs)
+    → IfSome o (λ own. (own.place ≡ base) × IsNamed IsFalse content keys own)
+rows_of_values IsFalse content keys base n vs None named are = tt
+rows_of_values IsFalse content keys base n vs (Some own) named are = (are.0, inr (inr (n, vs, record { named = named; are = are.1 ∙ ap (λ (p : ℕ). rows_with_one content p n vs) (sym are.0) })))
 
 pub own_named : (q : BoundSpecification) (item base : ℕ) (inner : Needed) (content : Content) (keys : List Keys) (a : Around) (values : List Value) (caller : Name) (found : List BaseRows) (ts : List TablePlace) (d : TablePlace) (condition : BoundCond)
-    (r : Result (Option BaseRows) Fault) → ts ≡ items_of q → item < length (items_of q) → get_or ts item d ≡ Base base → base < length content → IsAlone q item base inner found → IsWhere q condition → IfOk r (λ own. IfSome own (λ rows. rows.place ≡ base))
-    → IfOk r (λ own. IfSome own (IsNamed (IsFalseOn item ts found a values caller (AreTrustedIn Noted condition) (cond_of [] condition)) content keys)) → IfOk r (λ own. IfSome own (IsReadOf q inner content keys a values caller found))
-own_named q item base inner content keys a values caller found ts d condition (Err f) are within is stored alone is_where place_is named = tt
-own_named q item base inner content keys a values caller found ts d condition (Ok None) are within is stored alone is_where place_is named = tt
-own_named q item base inner content keys a values caller found ts d condition (Ok (Some own)) are within is stored alone is_where place_is named =
-    let here = sym place_is in
+    (r : Result (Option BaseRows) Fault) → ts ≡ items_of q → item < length (items_of q) → get_or ts item d ≡ Base base → base < length content → IsAlone q item base inner found → IsWhere q condition
+    → IfOk r (λ own. IfSome own (λ rows. (rows.place ≡ base) × IsNamed (IsFalseOn item ts found a values caller (AreTrustedIn Noted condition) (cond_of [] condition)) content keys rows)) → IfOk r (λ own. IfSome own (IsReadOf q inner content keys a values caller found))
+own_named q item base inner content keys a values caller found ts d condition (Err f) are within is stored alone is_where named = tt
+own_named q item base inner content keys a values caller found ts d condition (Ok None) are within is stored alone is_where named = tt
+own_named q item base inner content keys a values caller found ts d condition (Ok (Some own)) are within is stored alone is_where named =
+    let here = sym named.0 in
     let at = at_index (items_of q) item d (Base base) within (subst (λ (l : List TablePlace). get_or l item d ≡ Base base) are is) in record {
       item = item;
       at = at ∙ ap (λ (p : ℕ). let o : Option TablePlace = Some (Base p) in o) here;
@@ -87,6 +93,6 @@ own_named q item base inner content keys a values caller found ts d condition (O
       rows = inl (record {
         condition = condition;
         is_where = is_where;
-        named = subst (λ (l : List TablePlace). IsNamed (IsFalseOn item l found a values caller (AreTrustedIn Noted condition) (cond_of [] condition)) content keys own) are named;
+        named = subst (λ (l : List TablePlace). IsNamed (IsFalseOn item l found a values caller (AreTrustedIn Noted condition) (cond_of [] condition)) content keys own) are named.1;
       });
     }

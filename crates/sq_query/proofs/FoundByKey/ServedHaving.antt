@@ -44,7 +44,7 @@ use Rattle.sq_query.specs.declared.around.Around.{Around}
 use Rattle.sq_query.specs.declared.needed.Needed.{Needed}
 use Rattle.sq_query.proofs.Needs.Added.{lines_needed, needs_more}
 use Rattle.sq_query.proofs.Needs.NeededViews.{clause_weaker}
-use Rattle.sq_query.proofs.FoundByKey.FoundRows.{kinds_of}
+use Rattle.sq_query.proofs.FoundByKey.FewerRows.{kinds_of}
 use Rattle.sq_query.proofs.FoundByKey.ItemRows.{groups_in, list_in, where_in}
 use Rattle.sq_query.proofs.FoundByKey.LeftOut.{kept_are, lines_are, same_by_groups}
 use Rattle.sq_query.proofs.Keys.KeyTests.{if_some}

@@ -41,7 +41,8 @@ use Rattle.sq_query.specs.declared.around.Standing.{Standing}
 use Rattle.sq_query.specs.declared.needed.Needed.{Needed}
 use Rattle.sq_query.proofs.Needs.Added.{around_needed, inside_needed, needs_more}
 use Rattle.sq_query.proofs.FoundByKey.FoundRows as step
-use Rattle.sq_query.proofs.FoundByKey.FoundRows.{all_sure, among_found, kinds_of}
+use Rattle.sq_query.proofs.FoundByKey.FewerRows.{among_found, kinds_of}
+use Rattle.sq_query.proofs.FoundByKey.FoundRows.{all_sure}
 use Rattle.sq_query.proofs.FoundByKey.ItemRows.{groups_in, list_in, where_in, zip_weaker}
 use Rattle.sq_query.proofs.Keys.KeyOut.{all_both}
 use Rattle.sq_query.proofs.Keys.KeyTests.{if_some}

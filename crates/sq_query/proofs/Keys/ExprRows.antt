@@ -17,7 +17,8 @@ use Rattle.sq_query.specs.Ways.{FindRows, IsFoundBy, IsFoundByTest, IsFoundByTes
 use Rattle.sq_query.specs.declared.named.Sure.{Sure}
 use Rattle.sq_query.specs.declared.named.Sure.TheVariants.{Unnoted}
 use Rattle.sq_query.specs.declared.sought.Sought.{Sought}
-use Rattle.sq_query.proofs.Keys.NamedRows.{IsTermFalseBut, brackets_name, comparison_names, equal_found, list_names, term_more, terms_name, test_names}
+use Rattle.sq_query.proofs.FoundByKey.ItemValues.{same_among}
+use Rattle.sq_query.proofs.Keys.NamedRows.{IsTermFalseBut, brackets_name, comparison_names, equal_names, list_names, term_more, terms_name, test_names}
 
 -- what is zipped with two lists, one behind the other
 record IsSplit {A B : Type 0} (R : A → B → Type 0) (xs ys : List A) (ws : List B) : Type 0 where
@@ -61,7 +62,8 @@ one_lent so_far next e es i x within at is grown held =
 
 pub by_equality : (item n : ℕ) (e : BoundExpr) (test : BoundTest) → IsEqualTo item n e test → IsFoundByTest item Unnoted test n (e ∷ [])
 by_equality item n e test is s values user [] at known = absurd known
-by_equality item n e test is s values user (v ∷ []) at known = equal_found s values user e n test (Ok (Some v)) (subst (λ (i : ℕ). IsEqualTo i n e test) (sym at) is) known.0
+by_equality item n e test is s values user (v ∷ []) at known =
+    equal_names s values user e n test (v ∷ []) (subst (λ (i : ℕ). IsEqualTo i n e test) (sym at) is) (same_among s values user e v known.0 (v ∷ []) refl)
 by_equality item n e test is s values user (v ∷ w ∷ vs) at known = absurd known.1
 
 pub by_list : (item n : ℕ) (test : BoundTest) (written : Bool) (a : BoundExpr) (es : List BoundExpr) → test.negated ≡ false → written ≡ false → test.predicate ≡ bound.InList written a es → IsColumnOf item n a → IsFoundByTest item Unnoted test n es

@@ -51,7 +51,7 @@ use Rattle.sq_expression.specs.Frame.{inputs_of}
 use Rattle.sq_expression.specs.declared.fault.Fault.{Fault}
 use Rattle.sq_query.specs.Around.{beneath}
 use Rattle.sq_query.specs.Named.{AreTrusted, AreTrustedIn, HasOther, IsBracketed, IsColumnOf, IsEqualTo, IsFalseAt, IsFalseBy, IsFalseOf, IsLineOf, IsOneOf, IsPassed, IsSureTest, IsTrusted, StandsOnLines, sure_within}
-use Rattle.sq_query.specs.Sought.{IsSameOnLines}
+use Rattle.sq_query.specs.Sought.{IsAmongOnLines, IsSameOnLines}
 use Rattle.sq_query.specs.Union.{AreFitting}
 use Rattle.sq_query.specs.declared.named.Sure.{Sure}
 use Rattle.sq_query.specs.declared.named.Sure.TheVariants.{All, Noted, Unnoted}
@@ -61,7 +61,7 @@ use Rattle.sq_query.proofs.Keys.EqualTests.{bracketed_tree, false_left, test_fal
 use Rattle.sq_query.proofs.ByUnion.JoinedTerms.{all_left, all_right}
 use Rattle.sq_query.proofs.Keys.KeyLacked.{all_also, also_false, none_fit, stops}
 use Rattle.sq_query.proofs.Keys.KeyOut.{all_is}
-use Rattle.sq_query.proofs.Keys.KeyTests.{if_some}
+use Rattle.sq_query.proofs.Keys.KeyValues.{all_contained}
 use Rattle.sq_query.proofs.Keys.KeyedRows.{inputs_are}
 
 -- what holds of the first elements and of the next one
@@ -119,9 +119,6 @@ pub only_found : (IsFalse : ℕ → List Value → Type 0) (n : ℕ) (vs : List 
 only_found IsFalse n vs None h is = tt
 only_found IsFalse n vs (Some v) h is = subst (IsFalse n) is h
 
-pub alone_found : (IsFalse : ℕ → List Value → Type 0) (n : ℕ) (v : Value) (vs : List Value) (o : Option Value) → IfSome o (IsOneOf IsFalse n) → o ≡ Some v → vs ≡ v ∷ [] → IsFalse n vs
-alone_found IsFalse n v vs o h some is = subst (IsFalse n) (sym is) (if_some (IsOneOf IsFalse n) o v h some)
-
 module _ (s : Sought) (values : List Value) (user : Name) where
   -- the same condition, written otherwise, where as much is known
   alike : (Known Less : TableKinds → (TablePlace → Outcome (List Row)) → Type 0) → ((columns : TableKinds) (tables : TablePlace → Outcome (List Row)) → Known columns tables → Less columns tables) → (c d : PlacedCond) → c ≡ d → (n : ℕ) (vs : List Value)
@@ -176,11 +173,14 @@ module _ (s : Sought) (values : List Value) (user : Name) where
 
     module _ (n : ℕ) where
       -- a test `column = e` or `e = column`
-      equal_false : (e : BoundExpr) (test : BoundTest) (v : Value) → IsEqualTo s.item n e test → has_subquery (test_of [] test) ≡ false → IsSameOnLines s values user e v → Stand (test_of [] test) → HasOther row n (v ∷ []) → truth (by_place tables) (test_of [] test) here ≡ Ok False
-      equal_false e test v is plain known stands other =
+      equal_false : (e : BoundExpr) (test : BoundTest) (vs : List Value) → IsEqualTo s.item n e test → has_subquery (test_of [] test) ≡ false → IsAmongOnLines s values user e vs → Stand (test_of [] test) → HasOther row n vs
+          → truth (by_place tables) (test_of [] test) here ≡ Ok False
+      equal_false e test vs is plain known stands other =
+          let k = known no_tables scopes line on.is_around on.among in
+          let among = k.1 in
           sym (truth_over no_tables tables (test_of [] test) here plain)
-          ∙ test_false no_tables columns kinds values user on.given nothing_fits levels scopes (on.rows_around no_tables) s.tables.now line on.fits s.item n row at v known.1 other.not_null other.differs.0 e test is
-          (value_here e v known) (stands no_tables)
+          ∙ test_false no_tables columns kinds values user on.given nothing_fits levels scopes (on.rows_around no_tables) s.tables.now line on.fits s.item n row at k.0 k.3 other.not_null
+          (all_contained (λ v. is_same v (slice_index_or row n Null) ≡ false) vs among.0 k.0 other.differs among.1 among.2) e test is k.2 (stands no_tables)
 
       -- a test `column IN (e, ..)`
       none_equal : (es : List BoundExpr) (vs : List Value) → Stand (in_list (column_here n) (map (expr_of []) es)) → AllZip (IsSameOnLines s values user) es vs → HasOther row n vs → truth (by_place no_tables) (in_list (column_here n) (map (expr_of []) es)) here ≡ Ok False
@@ -223,10 +223,14 @@ module _ (s : Sought) (values : List Value) (user : Name) where
       by (inl sides) = ap has_subquery (compared test Equal is.own e sides.0 sides.1)
       by (inr sides) = ap has_subquery (compared test Equal e is.own sides.0 sides.1)
 
-  pub equal_found : (e : BoundExpr) (n : ℕ) (test : BoundTest) (r : Result (Option Value) Fault) → IsEqualTo s.item n e test → IfOk r (λ found. IfSome found (IsSameOnLines s values user e)) → IfOk r (λ found. IfSome found (IsOneOf (IsFalseBy s Unnoted values user test) n))
+  pub equal_names : (e : BoundExpr) (n : ℕ) (test : BoundTest) (vs : List Value) → IsEqualTo s.item n e test → IsAmongOnLines s values user e vs → IsFalseBy s Unnoted values user test n vs
+  equal_names e n test vs is h columns kinds levels tables scopes line row on stands known at other = equal_false columns kinds levels tables scopes line row on at n e test vs is (plain_so e n test is) h stands other
+
+  pub equal_found : (e : BoundExpr) (n : ℕ) (test : BoundTest) (r : Result (Option (Vec Value Global)) Fault) → IsEqualTo s.item n e test → IfOk r (λ found. IfSome found (λ vs. IsAmongOnLines s values user e vs.items))
+      → IfOk r (Found (IsFalseBy s Unnoted values user test) n)
   equal_found e n test (Err f) is h = tt
   equal_found e n test (Ok None) is h = tt
-  equal_found e n test (Ok (Some v)) is h = λ columns kinds levels tables scopes line row on stands known at other. equal_false columns kinds levels tables scopes line row on at n e test v is (plain_so e n test is) h stands other
+  equal_found e n test (Ok (Some vs)) is h = equal_names e n test vs.items is h
 
   -- ---- IN
 

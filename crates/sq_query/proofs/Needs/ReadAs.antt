@@ -43,7 +43,7 @@ use Rattle.sq_query.proofs.Needs.TablesMeant.{select_fits}
 
 -- ---- what was read stands in the context
 
-table_same : (context : Context) (t : TablePlace) → table_rows context t ≡ rows_among context.bases.now context.views.now t
+pub table_same : (context : Context) (t : TablePlace) → table_rows context t ≡ rows_among context.bases.now context.views.now t
 table_same context (Base p) = by (find (λ (t : BaseRows). nat_eq t.place p) context.bases.now)
   where
     by : (found : Option BaseRows) → well_formed (option_map (λ (t : BaseRows). lent t.rows.items) found) ≡ and_then (well_formed found) (λ t. Ok (lent t.rows.items))

@@ -69,12 +69,6 @@ pub base_of_path : (columns : TableKinds) (queries : List BoundSpecification) (v
 base_of_path columns queries view base [] path = known_under columns view queries (Base base) path.0
 base_of_path columns queries view base (under ∷ views) path = base_of_path columns queries under base views path.1
 
--- the base table under a table that is known is known
-pub base_known : (columns : TableKinds) (queries : List BoundSpecification) (table : TablePlace) (base : ℕ) (views : List ℕ) → table ≡ first_of views base → IsPath columns queries views base → HasValue (columns table)
-    → HasValue (columns (Base base))
-base_known columns queries table base [] is path known = subst (λ (t : TablePlace). HasValue (columns t)) is known
-base_known columns queries table base (view ∷ views) is path known = base_of_path columns queries view base views path
-
 -- ---- rows of kinds that are known
 
 fit_each : (o : Outcome (List Kind)) (found : List Row) → HasValue o → Fits AreRowsOf o (Ok found) → AllByRecursion (λ row. Has (λ ks. IsRowOf ks row) o) found

@@ -89,13 +89,6 @@ pub column_more : (columns : TableKinds) (queries : List BoundSpecification) (vi
 column_more columns queries view under between column None v at below = tt
 column_more columns queries view under between column (Some found) v at below = (under ∷ below.0, (v, below.1), (between ∷ [], below.2, at))
 
--- the views of a path, as those between a table and the base table under it
-pub column_from : (columns : TableKinds) (queries : List BoundSpecification) (table : TablePlace) (view column : ℕ) (o : Option (ℕ × ℕ)) → table ≡ View view
-    → IfSome o (λ found. (views : List ℕ) × IsPath columns queries (view ∷ views) found.0 × AreShown queries (view ∷ views) (found.1 ∷ []) (column ∷ []))
-    → IfSome o (λ found. (views : List ℕ) × (table ≡ first_of views found.0) × IsPath columns queries views found.0 × AreShown queries views (found.1 ∷ []) (column ∷ []))
-column_from columns queries table view column None is below = tt
-column_from columns queries table view column (Some found) is below = (view ∷ below.0, is, below.1, below.2)
-
 -- ---- columns that are shown
 
 module _ (queries : List BoundSpecification) (view : ℕ) (q : BoundSpecification) (among : slice_get queries view ≡ Some q) (own : List ℕ) where

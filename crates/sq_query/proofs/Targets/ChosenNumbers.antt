@@ -18,10 +18,10 @@ module _ {X : Type 0} (test : X → Numbered → Outcome Bool) (xs : List X) whe
   numbers_after (Ok rows) = refl
   numbers_after (Err status) = refl
 
-  pub numbers_are : (o : Outcome (List Numbered)) (rows : Vec (ℕ × Bor Row) Global) → and_then o (chosen test xs) ≡ Ok (numbered_in rows) → and_then o (numbers_chosen test xs) ≡ Ok (map (λ (found : ℕ × Bor Row). found.0) rows.items)
+  pub numbers_are : (o : Outcome (List Numbered)) (rows : List (ℕ × Bor Row)) → and_then o (chosen test xs) ≡ Ok (map numbered_row rows) → and_then o (numbers_chosen test xs) ≡ Ok (map (λ (found : ℕ × Bor Row). found.0) rows)
   numbers_are o rows found =
       numbers_after o ∙ ap (λ p. and_then p numbers_of_rows) found
-      ∙ ap (λ (ns : List ℕ). let is : Outcome (List ℕ) = Ok ns in is) (map-map (λ (r : Numbered). r.number) numbered_row rows.items)
+      ∙ ap (λ (ns : List ℕ). let is : Outcome (List ℕ) = Ok ns in is) (map-map (λ (r : Numbered). r.number) numbered_row rows)
 
   -- where no row is chosen for a fault
   pub numbers_fail : (o : Outcome (List Numbered)) (e : Fault) → Meets {A = List Numbered} (Err e) (and_then o (chosen test xs)) → Meets {A = List ℕ} (Err e) (and_then o (numbers_chosen test xs))

@@ -86,10 +86,10 @@ chosen_there content base row_numbers test xs rises = by (nat_lt base (length co
 
 -- ---- the rows that were found
 
-pub rows_there : {X : Type 0} (r : Result (Vec (ℕ × Bor Row) Global) Fault) (content : Content) (base row_numbers : ℕ) (test : X → Numbered → Outcome Bool) (xs : List X) → all_rising row_numbers content ≡ true
-    → MeetsAs numbered_in r (and_then (stored_numbered content base) (chosen test xs)) → IfOk r (λ rows. AreRowsThere (table_at content base) (numbered_in rows))
-rows_there (Err e) content base row_numbers test xs rises h = tt
-rows_there (Ok rows) content base row_numbers test xs rises h = subst (λ (o : Outcome (List Numbered)). IfOk o (AreRowsThere (table_at content base))) h (chosen_there content base row_numbers test xs rises)
+pub rows_there : {X A : Type 0} (view : A → List Numbered) (r : Result A Fault) (content : Content) (base row_numbers : ℕ) (test : X → Numbered → Outcome Bool) (xs : List X) → all_rising row_numbers content ≡ true
+    → MeetsAs view r (and_then (stored_numbered content base) (chosen test xs)) → IfOk r (λ rows. AreRowsThere (table_at content base) (view rows))
+rows_there view (Err e) content base row_numbers test xs rises h = tt
+rows_there view (Ok rows) content base row_numbers test xs rises h = subst (λ (o : Outcome (List Numbered)). IfOk o (AreRowsThere (table_at content base))) h (chosen_there content base row_numbers test xs rises)
 
 -- the number of a row that is there is there
 some_there : (t : Table) (n : ℕ) (r : Numbered) → row_at t n ≡ Some r → IsSome (row_at t n)

@@ -253,21 +253,17 @@ module _ (tables : TablePlace → Outcome (List Row)) (columns : TableKinds) (pa
         ∙ sym (ap (λ (own : Option BoundCond). chosen_one truth_at (and_own t.leaf.conditions own) found_row) k.is_own)
 
     -- no row has the key
-    pub none_found : (rows : Vec (ℕ × Bor Row) Global) → found_row ≡ None → rows.items ≡ [] → whole_search ≡ Ok (numbered_in rows)
+    pub none_found : (rows : List Numbered) → found_row ≡ None → rows ≡ [] → whole_search ≡ Ok rows
     none_found rows none empty =
-        search_is ∙ ap (chosen_one truth_at (conditions_of t)) none
-        ∙ ap (λ (l : List (ℕ × Bor Row)). let is : Outcome (List Numbered) = Ok (map numbered_row l) in is) (sym empty)
+        search_is ∙ ap (chosen_one truth_at (conditions_of t)) none ∙ ap (λ (l : List Numbered). let is : Outcome (List Numbered) = Ok l in is) (sym empty)
 
     module _ (r : Numbered) (is : found_row ≡ Some r) where
       search_at : (o : Outcome Bool) → are_true (truth_on_row tables values caller r.row) (conditions_of t) ≡ o → whole_search ≡ and_then o (λ all. Ok (if all then r ∷ [] else []))
       search_at o e = search_is ∙ ap (chosen_one truth_at (conditions_of t)) is ∙ ap (λ (x : Outcome Bool). and_then x (λ all. Ok (if all then r ∷ [] else []))) e
 
       -- the row is chosen, or not
-      pub one_found : (b : Bool) (rows : Result (Vec (ℕ × Bor Row) Global) Fault) → Meets (Ok b) (are_true (truth_on_row tables values caller r.row) (conditions_of t))
-          → IfOk rows (λ rs. numbered_in rs ≡ (if b then r ∷ [] else [])) → IfErr rows (λ f. f ≡ fault.NoMemory) → MeetsAs numbered_in rows whole_search
-      one_found b (Ok rs) said has memory = search_at (Ok b) said ∙ ap (λ (l : List Numbered). let o : Outcome (List Numbered) = Ok l in o) (sym has)
-      one_found b (Err fault.NoMemory) said has memory = tt
-      one_found b (Err (fault.Status f)) said has memory = absurd cc
+      pub one_found : (b : Bool) (rows : List Numbered) → Meets (Ok b) (are_true (truth_on_row tables values caller r.row) (conditions_of t)) → rows ≡ (if b then r ∷ [] else []) → whole_search ≡ Ok rows
+      one_found b rows said has = search_at (Ok b) said ∙ ap (λ (l : List Numbered). let o : Outcome (List Numbered) = Ok l in o) (sym has)
 
       -- a condition ends with a status
       pub one_fails : (f : Fault) → Meets {A = Bool} (Err f) (are_true (truth_on_row tables values caller r.row) (conditions_of t)) → Meets {A = List Numbered} (Err f) whole_search

@@ -215,6 +215,7 @@ fn status_in_lines<'a>(
         sources,
         script: None,
         form: Form::Lines,
+        ways: false,
     };
     status_of_texts(kept, alloc, &checking)
 }

@@ -53,9 +53,9 @@ updated_row-requires-clause-assignable g c =
 
 pub loop-found-init : goal.loop-found-init
 loop-found-init g c = record {
-  meant = λ shown. made_none _ c.args.rows.now _ (rw c.new-changes.ensures.items refl);
-  replacements = rw c.new-changes.ensures.items tt;
-  fit = rw c.new-changes.ensures.items (record { wide = refl; in_domains = tt });
+  meant = λ shown. made_none _ c.args.rows.now _ (rw c.in_ok-changes.ensures.items refl);
+  replacements = rw c.in_ok-changes.ensures.items tt;
+  fit = rw c.in_ok-changes.ensures.items (record { wide = refl; in_domains = tt });
 }
 
 pub loop-found-preserved : goal.loop-found-preserved
@@ -109,7 +109,7 @@ returns-in_err-row-clause-meant g c = λ shown.
     let t = table_at s.tables table.place in
     let e = c.in_err-row.field-0.0 in
     let step = λ (f : Found). updated_under shown s c.args.assignments.now t f.0 in
-    handed_on_as rows_replaced_in c.from_residual.result e (rows_updated shown s c.args.assignments.now table.place (map (λ (f : Found). f.0) rows)) c.from_residual.ensures.1
+    handed_on_as rows_replaced_in c.from_residual-in_err-row.result e (rows_updated shown s c.args.assignments.now table.place (map (λ (f : Found). f.0) rows)) c.from_residual-in_err-row.ensures.1
     (meets_same (Err e) _ (each step rows) (each_map (λ (f : Found). f.0) (updated_under shown s c.args.assignments.now t) rows)
     (made_failed step rows (rows_replaced c.loop-found.changes.items) i found e c.loop-found-test.true c.found-item.is
     (c.loop-found.invariant.meant shown) (under_failed shown s c.args.assignments.now t found.0 found.1.now there e (c.in_err-row.ensures.meant shown))))

@@ -1,5 +1,5 @@
 -- Left open: the call of key_values, and the clauses memory, found and known; answered by KeyNames, KeyTests, KeyValues and KnownKeys.
-use Rattle.std.proofs.Common.{Vec, Global}
+use Rattle.std.proofs.Common.{List, refl}
 use Rattle.std.specs.List.{AllZip}
 use Rattle.sq_value.specs.declared.value.Value.{Value}
 use Rattle.sq_query.specs.Key.{IsComparedWith}
@@ -19,13 +19,13 @@ returns-in_err-values-clause-memory c = λ valued.
 pub returns-in-None-clause-found : goal.returns-in-None-clause-found
 returns-in-None-clause-found c = λ known. absurd (not_none c.in_ok-values.field-0 c.in-None.is (c.in_ok-values.ensures.found (known c.first_tests-tests.result.now c.first_tests-tests.ensures)))
 
-pub returns-in_ok-of-in-Some-clause-known : goal.returns-in_ok-of-in-Some-clause-known
-returns-in_ok-of-in-Some-clause-known c =
+pub returns-in-Some-clause-known : goal.returns-in-Some-clause-known
+returns-in-Some-clause-known c =
     let tests = c.first_tests-tests.result.now in
     let columns = c.args.columns.now in
     let values = c.args.call.now.parameters.now in
     let user = c.args.call.now.user in (
-      c.in_ok-of-in-Some.ensures.key,
-      named_by c.args.condition.now values user columns tests c.in-Some.values.items c.in_ok-of-in-Some.field-0.values c.requires.named c.first_tests-tests.ensures
-          (if_some (λ (vs : Vec Value Global). AllZip (IsComparedWith tests values user) columns vs.items) c.in_ok-values.field-0 c.in-Some.values c.in_ok-values.ensures.values c.in-Some.is) c.in_ok-of-in-Some.ensures.values,
+      refl,
+      named_by c.args.condition.now values user columns tests c.in-Some.values c.in-Some.values c.requires.named c.first_tests-tests.ensures
+          (if_some (λ (vs : List Value). AllZip (IsComparedWith tests values user) columns vs) c.in_ok-values.field-0 c.in-Some.values c.in_ok-values.ensures.values c.in-Some.is) refl,
     )

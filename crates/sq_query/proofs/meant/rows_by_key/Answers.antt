@@ -6,7 +6,7 @@ use Rattle.sq_store.specs.declared.table.Numbered.{Numbered}
 use Rattle.sq_meaning.specs.WellFormed.{IsRowOf}
 use Rattle.sq_bound.specs.WellFormed.{base_kinds}
 use Rattle.sq_bound.specs.declared.condition.TablePlace.TheVariants.{Base}
-use Rattle.sq_query.specs.Table.{numbered_in}
+use Rattle.sq_query.specs.FewRows.{few_numbered}
 use Rattle.sq_query.proofs.Keys.KnownKeys.{one_at_most}
 use Rattle.sq_query.proofs.Targets.KnownConditions.{rows_fit}
 use Rattle.sq_query.proofs.Keys.OnlyOne.{found_is}
@@ -33,7 +33,7 @@ returns-in_err-is_chosen-in-Some-clause-meant g c = λ parameters tables may wel
     let is_row = found_is (λ (s : Numbered). IsRowOf (base_kinds t.leaf.table) s.row) (has_key (key_at keys t.base known.key) known.values) (table_at content t.base).rows r rows_are c.in-Some.ensures.row in
     let on = conditions_on_row columns parameters t r.row well is_row in
     let e = c.in_err-is_chosen-in-Some.field-0.0 in
-    handed_on_as numbered_in c.from_residual.result e _ c.from_residual.ensures.1
+    handed_on_as few_numbered c.from_residual.result e _ c.from_residual.ensures.1
     (one_fails tables columns parameters call.parameters.now call.user may.inputs bases content keys t known c.requires.key well c.requires.base c.requires.keys c.requires.not_null rows_are (g.met.S.Store.keyed store) r c.in-Some.ensures.row
     e (c.in_err-is_chosen-in-Some.ensures.meant parameters tables may on))
 
@@ -55,7 +55,7 @@ returns-in_ok-is_chosen-in-Some-clause-meant g c = λ parameters tables may well
     let is_row = found_is (λ (s : Numbered). IsRowOf (base_kinds t.leaf.table) s.row) (has_key (key_at keys t.base known.key) known.values) (table_at content t.base).rows r rows_are c.in-Some.ensures.row in
     let on = conditions_on_row columns parameters t r.row well is_row in
     one_found tables columns parameters call.parameters.now call.user may.inputs bases content keys t known c.requires.key well c.requires.base c.requires.keys c.requires.not_null rows_are (g.met.S.Store.keyed store) r c.in-Some.ensures.row
-    c.in_ok-is_chosen-in-Some.is_chosen c.row_if.result (c.in_ok-is_chosen-in-Some.ensures.meant parameters tables may on) c.row_if.ensures.rows c.row_if.ensures.memory
+    c.in_ok-is_chosen-in-Some.is_chosen (few_numbered c.one_if.result) (c.in_ok-is_chosen-in-Some.ensures.meant parameters tables may on) c.one_if.ensures
 
 pub returns-in-None-clause-meant : goal.returns-in-None-clause-meant
 returns-in-None-clause-meant g c = λ parameters tables may well.
@@ -72,7 +72,7 @@ returns-in-None-clause-meant g c = λ parameters tables may well.
     let rows_are = rows_fit bases views columns content call.user call.parameters.now (g.met.N.Names.kinds_of_bases names) (g.met.N.Names.kinds_of_views names) parameters tables may t.base c.requires.key.on.table
     (base_kinds t.leaf.table) (ap (λ (p : ℕ). columns (Base p)) t.is_under ∙ well.leaf.kinds_are) in
     none_found tables columns parameters call.parameters.now call.user may.inputs bases content keys t known c.requires.key well c.requires.base c.requires.keys c.requires.not_null rows_are (g.met.S.Store.keyed store)
-    c.new.result c.in-None.ensures.row c.new.ensures.items
+    (few_numbered c.none.result) c.in-None.ensures.row c.none.ensures
 
 pub returns-in-None-clause-read : goal.returns-in-None-clause-read
 returns-in-None-clause-read g c = λ plain. one_at_most false c.args.meter.now c.find_key.new.meter c.in-None.ensures.metered

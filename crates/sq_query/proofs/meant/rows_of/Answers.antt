@@ -1,7 +1,7 @@
 -- Left open: the call of key_under, and the clauses there, right, meant and read; answered by Fitting, KeyNames, KeyValues and others.
 use Rattle.std.proofs.Common.{arith}
 use Rattle.std.specs.Prelude.{⊤}
-use Rattle.sq_query.specs.Table.{numbered_in}
+use Rattle.sq_query.specs.FewRows.{few_numbered}
 use Rattle.sq_query.specs.Target.{conditions_of, is_true_of, rows_of_target}
 use Rattle.sq_query.proofs.Needs.Fitting.{never_ends}
 use Rattle.sq_query.proofs.Keys.KeyNames.{base_there, own_keys}
@@ -15,13 +15,13 @@ use Rattle.sq_query.proofs.meant.rows_of.Goals as goal
 pub returns-in-None-clause-there : goal.returns-in-None-clause-there
 returns-in-None-clause-there g c = λ parameters tables may well.
     let store = c.args.store.now in
-    rows_there c.rows_by_values.result (g.S.Store.content_now store) c.args.target.now.base (g.S.Store.row_numbers store) (is_true_of tables c.args.inputs.parameters.now c.args.inputs.user) (conditions_of c.args.target.now) (g.met.S.Store.rises store)
-    (c.rows_by_values.ensures parameters tables may well)
+    rows_there few_numbered c.listed.result (g.S.Store.content_now store) c.args.target.now.base (g.S.Store.row_numbers store) (is_true_of tables c.args.inputs.parameters.now c.args.inputs.user) (conditions_of c.args.target.now) (g.met.S.Store.rises store)
+    (c.listed.ensures _ (c.rows_by_values.ensures parameters tables may well))
 
 pub returns-in-Some-clause-there : goal.returns-in-Some-clause-there
 returns-in-Some-clause-there g c = λ parameters tables may well.
     let store = c.args.store.now in
-    rows_there c.rows_by_key-rows.result (g.S.Store.content_now store) c.args.target.now.base (g.S.Store.row_numbers store) (is_true_of tables c.args.inputs.parameters.now c.args.inputs.user) (conditions_of c.args.target.now) (g.met.S.Store.rises store)
+    rows_there few_numbered c.rows_by_key-rows.result (g.S.Store.content_now store) c.args.target.now.base (g.S.Store.row_numbers store) (is_true_of tables c.args.inputs.parameters.now c.args.inputs.user) (conditions_of c.args.target.now) (g.met.S.Store.rises store)
     (c.rows_by_key-rows.ensures.meant parameters tables may well)
 
 pub returns-in-None-clause-right : goal.returns-in-None-clause-right
@@ -32,10 +32,10 @@ returns-in-None-clause-right g c = λ parameters tables may well.
     let target = c.args.target.now in
     let user = c.args.inputs.user in
     let values = c.args.inputs.parameters.now in
-    never_ends numbered_in c.rows_by_values.result (λ rows. ⊤) (rows_of_target tables content values user target)
+    never_ends few_numbered c.listed.result (λ rows. ⊤) (rows_of_target tables content values user target)
     (rows_answer (g.N.Names.base_tables names) (g.N.Names.view_queries names) columns content user values (g.met.N.Names.kinds_of_bases names) (g.met.N.Names.kinds_of_views names) parameters tables may target.base (conditions_of target)
     (target_on_base columns parameters target well))
-    (c.rows_by_values.ensures parameters tables may well)
+    (c.listed.ensures _ (c.rows_by_values.ensures parameters tables may well))
 
 pub returns-in-Some-clause-right : goal.returns-in-Some-clause-right
 returns-in-Some-clause-right g c = λ parameters tables may well.
@@ -45,7 +45,7 @@ returns-in-Some-clause-right g c = λ parameters tables may well.
     let target = c.args.target.now in
     let user = c.args.inputs.user in
     let values = c.args.inputs.parameters.now in
-    never_ends numbered_in c.rows_by_key-rows.result (λ rows. ⊤) (rows_of_target tables content values user target)
+    never_ends few_numbered c.rows_by_key-rows.result (λ rows. ⊤) (rows_of_target tables content values user target)
     (rows_answer (g.N.Names.base_tables names) (g.N.Names.view_queries names) columns content user values (g.met.N.Names.kinds_of_bases names) (g.met.N.Names.kinds_of_views names) parameters tables may target.base (conditions_of target)
     (target_on_base columns parameters target well))
     (c.rows_by_key-rows.ensures.meant parameters tables may well)
@@ -61,7 +61,7 @@ key_under-requires g c =
 
 pub returns-in_err-known-clause-meant : goal.returns-in_err-known-clause-meant
 returns-in_err-known-clause-meant g c = λ parameters tables may well.
-    memory_meets numbered_in c.from_residual.result c.in_err-known.field-0.0 c.from_residual.ensures.1 (c.in_err-known.ensures.memory (g.N.Names.column_kinds c.args.names.now) parameters well may.inputs) _
+    memory_meets few_numbered c.from_residual.result c.in_err-known.field-0.0 c.from_residual.ensures.1 (c.in_err-known.ensures.memory (g.N.Names.column_kinds c.args.names.now) parameters well may.inputs) _
 
 pub returns-in_err-known-clause-right : goal.returns-in_err-known-clause-right
 returns-in_err-known-clause-right g c = λ parameters tables may well.

@@ -1,6 +1,7 @@
 -- Left open: what the call of tables_of_scan asks for, and the result; answered by KeyNames and others.
 use Rattle.std.proofs.Common.{[], ◌∷◌, refl}
 use Rattle.sq_meaning.specs.WellFormed.{HasValue}
+use Rattle.sq_bound.specs.declared.condition.TablePlace.TheVariants.{View}
 use Rattle.sq_query.specs.ValueScan.{IsValueScan, rows_that_may}
 use Rattle.sq_query.specs.declared.view.Tables.{Tables}
 use Rattle.sq_query.proofs.Keys.KeyNames.{place_there}
@@ -9,7 +10,7 @@ use Rattle.sq_query.proofs.Needs.ReadTables.{handed}
 use Rattle.sq_query.proofs.Keys.Searched.{answered_memory, only_read, where_stands}
 use Rattle.sq_query.proofs.Needs.TablesMeant.{tables_fit}
 use Rattle.sq_query.proofs.PlainViews.FewRows.{few_rows}
-use Rattle.sq_query.proofs.PlainViews.ThroughViews.{base_known, few_right, read_alone}
+use Rattle.sq_query.proofs.PlainViews.ThroughViews.{base_of_path, few_right, read_alone}
 use Rattle.sq_query.proofs.value_scan.tables_by_scan.Goals as goal
 
 pub tables_of_scan-requires : goal.tables_of_scan-requires
@@ -21,8 +22,8 @@ tables_of_scan-requires g c =
     let query = c.args.query.now in
     let scan = c.in-Some.scan in
     let s = if_some (IsValueScan query columns queries c.args.call.now.parameters.now c.args.call.now.user) c.in_ok-scan.field-0 scan c.in_ok-scan.ensures.found c.in-Some.is in
-    let known = only_read (λ t. HasValue (columns t)) query scan.table s.over c.requires.finds.1 in
-    let known_base = base_known columns queries scan.table scan.base s.scans.views s.scans.table s.scans.path known in record {
+    let known = only_read (λ t. HasValue (columns t)) query (View scan.view) s.over c.requires.finds.1 in
+    let known_base = base_of_path columns queries scan.view scan.base s.scans.views s.scans.path in record {
       there = c.requires.finds.0;
       known = known;
       base = place_there (g.N.Names.base_tables names) (g.S.Store.key_columns store) c.requires.keys (g.S.Store.content_now store) scan.base (g.met.S.Store.keyed store) (c.requires.finds.0 scan.base known_base);
@@ -42,20 +43,20 @@ returns-in-Some g c = λ parameters tables may well.
     let scan = c.in-Some.scan in
     let s = if_some (IsValueScan query columns queries values user) c.in_ok-scan.field-0 scan c.in_ok-scan.ensures.found c.in-Some.is in
     let k = s.scans in
-    let known = only_read (λ t. HasValue (columns t)) query scan.table s.over c.requires.finds.1 in
-    let known_base = base_known columns queries scan.table scan.base k.views k.table k.path known in
+    let known = only_read (λ t. HasValue (columns t)) query (View scan.view) s.over c.requires.finds.1 in
+    let known_base = base_of_path columns queries scan.view scan.base k.views k.path in
     let there = place_there bases (g.S.Store.key_columns store) c.requires.keys content scan.base (g.met.S.Store.keyed store) (c.requires.finds.0 scan.base known_base) in
-    let stands = where_stands columns parameters query scan.table s.own s.over s.is_where well in
+    let stands = where_stands columns parameters query (View scan.view) s.own s.over s.is_where well in
     let fitting = tables_fit bases queries columns content user tables (g.met.N.Names.kinds_of_bases names) may.there may.in_domains may.meant (g.met.N.Names.kinds_of_views names) in
     let own = scan.column ∷ [] in
     let wanted = scan.value ∷ [] in
     let few = rows_that_may content scan.base own wanted in
     let short = few_rows (g.S.Store.row_numbers store) content scan.base (g.met.S.Store.rises store) (g.met.S.Store.limited store) in
-    let right = few_right tables columns user queries content scan.base there own wanted few refl short may.meant fitting k.views (k.column ∷ []) k.path k.shown in
-    let read = c.tables_of_scan.ensures tables k.views k.table k.path right in (
+    let right = few_right tables columns user queries content scan.base there own wanted few refl short may.meant fitting (scan.view ∷ k.views) (k.column ∷ []) k.path k.shown in
+    let read = c.tables_of_scan.ensures tables k.views k.path right in (
       read.0,
-      read_alone tables columns user queries content scan.base there own wanted few refl short may.meant fitting parameters values may.inputs k.views k.path s.own (k.column ∷ []) k.shown k.named
-          scan.table k.table known stands query s.inner c.tables_of_scan.result s.over s.is_where s.none s.reads read.1,
+      read_alone tables columns user queries content scan.base there own wanted few refl short may.meant fitting parameters values may.inputs (scan.view ∷ k.views) k.path s.own (k.column ∷ []) k.shown k.named
+          (View scan.view) refl known stands query s.inner c.tables_of_scan.result s.over s.is_where s.none s.reads read.1,
     )
 
 pub returns-in_err-scan : goal.returns-in_err-scan

@@ -21,4 +21,9 @@ returns c =
         given = λ e. c.get_flag-2.ensures.value (one_text-rows found (codes "json") ∙ e);
         other = λ e. c.get_flag-2.ensures.other (one_text-rows found (codes "json") ∙ e);
       };
+      ways = record {
+        none = λ e. c.get_flag-3.ensures.none (one_text-rows found (codes "ways") ∙ e);
+        given = λ e. c.get_flag-3.ensures.value (one_text-rows found (codes "ways") ∙ e);
+        other = λ e. c.get_flag-3.ensures.other (one_text-rows found (codes "ways") ∙ e);
+      };
     }
