@@ -4,11 +4,11 @@ use Rattle.sq_meaning.specs.declared.status.Status.{Status}
 use Rattle.sq_session.specs.Session.{Session}
 use Rattle.sq_session.specs.Step.{is_success}
 use Rattle.sq_perform.specs.declared.action.CallAction.{CallAction}
-use Rattle.sq_show.specs.Cause.{IsCause, status_of}
+use Rattle.sq_cause.specs.Cause.{IsCause, status_of}
 use Rattle.sq_show.specs.CauseWords.{without_ends, words_of}
 use Rattle.sq_show.specs.Notes.{AddsCause, CauseLines}
 use Rattle.sq_show.specs.Words.{IsContinued}
-use Rattle.sq_show.specs.declared.cause.Cause.{Cause}
+use Rattle.sq_cause.specs.declared.cause.Cause.{Cause}
 
 is_not : (b : Bool) → true ≡ not b → b ≡ false
 is_not true e = cc

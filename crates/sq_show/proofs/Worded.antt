@@ -2,7 +2,7 @@
 use Rattle.std.proofs.Common.{◌≡◌, ℕ, List, ◌++◌, append_assoc, ap, codes, Option, Some, None, Result, Ok, Err, IfSome, OnOk, ◌∙◌}
 use Rattle.std.specs.declared.alloc.AllocError.{AllocError}
 use Rattle.sq_show.specs.CauseWords.{behind_name, fault_words, target_words}
-use Rattle.sq_show.specs.declared.cause.TargetCause.{TargetCause}
+use Rattle.sq_cause.specs.declared.cause.TargetCause.{TargetCause}
 
 behind_one : (t : TargetCause) (o : Option (List ℕ)) (a c d : List ℕ) → c ≡ (a ++ codes "parameter ") ++ t.parameter → IfSome o (λ w. d ≡ c ++ w) → IfSome (behind_name t o) (λ known. d ≡ a ++ known)
 behind_one t None a c d e h = tt

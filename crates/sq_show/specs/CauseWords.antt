@@ -2,13 +2,13 @@
 use Rattle.std.specs.Prelude.{ℕ, ◌==◌, if◌then◌else◌, ◌++◌, List, [], ◌∷◌, codes, flat_map, Option, Some, None}
 use Rattle.sq_meaning.specs.declared.status.Status.{Status}
 use Rattle.sq_meaning.specs.declared.status.Status.TheVariants as status
-use Rattle.sq_show.specs.declared.cause.Cause.{Cause}
-use Rattle.sq_show.specs.declared.cause.Cause.TheVariants as cause
-use Rattle.sq_show.specs.declared.cause.NoRowCause.TheVariants as none
-use Rattle.sq_show.specs.declared.cause.SelectCause.TheVariants as select
-use Rattle.sq_show.specs.declared.cause.TargetCause.{TargetCause}
-use Rattle.sq_show.specs.declared.cause.TargetFault.{TargetFault}
-use Rattle.sq_show.specs.declared.cause.TargetFault.TheVariants as fault
+use Rattle.sq_cause.specs.declared.cause.Cause.{Cause}
+use Rattle.sq_cause.specs.declared.cause.Cause.TheVariants as cause
+use Rattle.sq_cause.specs.declared.cause.NoRowCause.TheVariants as none
+use Rattle.sq_cause.specs.declared.cause.SelectCause.TheVariants as select
+use Rattle.sq_cause.specs.declared.cause.TargetCause.{TargetCause}
+use Rattle.sq_cause.specs.declared.cause.TargetFault.{TargetFault}
+use Rattle.sq_cause.specs.declared.cause.TargetFault.TheVariants as fault
 
 -- what a status means
 abbrev pub meaning : Status → List ℕ

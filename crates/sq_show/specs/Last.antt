@@ -2,9 +2,9 @@
 use Rattle.std.specs.Prelude.{◌≡◌, ℕ, List, Option, None, Some, IfSome, is_some, not}
 use Rattle.sq_session.specs.Session.{Session}
 use Rattle.sq_session.specs.Step.{is_success}
-use Rattle.sq_show.specs.Cause.{IsCause, status_of}
+use Rattle.sq_cause.specs.Cause.{IsCause, status_of}
 use Rattle.sq_show.specs.Words.{IsContinued}
-use Rattle.sq_show.specs.declared.cause.Cause.{Cause}
+use Rattle.sq_cause.specs.declared.cause.Cause.{Cause}
 use Rattle.sq_show.specs.declared.last.LastCall.{LastCall}
 
 -- a cause is said on a line, and none is not

@@ -6,9 +6,9 @@ use Rattle.sq_session.specs.Step.{is_success}
 use Rattle.sq_perform.specs.Action.{call_of}
 use Rattle.sq_perform.specs.declared.action.CallAction.{CallAction}
 use Rattle.sq_show.specs.CallWords.{call_words}
-use Rattle.sq_show.specs.Cause.{IsCause, status_of}
+use Rattle.sq_cause.specs.Cause.{IsCause, status_of}
 use Rattle.sq_show.specs.CauseWords.{without_ends, words_of}
-use Rattle.sq_show.specs.declared.cause.Cause.{Cause}
+use Rattle.sq_cause.specs.declared.cause.Cause.{Cause}
 
 -- A line with the words of a cause of the call, which has its status.
 pub record CauseLine (c : CallAction) (s : Session) (st : Status) (line : List ℕ) : Type 0 where

@@ -1,8 +1,8 @@
 //! A constraint that would not hold, in words.
 
-use crate::cause::{Breach, Referring, RowPut};
 use crate::value_words::write_value;
 use sq_bound::{BaseTable, Names, TableBody, TableDesc, TablePlace};
+use sq_cause::{Breach, Referring, RowPut};
 use sq_session::Session;
 use sq_store::{Meter, Store};
 use sq_value::Row;

@@ -4,11 +4,11 @@ ghost use Rattle.std.specs.Prelude.{◌≡◌, ◌++◌, IfSome, OnOk};
 ghost use Rattle.sq_show.specs.CauseWords.{words_of};
 
 use crate::breach_words::{write_column_of, write_put, write_table};
-use crate::cause::{Cause, Clause, ClauseCause, Demand, Given, NoRowCause, RowEnd, ValueCause};
 use crate::cursors::{Stand, stand_of};
 use crate::option_words::only_view;
 use crate::words::{meaning, write_cursor};
 use sq_bound::{Names, TablePlace};
+use sq_cause::{Cause, Clause, ClauseCause, Demand, Given, NoRowCause, RowEnd, ValueCause};
 use sq_session::Session;
 use sq_store::Store;
 use std::alloc::AllocError;

@@ -3,8 +3,8 @@
 ghost use Rattle.std.specs.Prelude.{OnOk};
 ghost use Rattle.sq_show.specs.Last.{TellsWhy};
 
-use crate::told::why;
 use crate::words::write_cause;
+use sq_cause::why;
 use sq_session::{Reply, Session};
 use sq_store::Store;
 use sq_value::Row;

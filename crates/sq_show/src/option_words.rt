@@ -1,9 +1,9 @@
 //! A check option that a row would not meet, in words.
 
 use crate::breach_words::{write_put, write_table};
-use crate::cause::OptionBreach;
 use sq_bound::{Names, TableDesc, TablePlace};
 use sq_catalog::Catalog;
+use sq_cause::OptionBreach;
 use sq_session::Session;
 use sq_store::Store;
 use std::alloc::AllocError;

@@ -1,9 +1,9 @@
 //! Where a query ends with a status, in words.
 
 use crate::breach_words::write_table;
-use crate::cause::QueryCause;
 use crate::words::meaning;
 use sq_bound::{Names, TablePlace};
+use sq_cause::QueryCause;
 use sq_ending::{Clause, row_number};
 use sq_session::Session;
 use sq_store::Store;

@@ -12,9 +12,9 @@ ghost use Rattle.sq_session.specs.Cursors.{IsWhole};
 ghost use Rattle.sq_session.specs.Parameter.{declared};
 ghost use Rattle.sq_session.specs.State.{state_of};
 
-use crate::made::number_meant;
 use sq_bound::{BoundInsert, BoundStatement, ChangeTarget};
 use sq_catalog::Catalog;
+use sq_cause::number_meant;
 use sq_change::{Setting, leaf_under, rows_changed};
 use sq_expression::Fault;
 use sq_module::BoundProcedure;

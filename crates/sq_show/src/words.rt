@@ -5,12 +5,12 @@ ghost use Rattle.sq_show.specs.CauseWords.{fault_words, meaning, target_words, u
 ghost use Rattle.sq_show.specs.Words.{IsContinued};
 
 use crate::breach_words::write_breach;
-use crate::cause::{Cause, CursorCause, SelectCause, TargetCause, TargetFault};
 use crate::clause_words::{
     write_clause, write_no_number, write_no_row, write_row_end, write_value_cause,
 };
 use crate::option_words::write_option;
 use crate::query_words::write_query_cause;
+use sq_cause::{Cause, CursorCause, SelectCause, TargetCause, TargetFault};
 use sq_lex::Name;
 use sq_meaning::Status;
 use sq_session::{Fault, Session};

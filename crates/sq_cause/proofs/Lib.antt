@@ -1,0 +1,10 @@
+pub mod AlwaysFound
+pub mod Breaches
+pub mod Causes
+pub mod CursorFound
+pub mod Finding
+pub mod FirstEnd
+pub mod NullsBefore
+pub mod OfChange
+pub mod OfQueries
+pub mod OfTargets

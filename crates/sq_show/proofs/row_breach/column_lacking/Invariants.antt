@@ -1,5 +1,0 @@
-use Rattle.sq_show.specs.Breach.{LacksNoneBefore}
-use Rattle.sq_show.proofs.row_breach.column_lacking.Given as goal
-
-abbrev pub invariant-loop-column : goal.invariant-loop-column
-invariant-loop-column l = LacksNoneBefore l.table l.row l.column

@@ -1,9 +1,0 @@
-use Rattle.sq_change.specs.Made.{seen_by}
-use Rattle.sq_session.specs.Schemas.{schemas_of}
-use Rattle.sq_show.specs.RowEnd.{AreMet, IsTrueOn}
-use Rattle.sq_show.proofs.row_end.asked_options.Given as goal
-
-abbrev pub invariant-loop-place : goal.invariant-loop-place
-invariant-loop-place g l =
-    let seen = seen_by l.setting.names.now.views (g.S.Store.content_now l.setting.store.now) l.setting.user l.setting.parameters.now in
-    AreMet (IsTrueOn (schemas_of l.setting.names.now) seen l.row) l.conditions l.place
