@@ -1,5 +1,4 @@
 pub mod Bind
-pub mod CommandLine
 pub mod Fault
 pub mod Judged
 pub mod Request

@@ -2,12 +2,12 @@
 use Rattle.std.specs.Prelude.{◌≡◌, ℕ, ⊤, length, Option, Result, Ok, Err}
 use Rattle.sq_perform.specs.declared.refusal.RunFault.{RunFault}
 use Rattle.sq_perform.specs.declared.refusal.RunFault.TheVariants as run
-use Rattle.sqmod.specs.CommandLine.{IsAmong}
-use Rattle.sqmod.specs.declared.command_line.TextsRequest.{TextsRequest}
-use Rattle.sqmod.specs.declared.command_line.Request.{Request}
+use Rattle.sq_words.specs.Task.{IsAmong}
+use Rattle.sq_words.specs.declared.task.Request.{Request}
+use Rattle.sq_words.specs.declared.task.Source.TheVariants.{Schema, Module, Script}
+use Rattle.sq_words.specs.declared.task.TextsRequest.{TextsRequest}
 use Rattle.sqmod.specs.declared.fault.Fault.{Fault}
 use Rattle.sqmod.specs.declared.fault.Fault.TheVariants.{Unread, Refused, Output, NoMemory}
-use Rattle.sqmod.specs.declared.fault.Source.TheVariants.{Schema, Module, Script}
 use Rattle.sqmod.specs.declared.texts.Texts.{Texts}
 
 -- There are as many texts as files.

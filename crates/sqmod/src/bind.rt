@@ -6,7 +6,6 @@ ghost use Rattle.sqmod.specs.Bind.{Binds};
 ghost use Rattle.sqmod.specs.declared.fault.Fault.TheVariants.{NoMemory};
 ghost use Rattle.sqmod.specs.Request.{NamesCheckedFile, NamesOneOf};
 
-use crate::command_line::TextsRequest;
 use crate::fault::Fault;
 use crate::report_checked;
 use crate::request::fault_of;
@@ -16,6 +15,7 @@ use sq_lex::lex;
 use sq_parse::parse_module;
 use sq_perform::check;
 use sq_tree::ModuleText;
+use sq_words::TextsRequest;
 use std::alloc::{AllocError, Global};
 use std::io::{self, Write};
 use std::rt::Files;

@@ -4,8 +4,7 @@ ghost use Rattle.sq_perform.specs.Checked.{AreCheckedTexts};
 ghost use Rattle.sq_perform.specs.Texts.{texts};
 ghost use Rattle.sqmod.specs.Request.{NamesOneOf};
 
-use crate::command_line::{CheckRequest, TextsRequest, USUAL_ROW_NUMBERS};
-use crate::fault::{FAULTY, Fault, REFUSED, Source};
+use crate::fault::{FAULTY, Fault, REFUSED};
 use crate::refusals::{Told, write_refused};
 use crate::remarks::write_checked;
 use crate::request::fault_of;
@@ -14,6 +13,7 @@ use crate::{refuse_for_memory, report_checked, report_of_file};
 use sq_advice::Form;
 use sq_heap::HeapStore;
 use sq_perform::{Checked, Limits, Refusal, RunFault, check, open_session, read_script};
+use sq_words::{CheckRequest, Source, TextsRequest, USUAL_ROW_NUMBERS};
 use std::alloc::Global;
 use std::rt::Files;
 use std::{fs, str};

@@ -1,8 +1,8 @@
 //! The meaning of a status, a refusal or a fault, on standard output.
-use crate::command_line::ExplainRequest;
 use crate::fault::{FAILED, REFUSED};
 use crate::refuse_for_memory;
 use sq_explain::{Entry, all_entries, find_entry, names_of, nearest_names, text_of};
+use sq_words::ExplainRequest;
 use std::alloc::{AllocError, Global};
 use std::io;
 

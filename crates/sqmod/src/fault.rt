@@ -3,6 +3,7 @@ ghost use Rattle.std.specs.Prelude.{◌≡◌};
 ghost use Rattle.sqmod.specs.Fault.{status_of};
 
 use sq_run::Refusal;
+use sq_words::Source;
 
 /// The status if a file is not read, or the output fails.
 pub(crate) const FAILED: u8 = 1;
@@ -15,14 +16,6 @@ pub(crate) const NO_MEMORY: u8 = 3;
 
 /// The status if a procedure or a cursor has a fault.
 pub(crate) const FAULTY: u8 = 4;
-
-/// One of a request's texts, by its index among the texts of its kind.
-#[derive(Clone, Copy)]
-pub(crate) enum Source {
-    Schema(usize),
-    Module(usize),
-    Script,
-}
 
 /// Why a request was not carried out.
 #[derive(Clone, Copy)]

@@ -5,11 +5,12 @@ ghost use Rattle.sq_perform.specs.Texts.{texts};
 ghost use Rattle.sqmod.specs.Judged as spec;
 
 use crate::check::{Checking, check_sources};
-use crate::fault::{Fault, Source};
+use crate::fault::Fault;
 use crate::refusals::{is_of_tokens, write_refusal};
 use crate::texts::Sources;
 use sq_advice::{TextKind, Why, offset_of, pass_over};
 use sq_perform::{Checked, Refusal, RefusalName};
+use sq_words::Source;
 use std::alloc::{AllocError, Global};
 
 /// How many errors are passed over, at most.

@@ -9,7 +9,6 @@ ghost use Rattle.sqmod.specs.Request.{NamesCheckedFile, NamesFile};
 
 mod bind;
 mod check;
-mod command_line;
 mod explain;
 mod fault;
 mod judged;
@@ -20,21 +19,19 @@ mod refusals;
 mod remarks;
 mod request;
 mod shell;
-mod showing;
 mod suite;
 mod texts;
 mod trace;
 
 use bind::status_of_bind;
 use check::status_of_check;
-use clap::error::ErrorKind;
-use command_line::{Request, Task, TextsRequest, read_task};
 use explain::{status_of_explain, status_of_print};
 use fault::{Fault, NO_MEMORY, REFUSED};
 use new::status_of_new;
 use shell::{Typed, status_of_shell};
 use sq_bindings::Host;
 use sq_store::MOST_ROW_NUMBERS;
+use sq_words::{Answer, Request, Task, TextsRequest, read_task};
 use std::process::ExitCode;
 use std::rt::{Env, Files};
 use std::{env, io};
@@ -75,25 +72,16 @@ fn status_of_words<R: Files + Print + Eprint + Input + Typed + AllocGlobal + Clo
         Ok(Task::BindC(request)) => status_of_bind(rt, Host::C, &request),
         Ok(Task::BindCobol(request)) => status_of_bind(rt, Host::Cobol, &request),
         Ok(Task::New(request)) => status_of_new(rt, request),
-        Err(error) => status_of_answer(rt, words, &error),
+        Err(answer) => status_of_answer(rt, words, &answer),
     }
 }
 
-/// Prints the answer of `clap` in place of a task: help or the version, if they are asked for, or a refusal.
-fn status_of_answer<R: Print + Eprint>(rt: &R, words: &[String], error: &clap::Error) -> u8 {
-    if is_asked_for(words, error.kind()) {
-        return status_of_print(rt, rt.print(error));
+/// Prints what is said in place of a task: help or the version, if they are asked for, or a refusal.
+fn status_of_answer<R: Print + Eprint>(rt: &R, words: &[String], answer: &Answer) -> u8 {
+    if answer.is_asked_for(words) {
+        return status_of_print(rt, rt.print(answer));
     }
-    refuse_words(rt, error)
-}
-
-/// Whether the words ask for the version, or by `sqmod help` for help.
-fn is_asked_for(words: &[String], kind: ErrorKind) -> bool {
-    match kind {
-        ErrorKind::DisplayVersion => true,
-        ErrorKind::DisplayHelp => words.get(1).is_some_and(|word| word.as_str() == "help"),
-        _ => false,
-    }
+    refuse_words(rt, answer)
 }
 
 fn status_of_request<R: Files + Print + Eprint + AllocGlobal>(rt: &R, request: &Request<'_>) -> u8
@@ -105,12 +93,12 @@ fn status_of_request<R: Files + Print + Eprint + AllocGlobal>(rt: &R, request: &
     }
 }
 
-/// Says what `clap` refused. If it ran out of memory, no item was done.
-fn refuse_words<R: Eprint>(rt: &R, error: &clap::Error) -> u8 {
-    if error.kind() == ErrorKind::OutOfMemory {
+/// Says why the words are refused. If memory ran out, no item was done.
+fn refuse_words<R: Eprint>(rt: &R, answer: &Answer) -> u8 {
+    if answer.is_want_of_memory() {
         return refuse_for_memory(rt);
     }
-    let _ = rt.eprint(error);
+    let _ = rt.eprint(answer);
     REFUSED
 }
 

@@ -1,7 +1,7 @@
 //! `sqmod new`: a folder with a schema, a module, a script and its report to begin with.
 use crate::explain::status_of_print;
 use crate::fault::FAILED;
-use crate::showing::NewRequest;
+use sq_words::NewRequest;
 use std::fs::{self, File};
 use std::io::{self, Write};
 use std::rt::Files;

@@ -1,8 +1,6 @@
 //! The refusals of texts that are checked, each with the token at its place, those that may be there, and a
 //! hint.
 use crate::check::Checking;
-use crate::command_line::TextsRequest;
-use crate::fault::Source;
 use crate::judged::{Judged, judge};
 use crate::meanings::meaning_of;
 use crate::remarks::{module_of, schemas_of, write_checked};
@@ -12,6 +10,7 @@ use sq_advice::{
     write_item,
 };
 use sq_perform::{ModuleFault, Refusal, RefusalName};
+use sq_words::{Source, TextsRequest};
 use std::alloc::{AllocError, Global};
 
 /// The lines about texts of which one is refused.

@@ -1,6 +1,5 @@
 //! Remarks on texts that are not refused: faults, whether cursors and views are updatable, and warnings.
 use crate::check::Checking;
-use crate::command_line::USUAL_ROW_NUMBERS;
 use crate::meanings::meaning_of;
 use crate::texts::Sources;
 use sq_advice::{
@@ -10,6 +9,7 @@ use sq_heap::HeapStore;
 use sq_lex::Name;
 use sq_perform::{Checked, Limits, Note, Remark, open_session};
 use sq_show::{Session, write_ways};
+use sq_words::USUAL_ROW_NUMBERS;
 use std::alloc::{AllocError, Global};
 use std::str;
 

@@ -3,12 +3,12 @@ ghost use Rattle.std.specs.Prelude.{◌≡◌, ◌≤◌, length, IfErr};
 ghost use Rattle.sqmod.specs.declared.fault.Fault.TheVariants.{Output};
 ghost use Rattle.sqmod.specs.Request as spec;
 
-use crate::command_line::Request;
-use crate::fault::{Fault, Source};
+use crate::fault::Fault;
 use crate::texts::{Texts, read_texts};
 use sq_heap::HeapStore;
 use sq_run::{Limits, OutOf, RunFault, run};
 use sq_store::MOST_ROW_NUMBERS;
+use sq_words::{Request, Source};
 use std::alloc::Global;
 use std::io::{self, BufWriter, Write};
 use std::rt::Files;

@@ -5,9 +5,8 @@ ghost use Rattle.sqmod.specs.Request.{NamesCheckedFile, NamesOneOf};
 mod command;
 mod talk;
 
-use crate::fault::{Fault, REFUSED, Source};
+use crate::fault::{Fault, REFUSED};
 use crate::request::fault_of;
-use crate::showing::ShellRequest;
 use crate::texts::{Sources, read_sources};
 use crate::{report_checked, report_of_file};
 use command::{Command, HELP, Listing, command_of};
@@ -18,6 +17,7 @@ use sq_show::{
     Place, Shell, write_cursors, write_procedures, write_procedures_of, write_tables, write_view,
 };
 use sq_store::MOST_ROW_NUMBERS;
+use sq_words::{ShellRequest, Source};
 use std::alloc::{AllocError, Global};
 use std::fs;
 use std::io::{self, BufRead, BufReader, IsTerminal};

@@ -7,12 +7,10 @@ mod select;
 mod trial;
 mod update;
 
-use crate::command_line::TestRequest;
 use crate::fault::{FAILED, NO_MEMORY, REFUSED};
 use select::{Case, select_cases};
-use sq_suite::{
-    matches, write_case, write_counts, write_end, write_plan, write_result, write_start,
-};
+use sq_suite::{write_case, write_counts, write_end, write_plan, write_result, write_start};
+use sq_words::TestRequest;
 use std::alloc::{AllocError, AllocFailed};
 use std::rt::Files;
 use std::{fmt, fs};
@@ -85,7 +83,7 @@ pub(crate) fn status_of_test<R: Files + Print + Eprint + AllocGlobal + Clone + D
 /// Says why the cases are not all tried: in the words of TAP, if the report is in these.
 fn report_stop<R: Print + Eprint>(rt: &R, request: &TestRequest<'_>, stop: Stop<'_>) -> u8 {
     let status = stop.status();
-    let _ = if request.prints_tap() && status == FAILED {
+    let _ = if prints_tap(request) && status == FAILED {
         println!(rt; "Bail out! {stop}")
     } else {
         eprintln!(rt; "sqmod: {stop}")
@@ -106,20 +104,9 @@ fn test<'a, R: Files + Print + AllocGlobal + Clone + Drop>(
     Ok(if differ == 0 { 0 } else { FAILED })
 }
 
-impl TestRequest<'_> {
-    /// Whether standard output is for the words of TAP.
-    fn prints_tap(&self) -> bool {
-        !self.list && self.junit != Some("-")
-    }
-
-    /// Whether a case of this name is asked for.
-    fn asks_for(&self, name: &str) -> bool {
-        self.filters.is_empty()
-            || self
-                .filters
-                .iter()
-                .any(|filter| matches(filter.as_bytes(), name.as_bytes()))
-    }
+/// Whether standard output is for the words of TAP.
+fn prints_tap(request: &TestRequest<'_>) -> bool {
+    !request.list && request.junit != Some("-")
 }
 
 fn print_names<'a, R: Print>(rt: &R, cases: &[Case]) -> Result<(), Stop<'a>> {
@@ -192,7 +179,7 @@ fn print_tap<'a, R: Print>(
     request: &TestRequest<'a>,
     text: &mut Vec<u8>,
 ) -> Result<(), Stop<'a>> {
-    let written = if request.prints_tap() {
+    let written = if prints_tap(request) {
         rt.write_all(text.as_slice())
     } else {
         Ok(())

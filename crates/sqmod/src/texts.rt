@@ -2,8 +2,8 @@
 ghost use Rattle.std.specs.Prelude.{◌≡◌, ◌<◌, ◌+◌, length, IfErr, IfOk, OnOk};
 ghost use Rattle.sqmod.specs.Request.{AreTexts, NamesFile, NamesOneOf};
 
-use crate::command_line::Request;
-use crate::fault::{Fault, Source};
+use crate::fault::Fault;
+use sq_words::{Request, Source};
 use std::rt::Files;
 use std::{fs, io};
 

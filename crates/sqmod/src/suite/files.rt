@@ -1,7 +1,8 @@
 //! The files of a case.
-use crate::fault::{Fault, Source};
+use crate::fault::Fault;
 use crate::suite::cases::{Listing, SETUP, path_in};
 use sq_suite::{Kind, kind_of};
+use sq_words::Source;
 use std::alloc::{AllocError, Global};
 use std::io::ErrorKind;
 use std::rt::Files;

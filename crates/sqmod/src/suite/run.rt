@@ -2,8 +2,7 @@
 ghost use Rattle.std.specs.Prelude.{◌≡◌, ◌≤◌, OnOk, drop};
 
 use crate::check::{Checking, status_of_texts};
-use crate::command_line::TextsRequest;
-use crate::fault::{Fault, Source};
+use crate::fault::Fault;
 use crate::kept::Kept;
 use crate::report_of_file;
 use crate::request::run_texts;
@@ -13,6 +12,7 @@ use sq_advice::Form;
 use sq_run::{Limits, Refusal};
 use sq_store::MOST_ROW_NUMBERS;
 use sq_suite::Outcome;
+use sq_words::{Source, TextsRequest};
 use std::alloc::{AllocError, Global};
 use std::rt::Files;
 use std::{fs, io};

@@ -1,8 +1,8 @@
 //! Which cases are asked for.
-use crate::command_line::TestRequest;
 use crate::suite::Stop;
 use crate::suite::cases::cases_below;
-use sq_suite::Shard;
+use sq_suite::{Shard, matches};
+use sq_words::TestRequest;
 use std::alloc::AllocError;
 use std::io::ErrorKind;
 use std::rt::Files;
@@ -54,7 +54,7 @@ fn add_cases<'a, R: Files + AllocGlobal + Clone + Drop>(
         return Err(Stop::NoCase(folder));
     }
     for folder in found {
-        if request.asks_for(folder.as_str()) {
+        if asks_for(request, folder.as_str()) {
             cases.push(Case {
                 folder,
                 root: root.len(),
@@ -62,6 +62,15 @@ fn add_cases<'a, R: Files + AllocGlobal + Clone + Drop>(
         }
     }
     Ok(())
+}
+
+/// Whether a case of this name is asked for.
+fn asks_for(request: &TestRequest<'_>, name: &str) -> bool {
+    request.filters.is_empty()
+        || request
+            .filters
+            .iter()
+            .any(|filter| matches(filter.as_bytes(), name.as_bytes()))
 }
 
 fn stop_for_unread(folder: &str, kind: ErrorKind) -> Stop<'_> {

@@ -1,7 +1,6 @@
 //! Trials of cases: whether each has the outcome that it wants.
 ghost use Rattle.std.specs.Prelude.{◌≤◌, IfOk, IfSome};
 
-use crate::command_line::USUAL_ROW_NUMBERS;
 use crate::suite::Stop;
 use crate::suite::files::{CaseFiles, read_in};
 use crate::suite::run::{outcome_of_run, text_of_check};
@@ -10,6 +9,7 @@ use crate::suite::update::{begin_report, update_check, update_outcome};
 use sq_run::Limits;
 use sq_store::MOST_ROW_NUMBERS;
 use sq_suite::{Outcome, Unclear, wanted_outcome, write_block, write_differences, write_part};
+use sq_words::USUAL_ROW_NUMBERS;
 use std::alloc::AllocError;
 use std::io::ErrorKind;
 use std::rt::Files;
