@@ -1,5 +1,5 @@
 -- The command `sqmod` and its subcommands: what a command line may be.
-use Rattle.std.specs.Prelude.{List, codes, Some, true}
+use Rattle.std.specs.Prelude.{codes, Some, true}
 use Rattle.clap.specs.Simple.{on_top}
 use Rattle.clap.specs.Words.{App, Rule, Text, new_app, new_rule, with_rule, with_subcommand}
 use Rattle.clap.specs.declared.builder.action.ArgAction.TheVariants.{Append, Set, SetTrue}
