@@ -3,6 +3,7 @@ use Rattle.std.proofs.Common.{true, ◌≡◌, ◌&&◌, ◌+◌, ◌<◌, ℕ, 
 use Rattle.std.specs.Cmp.Lexicographic.{pointwise}
 use Rattle.std.specs.List.{position_or_len}
 use Rattle.std.specs.Map.{keys_of, values_of}
+use Rattle.std.specs.Option.{option_map}
 use Rattle.sq_lex.specs.declared.name.Name.{Name}
 use Rattle.sq_value.specs.declared.value.Value.{Value}
 use Rattle.sq_tree.specs.declared.module.ModuleText.{ModuleText}
@@ -23,7 +24,7 @@ use Rattle.sq_session.specs.Cursors.{are_over}
 use Rattle.sq_session.specs.Kind.{fault_at, fits_at, kind_at, kind_of}
 use Rattle.sq_session.specs.Parameter.{declared}
 use Rattle.sq_session.specs.Schemas.{Schemas, columns_of, schemas_of}
-use Rattle.sq_session.specs.Session.{IsOfModules, Session, is_procedure, names_of, procedure_number, procedures_of}
+use Rattle.sq_session.specs.Session.{IsOfModules, Session, is_procedure, name_at, names_of, procedure_number, procedures_of}
 
 abbrev Entry : Type 0
 Entry = ProcedureName × BoundProcedure
@@ -72,6 +73,12 @@ pub entry_of : (es : List Entry) (n : ℕ) (p : BoundProcedure) → slice_get (v
 entry_of [] n p h = cc
 entry_of (e ∷ es) zero p h = let same : e.1 ≡ p = cc in (e.0, ap (λ (q : BoundProcedure). Some (e.0, q)) same)
 entry_of (e ∷ es) (suc n) p h = entry_of es n p h
+
+-- A procedure has the name of its entry.
+pub name_is : (cs : List DeclaredCursor) (es : List Entry) (n : ℕ) → name_at (procedures_of cs es) n ≡ option_map (λ e. e.0) (slice_get es n)
+name_is cs [] n = refl
+name_is cs (x ∷ es) zero = refl
+name_is cs (x ∷ es) (suc n) = name_is cs es n
 
 -- the names of a program's procedures are its keys
 pub names_are : (cs : List DeclaredCursor) (es : List Entry) → names_of (procedures_of cs es) ≡ keys_of es
