@@ -7,8 +7,8 @@ use Rattle.sq_session.specs.Session.{name_at}
 use Rattle.sq_session.proofs.Calls.Named.{name_is}
 use Rattle.sq_session.proofs.session.Session.procedure_name.Goals as goal
 
-pub returns-in_ok-name : goal.returns-in_ok-name
-returns-in_ok-name g c =
+pub returns : goal.returns-in_ok-name
+returns g c =
     let entries = c.self.inside.program.procedures.entries in
     ap (option_map (λ (e : ProcedureName × BoundProcedure). e.0)) c.in_ok-name.ensures.entry
     ∙ sym (name_is c.self.inside.program.cursors.items entries c.args.procedure)
