@@ -3,9 +3,14 @@ use Rattle.std.proofs.Common.{◌≡◌, ℕ, ◌+◌, ◌<◌, ◌^◌, min, Bo
 use Rattle.std.proofs.lemmas.List.{map-append, take_more}
 use Rattle.std.proofs.lemmas.List.Elements.{All-append, All-cons, All-nil}
 use Rattle.std.proofs.lemmas.List.Folds.{length-flat_map-take}
+use Rattle.std.proofs.lemmas.Bool.{and_parts}
 use Rattle.std.proofs.lemmas.Option.{slice_get_read}
+use Rattle.std.specs.Cmp.Lexicographic.{pointwise, same_text}
+use Rattle.std.specs.Option.{option_map}
+use Rattle.std.specs.Prelude.{nat_eq, unwrap_or}
 use Rattle.sq_lex.specs.declared.lexeme.Lexeme.TheVariants as lexeme
 use Rattle.sq_lex.specs.declared.symbol.Symbol.TheVariants as symbol
+use Rattle.sq_lex.specs.declared.name.Name.{Name}
 use Rattle.sq_lex.specs.declared.token.Token.{Token}
 use Rattle.sq_lex.specs.Reading.{reading}
 use Rattle.sq_value.specs.declared.value.Value.{Value}
@@ -17,14 +22,16 @@ use Rattle.sq_tree.specs.declared.script.ScriptText.{ScriptText}
 use Rattle.sq_meaning.specs.Report.{Bytes}
 use Rattle.sq_meaning.specs.Run.{item_of_script}
 use Rattle.sq_meaning.specs.Script.{argument_values}
+use Rattle.sq_binding.proofs.Schemas.Names.{position_at}
 use Rattle.sq_catalog.specs.Catalog.{table_number}
 use Rattle.sq_session.specs.Kind.{Procedure, fits_at}
-use Rattle.sq_session.specs.Session.{Session, procedure_number}
+use Rattle.sq_session.specs.Session.{Session, is_procedure, name_at, name_of as procedure_name, procedure_number}
 use Rattle.sq_perform.specs.Fault.{IsItemFault, IsOfItem, IsPlacedIfAny, IsRefusalIfAny, IsScriptRefusal, IsUntaken, ItemFault, TextFault}
-use Rattle.sq_perform.specs.Action.{item_of}
+use Rattle.sq_perform.specs.Action.{item_of, name_of}
 use Rattle.sq_perform.specs.Asked.{AreActions}
 use Rattle.sq_perform.specs.Steps.{IsPrepared}
 use Rattle.sq_perform.specs.declared.action.Action.{Action}
+use Rattle.sq_perform.specs.declared.action.CallAction.{CallAction}
 use Rattle.sq_perform.specs.Items.{IsTaken, call_fault, item_fault, table_fault}
 use Rattle.sq_perform.specs.Refused.{IsFirstItem, IsRefusedScript}
 use Rattle.sq_perform.specs.Read.{refusal_of}
@@ -48,6 +55,23 @@ call_of_known procedures values handed found number answer e same fits =
     let fit : fits_at procedures number handed ≡ answer = ap (fits_at procedures number) (sym same) ∙ fits in
     here ∙ ap if_fits fit
 
+-- the procedure of the number that a name has has that name
+pub number_named : (procedures : List Procedure) («module» name : Name) (number : ℕ) → procedure_number procedures «module» name ≡ Some number
+    → name_at procedures number ≡ Some (record { «module» = «module»; name = name })
+number_named procedures «module» name number found =
+    let there = position_at (is_procedure «module» name) procedures number found in
+    let parts = and_parts (pointwise nat_eq «module» (there.0).«module») (pointwise nat_eq name (there.0).name) there.2 in
+    let first = sym (same_text «module» (there.0).«module» (sym parts.0)) in
+    let second = sym (same_text name (there.0).name (sym parts.1)) in
+    ap (option_map procedure_name) there.1 ∙ (λ i. Some (record { «module» = first i; name = second i }))
+
+-- so a call of it has that name
+pub call_named : (procedures : List Procedure) («module» name : Name) (number : ℕ) (c : CallAction) → procedure_number procedures «module» name ≡ Some number → c.procedure ≡ number
+    → name_of procedures c ≡ record { «module» = «module»; name = name }
+call_named procedures «module» name number c found is =
+    ap (λ n. unwrap_or (name_at procedures n) (record { «module» = []; name = [] })) is
+    ∙ ap (λ o. unwrap_or o (record { «module» = []; name = [] })) (number_named procedures «module» name number found)
+
 -- ---- all items
 
 item_at : (items : List ScriptItem) (i : ℕ) (x : ScriptItem) → i < length items → x ≡ get_or items i x → take (i + 1) items ≡ take i items ++ x ∷ []
@@ -58,10 +82,10 @@ pub taken_more : (s : Session) (items : List ScriptItem) (i : ℕ) (x : ScriptIt
 taken_more s items i x lt e before here =
     subst (All (IsTaken s)) (sym (item_at items i x lt e)) (All-append (IsTaken s) (take i items) (x ∷ []) before (All-cons (IsTaken s) x [] here (All-nil (IsTaken s))))
 
-pub actions_more : (items : List ScriptItem) (i : ℕ) (x : ScriptItem) (actions : List Action) (a : Action) → i < length items → x ≡ get_or items i x
-    → AreActions (take i items) actions → item_of a ≡ item_of_script x → AreActions (take (i + 1) items) (actions ++ a ∷ [])
-actions_more items i x actions a lt e are same =
-    map-append item_of actions (a ∷ []) ∙ ap₂ (λ these one. these ++ one ∷ []) are same ∙ sym (map-append item_of_script (take i items) (x ∷ []))
+pub actions_more : (procedures : List Procedure) (items : List ScriptItem) (i : ℕ) (x : ScriptItem) (actions : List Action) (a : Action) → i < length items → x ≡ get_or items i x
+    → AreActions procedures (take i items) actions → item_of procedures a ≡ item_of_script x → AreActions procedures (take (i + 1) items) (actions ++ a ∷ [])
+actions_more procedures items i x actions a lt e are same =
+    map-append (item_of procedures) actions (a ∷ []) ∙ ap₂ (λ these one. these ++ one ∷ []) are same ∙ sym (map-append item_of_script (take i items) (x ∷ []))
     ∙ ap (map item_of_script) (sym (item_at items i x lt e))
 
 pub prepared_more : (s : Session) (actions : List Action) (a : Action) → All (IsPrepared s) actions → IsPrepared s a → All (IsPrepared s) (actions ++ a ∷ [])

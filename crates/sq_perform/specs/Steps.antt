@@ -10,7 +10,7 @@ use Rattle.sq_session.specs.Session.{Session, procedure_number}
 use Rattle.sq_session.specs.Step.{MayCall}
 use Rattle.sq_session.specs.declared.reply.Output.{Output}
 use Rattle.sq_session.specs.declared.reply.Reply.{Reply}
-use Rattle.sq_perform.specs.Action.{call_of, table_of}
+use Rattle.sq_perform.specs.Action.{call_of, name_of, table_of}
 use Rattle.sq_perform.specs.declared.action.Action.{Action}
 use Rattle.sq_perform.specs.declared.action.Action.TheVariants.{Call, Show}
 use Rattle.sq_perform.specs.declared.action.CallAction.{CallAction}
@@ -22,10 +22,11 @@ told_output o = record { name = o.name; value = o.value }
 abbrev pub told : Reply → MachineReply
 told r = record { status = r.status; outputs = map told_output r.outputs }
 
--- the procedure or the base table is the session's of that name, and the procedure takes the values
+-- The procedure is the session's of its name, and takes the values; the base table is the session's of that name.
 abbrev pub IsPrepared : Session → Action → Type 0
 IsPrepared s (Call c) =
-    (procedure_number s.procedures c.«module» c.name ≡ Some c.procedure)
+    (procedure_number s.procedures (name_of s.procedures c).«module» (name_of s.procedures c).name
+    ≡ Some c.procedure)
     × (fits_at s.procedures c.procedure c.values ≡ true)
 IsPrepared s (Show x) = table_number s.tables x.user x.name ≡ Some x.table
 
@@ -41,7 +42,7 @@ pub record Answered (s : Session) (c : CallAction) (reply : Reply) (t : Session)
 -- An item's lines, and the session behind it: a call is answered with the reply that its line tells, and the table of that name is shown as it is.
 abbrev pub Step : Action → Session → Bytes → Session → Type 0
 Step (Call c) s lines t =
-    (reply : Reply) × Answered s c reply t × (lines ≡ call_line (call_of c) (told reply))
+    (reply : Reply) × Answered s c reply t × (lines ≡ call_line (call_of s.procedures c) (told reply))
 Step (Show x) s lines t =
     IsPrepared s (Show x) × (t ≡ s) × (lines ≡ table_lines (table_of x) (table_at s.state.tables x.table))
 

@@ -1,6 +1,12 @@
 //! What a script asks for.
+ghost use Rattle.std.specs.Prelude.{◌≡◌, true};
+ghost use Rattle.sq_session.specs.Kind.{fits_at};
+ghost use Rattle.sq_perform.specs.Action.{name_of};
+
 use sq_items::Items;
 use sq_lex::Name;
+use sq_session::{ProcedureName, Session};
+use sq_store::Store;
 use sq_value::Value;
 
 /// A script item whose names are looked up and whose values are read.
@@ -10,13 +16,24 @@ pub enum Action {
     Show(ShowAction),
 }
 
-/// A call. `procedure` is the number of the procedure in the session.
+/// A call. `procedure` is the number of the procedure in the session, which has its name.
 #[derive(Debug, Drop)]
 pub struct CallAction {
-    pub module: Name,
-    pub name: Name,
     pub procedure: usize,
     pub values: Items<Value>,
+}
+
+impl CallAction {
+    /// The name of the procedure that is called.
+    pub fn name<S: Store>(&self, session: &Session<S>) -> ProcedureName
+        requires { fits_at session.now.procedures self.now.procedure self.now.values ≡ true }
+        ensures { result ≡ name_of session.now.procedures self.now }
+    {
+        match session.procedure_name(self.procedure) {
+            Some(name) => name,
+            None => unreachable!(),
+        }
+    }
 }
 
 /// A request to show the base table at the place `table`.

@@ -30,7 +30,7 @@ pub(crate) fn action_of<S: Store>(
     session: &Session<S>,
     item: &ScriptItem,
 ) -> Result<Action, ItemFault>
-    ensures action { IfOk result (λ action. item_of action ≡ item_of_script item.now) }
+    ensures action { IfOk result (λ action. item_of session.now.procedures action ≡ item_of_script item.now) }
     ensures prepared { IfOk result (IsPrepared session.now) }
     ensures taken { IfOk result (λ _. IsTaken session.now item.now) }
     ensures refused { IfErr result (IsItemFault (item_fault session.now item.now)) }
@@ -55,7 +55,8 @@ fn find_call<S: Store>(
     arguments: &Arguments,
 ) -> Result<Action, ItemFault>
     ensures action { IfOk result
-        (λ action. item_of action ≡ item_of_script (script.Call «module» name arguments.now)) }
+        (λ action. item_of session.now.procedures action
+        ≡ item_of_script (script.Call «module» name arguments.now)) }
     ensures prepared { IfOk result (IsPrepared session.now) }
     ensures taken { IfOk result (λ _. IsTaken session.now (script.Call «module» name arguments.now)) }
     ensures refused { IfErr result
@@ -68,17 +69,13 @@ fn find_call<S: Store>(
     if !session.fits(procedure, values.as_slice()) {
         return Err(ItemFault::Refused(RefusalName::BadArguments));
     }
-    Ok(Action::Call(CallAction {
-        module,
-        name,
-        procedure,
-        values,
-    }))
+    Ok(Action::Call(CallAction { procedure, values }))
 }
 
 /// An item TABLE with its table looked up.
 fn find_table<S: Store>(session: &Session<S>, user: Name, name: Name) -> Result<Action, ItemFault>
-    ensures action { IfOk result (λ action. item_of action ≡ item_of_script (script.Table user name)) }
+    ensures action { IfOk result
+        (λ action. item_of session.now.procedures action ≡ item_of_script (script.Table user name)) }
     ensures prepared { IfOk result (IsPrepared session.now) }
     ensures taken { IfOk result (λ _. IsTaken session.now (script.Table user name)) }
     ensures refused { IfErr result (IsItemFault (item_fault session.now (script.Table user name))) }

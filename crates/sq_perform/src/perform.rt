@@ -123,7 +123,7 @@ pub fn perform<S: Store>(
     match action {
         Action::Call(call) => {
             let reply = session.call(alloc, call.procedure, call.values.as_slice())?;
-            write_call(alloc, call, &reply, lines)
+            write_call(alloc, session, call, &reply, lines)
         }
         Action::Show(shown) => write_table(alloc, session, shown, lines),
     }

@@ -1,10 +1,11 @@
 //! The lines of the report.
-ghost use Rattle.std.specs.Prelude.{◌≡◌, ◌++◌, codes, decimal, map, OnOk, Some};
+ghost use Rattle.std.specs.Prelude.{◌≡◌, ◌++◌, codes, decimal, map, true, OnOk, Some};
 ghost use Rattle.std.specs.List.{flat_map};
 ghost use Rattle.sq_value.specs.Spelling.{written};
 ghost use Rattle.sq_store.specs.Content.{table_at};
 ghost use Rattle.sq_catalog.specs.Catalog.{table_number};
 ghost use Rattle.sq_meaning.specs.Report as report;
+ghost use Rattle.sq_session.specs.Kind.{fits_at};
 ghost use Rattle.sq_perform.specs.Action.{call_of, table_of};
 ghost use Rattle.sq_perform.specs.Steps.{told, told_output};
 
@@ -77,16 +78,19 @@ fn write_names(first: Name, second: Name, line: &mut Vec<u8>) -> Result<(), Allo
 }
 
 /// Adds the line of a call.
-pub fn write_call(
+pub fn write_call<S: Store>(
     alloc: Global,
+    session: &Session<S>,
     call: &CallAction,
     reply: &Reply,
     line: &mut Vec<u8>,
 ) -> Result<(), AllocError>
-    ensures { OnOk result
-        (line.new.items ≡ line.old.items ++ report.call_line (call_of call.now) (told reply.now)) }
+    requires { fits_at session.now.procedures call.now.procedure call.now.values ≡ true }
+    ensures { OnOk result (line.new.items ≡ line.old.items
+        ++ report.call_line (call_of session.now.procedures call.now) (told reply.now)) }
 {
-    write_names(call.module, call.name, line)?;
+    let name = call.name(session);
+    write_names(name.module, name.name, line)?;
     write_status(alloc, reply.status, line)?;
     write_outputs(alloc, reply.outputs.as_slice(), line)?;
     line.push(b'\n')?;

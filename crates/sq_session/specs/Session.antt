@@ -1,5 +1,5 @@
 -- A session: its procedures, and what they work on.
-use Rattle.std.specs.Prelude.{◌≡◌, ℕ, Bool, true, ◌&&◌, List, map, nat_eq, position, Option}
+use Rattle.std.specs.Prelude.{◌≡◌, ℕ, Bool, true, ◌&&◌, List, map, nat_eq, position, slice_get, Option}
 use Rattle.std.specs.Cmp.Lexicographic.{pointwise}
 use Rattle.std.specs.Option.{option_map}
 use Rattle.std.specs.Result.{result_map_both}
@@ -87,6 +87,10 @@ name_of p = record { «module» = p.«module»; name = p.name }
 
 abbrev pub names_of : List Procedure → List ProcedureName
 names_of procedures = map name_of procedures
+
+-- the name of the procedure with this number, if there is one
+abbrev pub name_at : List Procedure → ℕ → Option ProcedureName
+name_at procedures number = option_map name_of (slice_get procedures number)
 
 -- The procedures of a session are those of a program that is bound from these modules, where the names of tables and views mean this
 -- (12.1 and 12.3), as the definitions compute it, the faults included. It is well formed over the session's tables and views, the session

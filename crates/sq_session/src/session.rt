@@ -16,7 +16,7 @@ ghost use Rattle.sq_module.specs.Program.{FitsProgram, ProgramIsWellFormed, decl
 ghost use Rattle.sq_module.specs.Computed.{IsProgramOf};
 ghost use Rattle.sq_module.specs.Written.{IsOfTexts};
 ghost use Rattle.sq_session.specs.Schemas.{schemas_of};
-ghost use Rattle.sq_session.specs.Session.{IsOfModules, MayStart, SessionIsWhole, names_of, procedure_number, procedures_of, rows_named};
+ghost use Rattle.sq_session.specs.Session.{IsOfModules, MayStart, SessionIsWhole, name_at, names_of, procedure_number, procedures_of, rows_named};
 ghost use Rattle.sq_session.specs.State.{AreClosed, state_of};
 ghost use Rattle.sq_session.specs.Step.{MayCall, is_success};
 
@@ -170,6 +170,14 @@ impl<S: Store> Session<S> {
     {
         let name = ProcedureName { module, name };
         self.program.procedures.get_index_of(&name)
+    }
+
+    /// The name of the procedure with this number.
+    pub fn procedure_name(&self, procedure: usize) -> Option<ProcedureName>
+        ensures { result ≡ name_at self.now.procedures procedure }
+    {
+        let (name, _) = self.program.procedures.get_index(procedure)?;
+        Some(*name)
     }
 
     /// The fault for which each call of a procedure answers 42000, if its statement has one.

@@ -35,4 +35,4 @@ pub record Notes (c : CallAction) (s : Session) (st : Status) (notes : List ℕ)
   pub causes : List ℕ
   pub rest : List ℕ
   pub cause : CauseLines (is_success st) c s st causes
-  pub are : notes ≡ (call_words (call_of c) ++ codes "\n") ++ causes ++ rest
+  pub are : notes ≡ (call_words (call_of s.procedures c) ++ codes "\n") ++ causes ++ rest

@@ -43,7 +43,7 @@ pub record ToldCall (c : CallAction) (s : Session) (lines : Bytes) (t : Session)
   pub answered : Answered s c reply t
   pub notes : Bytes
   pub say : Notes c t reply.status notes
-  pub written : lines ≡ call_line (call_of c) (told reply) ++ marked true notes
+  pub written : lines ≡ call_line (call_of s.procedures c) (told reply) ++ marked true notes
   pub fails_so : failed ≡ fails reply.status
 
 -- What is written of an action, and whether it is a call that failed. A table is shown without notes.

@@ -1,25 +1,28 @@
 //! A call, as a script writes it.
 ghost use Rattle.std.specs.Prelude.{◌≡◌, ◌++◌, OnOk, codes, flat_map};
 ghost use Rattle.sq_show.specs.CallWords as spec;
-ghost use Rattle.sq_perform.specs.Action.{call_of};
+ghost use Rattle.sq_perform.specs.Action.{named_call};
 
-use sq_perform::{CallAction, write_value};
+use sq_perform::write_value;
+use sq_session::ProcedureName;
 use sq_value::Value;
 use std::alloc::{AllocError, Global};
 
-/// Adds a call as a script writes it, with `*` for a value that is not given.
+/// Adds a call of a procedure with these values as a script writes it, with `*` for a value that is not given.
 pub(crate) fn push_call(
     alloc: Global,
-    call: &CallAction,
+    procedure: ProcedureName,
+    values: &[Value],
     notes: &mut Vec<u8>,
 ) -> Result<(), AllocError>
-    ensures { OnOk result (notes.new.items ≡ notes.old.items ++ spec.call_words (call_of call.now)) }
+    ensures { OnOk result (notes.new.items ≡ notes.old.items
+        ++ spec.call_words (named_call procedure values.now)) }
 {
     notes.extend_from_slice(b"CALL ")?;
-    notes.extend_from_slice(call.module.codes())?;
+    notes.extend_from_slice(procedure.module.codes())?;
     notes.push(b'.')?;
-    notes.extend_from_slice(call.name.codes())?;
-    push_arguments(alloc, call.values.as_slice(), notes)
+    notes.extend_from_slice(procedure.name.codes())?;
+    push_arguments(alloc, values, notes)
 }
 
 /// Adds the values of a call in brackets, if there are any.

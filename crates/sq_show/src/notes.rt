@@ -1,6 +1,7 @@
 //! What is to be said of a call.
 
-ghost use Rattle.std.specs.Prelude.{◌≡◌, [], IfOk, OnOk};
+ghost use Rattle.std.specs.Prelude.{◌≡◌, [], true, IfOk, OnOk};
+ghost use Rattle.sq_session.specs.Kind.{fits_at};
 ghost use Rattle.sq_show.specs.Notes.{AddsCause, Notes};
 
 use crate::call_words::push_call;
@@ -13,6 +14,7 @@ use crate::trace::TraceOptions;
 use crate::words::write_cause;
 use sq_bound::{Names, TableDesc, TablePlace};
 use sq_cause::why;
+use sq_lex::Name;
 use sq_perform::CallAction;
 use sq_session::{Reply, Session};
 use sq_store::{Numbered, Store};
@@ -28,6 +30,7 @@ pub(crate) fn notes_of<S: Store>(
     reply: &Reply,
     options: TraceOptions,
 ) -> Result<Vec<u8>, AllocError>
+    requires { fits_at session.now.procedures call.now.procedure call.now.values ≡ true }
     ensures { IfOk result (λ notes. Notes call.now session.now reply.now.status notes.items) }
 {
     let mut notes = Vec::new(alloc);
@@ -50,28 +53,30 @@ fn push_notes<S: Store>(
     options: TraceOptions,
     notes: &mut Vec<u8>,
 ) -> Result<(), AllocError>
+    requires fits { fits_at session.now.procedures call.now.procedure call.now.values ≡ true }
     requires none { notes.old.items ≡ [] }
     ensures { OnOk result (Notes call.now session.now reply.now.status notes.new.items) }
 {
-    push_call(alloc, call, notes)?;
+    let name = call.name(session);
+    push_call(alloc, name, call.values.as_slice(), notes)?;
     notes.extend_from_slice(b"\n")?;
     push_cause(alloc, session, call, reply, notes)?;
-    let effects = effects_of(alloc, session, call, before, options)?;
+    let effects = effects_of(alloc, session, name.module, before, options)?;
     let ended = notes.extend_from_slice(effects.as_slice());
     drop(effects);
     ended
 }
 
-/// What a call changed, and which cursors it moved.
+/// What a call of a procedure of this module changed, and which cursors it moved.
 fn effects_of<S: Store>(
     alloc: Global,
     session: &Session<S>,
-    call: &CallAction,
+    module: Name,
     before: &Look,
     options: TraceOptions,
 ) -> Result<Vec<u8>, AllocError> {
     let mut effects = Vec::new(alloc);
-    match push_effects(alloc, session, call, before, options, &mut effects) {
+    match push_effects(alloc, session, module, before, options, &mut effects) {
         Ok(()) => Ok(effects),
         Err(error) => {
             drop(effects);
@@ -83,14 +88,14 @@ fn effects_of<S: Store>(
 fn push_effects<S: Store>(
     alloc: Global,
     session: &Session<S>,
-    call: &CallAction,
+    module: Name,
     before: &Look,
     options: TraceOptions,
     effects: &mut Vec<u8>,
 ) -> Result<(), AllocError> {
     push_touched(alloc, session, &before.touched, options, effects)?;
     let cursors = before.cursors.as_slice();
-    push_moves(alloc, session, cursors, call.module, effects)
+    push_moves(alloc, session, cursors, module, effects)
 }
 
 /// Adds a line with the cause of a call's status, unless it is 00000.

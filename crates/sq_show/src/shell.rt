@@ -1,5 +1,6 @@
 //! A session to which one item after the other is given.
 ghost use Rattle.std.specs.Prelude.{◌≡◌, ◌≤◌, ◌++◌, [], true, All, IfErr, IfOk, OnOk};
+ghost use Rattle.sq_session.specs.Kind.{fits_at};
 ghost use Rattle.sq_perform.specs.Fault.{IsOpeningFault, IsScriptFault};
 ghost use Rattle.sq_perform.specs.Opened.{Opened};
 ghost use Rattle.sq_perform.specs.Steps.{IsPrepared, Step};
@@ -183,7 +184,7 @@ impl<S: Store> Shell<S> {
         let reply = self
             .session
             .call(alloc, call.procedure, call.values.as_slice())?;
-        write_call(alloc, call, &reply, lines)?;
+        write_call(alloc, &self.session, call, &reply, lines)?;
         self.last = Some(LastCall {
             procedure: call.procedure,
             values,
@@ -202,6 +203,7 @@ impl<S: Store> Shell<S> {
         options: TraceOptions,
         notes: &mut Vec<u8>,
     ) -> Result<(), AllocError>
+        requires { fits_at self.now.session.procedures call.now.procedure call.now.values ≡ true }
         ensures { OnOk result (AddsNotes notes.old.items notes.new.items) }
     {
         let Some(last) = &self.last else {

@@ -126,7 +126,7 @@ fn called<S: Store>(
     ensures tables { session.new.tables ≡ session.old.tables }
 {
     let reply = session.call(alloc, call.procedure, call.values.as_slice())?;
-    write_call(alloc, call, &reply, lines)?;
+    write_call(alloc, session, call, &reply, lines)?;
     let notes = notes_of(alloc, session, call, before, &reply, options)?;
     push_marked(lines, notes.as_slice())?;
     Ok(fails(reply.status))

@@ -11,12 +11,12 @@ use Rattle.sq_meaning.specs.Run.{RunItem, after, after_item, program_of}
 use Rattle.sq_bound.specs.Known.{KnownTables}
 use Rattle.sq_binding.proofs.Schemas.Names.{position_at}
 use Rattle.sq_module.specs.declared.program.Program.{Program}
-use Rattle.sq_session.specs.Kind.{kind_at}
+use Rattle.sq_session.specs.Kind.{Procedure, kind_at}
 use Rattle.sq_session.specs.Schemas.{Schemas}
 use Rattle.sq_session.specs.Session.{Session, is_procedure}
 use Rattle.sq_session.specs.Step.{MayCall}
 use Rattle.sq_perform.proofs.Actions.{by_action}
-use Rattle.sq_perform.specs.Action.{call_of, item_of}
+use Rattle.sq_perform.specs.Action.{call_of, item_of, name_of}
 use Rattle.sq_perform.specs.Run.{Run}
 use Rattle.sq_perform.specs.Steps.{Step, Steps}
 use Rattle.sq_perform.specs.Stop as session_stop
@@ -27,7 +27,7 @@ use Rattle.sq_run.proofs.Texts.Answered.{asked_by, task_answered}
 use Rattle.sq_run.proofs.Steps.CallIsStep.{call_is_step, numbered_faults}
 use Rattle.sq_run.proofs.Steps.Exact.{IsBoundExactly, IsOpenedFrom}
 use Rattle.sq_run.proofs.Texts.Headline as headline
-use Rattle.sq_run.proofs.Texts.Reports.{Action, IsSession, step_is}
+use Rattle.sq_run.proofs.Texts.Reports.{Action, IsSession, procedures_there, step_is}
 
 call_same : (a b : Call) → RunItem.call a ≡ RunItem.call b → a ≡ b
 call_same a b e = cc
@@ -40,12 +40,16 @@ module _ (texts : List SchemaText) (modules : List ModuleText) (row_numbers : �
   abbrev Is : Session → by_name.State → Type 0
   Is s x = IsSession texts modules row_numbers known schemas program o exact s x
 
+  -- what an action asks of such a session
+  abbrev asked : Action → RunItem
+  asked = item_of (procedures_there texts modules row_numbers known schemas program o exact)
+
   abbrev Answers : by_name.State → Call → Type 0
   Answers x c = is_syntax_error (replied p x c).status ≡ is_faulty p c
 
   -- the first item, if it is a call
   abbrev First : Action → Type 0
-  First a = (s : Session) (x : by_name.State) → Is s x → (lines : Bytes) (t : Session) → Step a s lines t → (c : Call) → item_of a ≡ RunItem.call c
+  First a = (s : Session) (x : by_name.State) → Is s x → (lines : Bytes) (t : Session) → Step a s lines t → (c : Call) → asked a ≡ RunItem.call c
       → Answers x c
 
   first : (a : Action) → First a
@@ -53,24 +57,25 @@ module _ (texts : List SchemaText) (modules : List ModuleText) (row_numbers : �
       by_action First
       (λ k s x is lines t h c e.
       let may = subst (λ z. MayCall z (kind_at s.procedures k.procedure) k.values s.state (record { status = h.0.status; outputs = h.0.outputs }) t.state) is.schemas_are h.1.may in
-      let there = position_at (is_procedure k.«module» k.name) s.procedures k.procedure (h.1.prepared).0 in
-      let step = call_is_step texts modules row_numbers known schemas program o exact s.state x is.agrees s.procedures is.procedures k.«module» k.name k.procedure
+      let name = name_of s.procedures k in
+      let there = position_at (is_procedure name.«module» name.name) s.procedures k.procedure (h.1.prepared).0 in
+      let step = call_is_step texts modules row_numbers known schemas program o exact s.state x is.agrees s.procedures is.procedures name.«module» name.name k.procedure
       (h.1.prepared).0 k.values (h.1.prepared).1 (record { status = h.0.status; outputs = h.0.outputs }) t.state may in
-      subst (Answers x) (call_same (call_of k) c e)
+      subst (Answers x) (ap (λ named. call_of named k) is.procedures ∙ call_same _ c e)
       (ap is_syntax_error (sym step.1.status)
-      ∙ numbered_faults texts modules row_numbers known schemas program o exact s.state s.procedures is.procedures k.«module» k.name k.procedure there.0 there.1 there.2
+      ∙ numbered_faults texts modules row_numbers known schemas program o exact s.state s.procedures is.procedures name.«module» name.name k.procedure there.0 there.1 there.2
       k.values (record { status = h.0.status; outputs = h.0.outputs }) t.state may))
       (λ v s x is lines t h c e. cc)
 
   all_answer : (actions : List Action) (s : Session) (x : by_name.State) → Is s x → (bytes : Bytes) (t : Session) → Steps actions s bytes t → (count : ℕ)
-      (c : Call) → slice_get (map item_of actions) count ≡ Some (RunItem.call c) → Answers (after p x (take count (map item_of actions))) c
+      (c : Call) → slice_get (map asked actions) count ≡ Some (RunItem.call c) → Answers (after p x (take count (map asked actions))) c
   all_answer [] s x is bytes t h count c at = cc
-  all_answer (a ∷ rest) s x is bytes t h zero c at = first a s x is h.0 h.2 h.3 c (some_same (item_of a) (RunItem.call c) at)
+  all_answer (a ∷ rest) s x is bytes t h zero c at = first a s x is h.0 h.2 h.3 c (some_same (asked a) (RunItem.call c) at)
     where
       some_same : (i j : RunItem) → Some i ≡ Some j → i ≡ j
       some_same i j e = cc
   all_answer (a ∷ rest) s x is bytes t h (suc count) c at =
-      all_answer rest h.2 (after_item p x (item_of a))
+      all_answer rest h.2 (after_item p x (asked a))
       (step_is texts modules row_numbers known schemas program o exact a s x is h.0 h.2 h.3).1 h.1 t h.4 count c at
 
 module _ (row_numbers : ℕ) (schemas modules : List Bytes) (script : Bytes) where
@@ -78,13 +83,14 @@ module _ (row_numbers : ℕ) (schemas modules : List Bytes) (script : Bytes) whe
     task_answers : (bytes : Bytes) (last : Session) → Steps r.actions r.start bytes last → FaultsAnswer42000 (asked_by row_numbers schemas modules script r)
     unfolding FaultsAnswer42000
     task_answers bytes last h = λ count c at.
+        let are_items = ap (λ (named : List Procedure). map (item_of named) r.actions) (sym r.is_opened.written.are) ∙ r.are_items in
         subst
-        (λ items. is_syntax_error (replied machine (after machine (first_state machine) (take count items)) c).status ≡ is_faulty machine c) r.are_items
+        (λ items. is_syntax_error (replied machine (after machine (first_state machine) (take count items)) c).status ≡ is_faulty machine c) are_items
         (all_answer r.schema_trees r.module_trees row_numbers r.is_opened.known r.start.schemas
         (headline.program row_numbers r.schema_trees r.module_trees r.start r.is_opened)
         (headline.opened_from row_numbers r.schema_trees r.module_trees r.start r.is_opened) (headline.exact row_numbers r.schema_trees r.module_trees r.start r.is_opened)
         r.actions r.start (first_state machine) (headline.starts row_numbers r.schema_trees r.module_trees r.start r.is_opened) bytes last h count c
-        (ap (λ items. slice_get items count) r.are_items ∙ at))
+        (ap (λ items. slice_get items count) are_items ∙ at))
       where
         machine : by_name.Program
         machine = program_of r.schema_trees r.module_trees row_numbers

@@ -11,6 +11,7 @@ use Rattle.sq_meaning.specs.Machine.{first_state}
 use Rattle.sq_meaning.specs.Report.{Bytes, item_lines, report}
 use Rattle.sq_meaning.specs.Run.{RunItem, after_item, item_of_script, program_of}
 use Rattle.sq_module.specs.declared.program.Program.{Program}
+use Rattle.sq_session.specs.Kind.{Procedure}
 use Rattle.sq_session.specs.Session.{Session}
 use Rattle.sq_perform.specs.Run.{IsOpened, Run}
 use Rattle.sq_perform.specs.Action.{item_of}
@@ -72,16 +73,16 @@ module _ (row_numbers : ℕ) (schemas modules : List Bytes) (script : Bytes) (r 
   abbrev pub lines : List RunItem → Bytes
   lines some = report machine (first_state machine) some
 
-  report_is : (actions : List Action) (some : List RunItem) → map item_of actions ≡ some → (bytes : Bytes) (last : Session)
+  report_is : (actions : List Action) (some : List RunItem) → map (item_of r.start.procedures) actions ≡ some → (bytes : Bytes) (last : Session)
       → Steps actions r.start bytes last → bytes ≡ lines some
   report_is actions some are bytes last h =
       steps_are r.schema_trees r.module_trees row_numbers r.is_opened.known r.start.schemas (program row_numbers r.schema_trees r.module_trees r.start r.is_opened)
       (opened_from row_numbers r.schema_trees r.module_trees r.start r.is_opened) (exact row_numbers r.schema_trees r.module_trees r.start r.is_opened)
       actions r.start (first_state machine) (starts row_numbers r.schema_trees r.module_trees r.start r.is_opened) bytes last h
-      ∙ ap lines are
+      ∙ ap (λ (named : List Procedure). lines (map (item_of named) actions)) (sym r.is_opened.written.are) ∙ ap lines are
 
-  first_items : (k : ℕ) → map item_of (take k r.actions) ≡ take k items
-  first_items k = sym (mapped_before item_of k r.actions) ∙ ap (take k) r.are_items
+  first_items : (k : ℕ) → map (item_of r.start.procedures) (take k r.actions) ≡ take k items
+  first_items k = sym (mapped_before (item_of r.start.procedures) k r.actions) ∙ ap (take k) r.are_items
 
   -- What is written is the machine's report.
   pub run_reports : Reported r.actions r.start old new → Appends old new (lines items)

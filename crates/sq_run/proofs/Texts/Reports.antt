@@ -24,13 +24,14 @@ use Rattle.sq_catalog.specs.Catalog.{declared_definitions, declared_tables, is_t
 use Rattle.sq_catalog.specs.declared.catalog.FullName.{FullName}
 use Rattle.sq_module.specs.declared.program.Program.{Program}
 use Rattle.sq_session.specs.Schemas.{Schemas}
-use Rattle.sq_session.specs.Kind.{kind_at}
+use Rattle.sq_session.specs.Kind.{Procedure, kind_at}
 use Rattle.sq_session.specs.Session.{Session, procedures_of}
 use Rattle.sq_session.specs.Step.{MayCall}
 use Rattle.sq_session.specs.declared.reply.Reply.{Reply}
 use Rattle.sq_perform.proofs.Actions.{by_action}
-use Rattle.sq_perform.specs.Action.{call_of, item_of, table_of}
+use Rattle.sq_perform.specs.Action.{call_of, item_of, name_of, table_of}
 use Rattle.sq_perform.specs.Steps.{Step, Steps, told}
+use Rattle.sq_perform.specs.declared.action.Action.TheVariants.{Call}
 use Rattle.sq_run.proofs.Schemas.Created.{declared_definitions_are, declared_tables_are}
 use Rattle.sq_run.proofs.Schemas.Declared.{definitions_counted}
 use Rattle.sq_run.proofs.Schemas.DeclaredTables.{base_tables_named, named_table, named_tables}
@@ -44,7 +45,7 @@ abbrev source_of : {A B : Type 0} → (A → B) → Type 0
 source_of {A} {B} f = A
 
 abbrev pub Action : Type 0
-Action = source_of item_of
+Action = source_of (item_of [])
 
 -- ---- the place of a base table
 
@@ -90,27 +91,37 @@ module _ (texts : List SchemaText) (modules : List ModuleText) (row_numbers : �
   abbrev p : by_name.Program
   p = program_of texts modules row_numbers
 
+  -- the procedures of each such session
+  abbrev pub procedures_there : List Procedure
+  procedures_there = procedures_of program.cursors.items program.procedures.entries
+
+  -- an item's lines, and the session behind it, where these procedures give calls their names
+  abbrev IsStepAs : List Procedure → Action → by_name.State → Bytes → Session → Type 0
+  IsStepAs named a x lines t = (lines ≡ item_lines p x (item_of named a)) × IsSession t (after_item p x (item_of named a))
+
   -- the lines of an item, and the session behind it
   abbrev pub IsStep : Action → Type 0
-  IsStep a =
-      (s : Session) (x : by_name.State) → IsSession s x → (lines : Bytes) (t : Session) → Step a s lines t
-      → (lines ≡ item_lines p x (item_of a)) × IsSession t (after_item p x (item_of a))
+  IsStep a = (s : Session) (x : by_name.State) → IsSession s x → (lines : Bytes) (t : Session) → Step a s lines t → IsStepAs procedures_there a x lines t
 
   pub step_is : (a : Action) → IsStep a
   step_is =
       by_action IsStep
       (λ c s x is lines t h.
-      let step = call_is_step texts modules row_numbers known schemas program o exact s.state x is.agrees s.procedures is.procedures c.«module» c.name c.procedure
+      let name = name_of s.procedures c in
+      let step = call_is_step texts modules row_numbers known schemas program o exact s.state x is.agrees s.procedures is.procedures name.«module» name.name c.procedure
       (h.1.prepared).0 c.values (h.1.prepared).1 (record { status = h.0.status; outputs = h.0.outputs }) t.state
-      (subst (λ z. MayCall z (kind_at s.procedures c.procedure) c.values s.state (record { status = h.0.status; outputs = h.0.outputs }) t.state) is.schemas_are h.1.may) in (
-        h.2 ∙ ap (call_line (call_of c)) (told_same h.0 (replied p x (call_of c)) step.1),
+      (subst (λ z. MayCall z (kind_at s.procedures c.procedure) c.values s.state (record { status = h.0.status; outputs = h.0.outputs }) t.state) is.schemas_are h.1.may) in
+      let call = call_of s.procedures c in
+      let done : IsStepAs s.procedures (Call c) x lines t = (
+        h.2 ∙ ap (call_line call) (told_same h.0 (replied p x call) step.1),
         record {
           procedures = h.1.procedures ∙ is.procedures;
           tables = h.1.tables ∙ is.tables;
           schemas_are = h.1.schemas ∙ is.schemas_are;
           agrees = step.0;
         },
-      ))
+      ) in
+      subst (λ named. IsStepAs named (Call c) x lines t) is.procedures done)
       (λ v s x is lines t h.
       let place : base_place (elements_of texts) (table_of v) ≡ Some v.table
       = base_found texts exact.accepted v.user v.name v.table (subst (λ ts. table_number ts v.user v.name ≡ Some v.table) is.tables h.0) in
@@ -120,9 +131,9 @@ module _ (texts : List SchemaText) (modules : List ModuleText) (row_numbers : �
 
   -- The lines of all items are the machine's report.
   pub steps_are : (actions : List Action) (s : Session) (x : by_name.State) → IsSession s x → (bytes : Bytes) (t : Session) → Steps actions s bytes t
-      → bytes ≡ report p x (map item_of actions)
+      → bytes ≡ report p x (map (item_of procedures_there) actions)
   steps_are [] s x is bytes t h = h.0
   steps_are (a ∷ rest) s x is bytes t h =
       let one = step_is a s x is h.0 h.2 h.3 in
-      let others = steps_are rest h.2 (after_item p x (item_of a)) one.1 h.1 t h.4 in
+      let others = steps_are rest h.2 (after_item p x (item_of procedures_there a)) one.1 h.1 t h.4 in
       h.5 ∙ (λ i. one.0 i ++ others i)

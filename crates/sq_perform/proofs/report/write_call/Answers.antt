@@ -9,11 +9,10 @@ use Rattle.sq_perform.proofs.report.write_call.Goals as goal
 
 pub returns : goal.returns
 returns c =
-    let call = c.args.call.now in
     let reply = c.args.reply.now in
     let stated = c.write_status.new.line.items in
     line_written c.args.line.now.items c.write_names.new.line.items stated c.write_outputs.new.line.items c.push.new.self.items
-    call.«module» call.name (status_codes reply.status) (flat_map output_codes (map told_output reply.outputs))
+    c.name.result.«module» c.name.result.name (status_codes reply.status) (flat_map output_codes (map told_output reply.outputs))
     c.in_ok-write_names.ensures c.in_ok-write_status.ensures
     (c.in_ok-write_outputs.ensures ∙ ap (λ (outputs : List Output). stated ++ flat_map output_codes (map told_output outputs)) c.as_slice.ensures)
     c.in_ok-push.ensures.items
