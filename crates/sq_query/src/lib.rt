@@ -23,6 +23,7 @@ mod named_keys;
 mod needed;
 mod only_how;
 mod order;
+mod outside;
 mod plain_view;
 mod row;
 mod scan;
