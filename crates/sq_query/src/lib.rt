@@ -30,6 +30,7 @@ mod scan;
 mod search;
 mod several;
 mod shown;
+mod single_row;
 mod sought;
 mod table;
 mod target;
