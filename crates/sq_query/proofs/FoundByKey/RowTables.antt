@@ -12,7 +12,7 @@ use Rattle.sq_meaning.specs.Environment.{Line, Row, Scope, alone}
 use Rattle.sq_meaning.specs.Placed.{by_place}
 use Rattle.sq_meaning.specs.Query.{truth}
 use Rattle.sq_meaning.specs.Status.{Outcome}
-use Rattle.sq_meaning.specs.WellFormed.{AreRowsOf, Fits, IsDeclaredAt, IsRowOf, WellFormedCond, kinds_by_place}
+use Rattle.sq_meaning.specs.WellFormed.{AreRowsOf, Fits, IsRowOf}
 use Rattle.sq_bound.specs.Condition.{cond_of}
 use Rattle.sq_bound.specs.Noted.{CondIsNoted}
 use Rattle.sq_bound.specs.WellFormed.{BasesAreThere, TableKinds, of_base_at}

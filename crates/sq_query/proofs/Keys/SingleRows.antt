@@ -1,5 +1,5 @@
 -- A query specification without HAVING whose WHERE clause names a row of its only base table by a key: its rows are those for that row, if WHERE is true of it, whatever tables its subqueries read.
-use Rattle.std.proofs.Common.{◌≡◌, ◌∙◌, ℕ, Bool, true, false, List, [], ◌∷◌, Option, Some, None, Result, map, slice_get, refl, sym, ap, subst, Ok, Err}
+use Rattle.std.proofs.Common.{◌≡◌, ◌∙◌, ℕ, Bool, true, List, [], ◌∷◌, Option, Some, None, Result, map, slice_get, refl, sym, ap, subst, Ok, Err}
 use Rattle.std.specs.Prelude.{IsErrAnd, Vec, if◌then◌else◌, option_to_list}
 use Rattle.std.specs.Option.{option_map}
 use Rattle.std.specs.List.{AllByRecursion}
@@ -9,23 +9,23 @@ use Rattle.sq_lex.specs.declared.name.Name.{Name}
 use Rattle.sq_value.specs.declared.domain.Kind.{Kind}
 use Rattle.sq_value.specs.declared.value.Value.{Value}
 use Rattle.sq_store.specs.Content.{Content, table_at}
-use Rattle.sq_store.specs.Keys.{Keys, are_keyed, has_key, key_at}
+use Rattle.sq_store.specs.Keys.{Keys, are_keyed}
 use Rattle.sq_store.specs.declared.table.Numbered.{Numbered}
-use Rattle.sq_meaning.specs.Environment.{Line, Row, alone, outermost, within}
+use Rattle.sq_meaning.specs.Environment.{Line, Row, outermost, within}
 use Rattle.sq_meaning.specs.Placed.{by_place}
-use Rattle.sq_meaning.specs.Query.{clause_truth, is_true, listed_values, rows, truth}
+use Rattle.sq_meaning.specs.Query.{clause_truth, is_true, rows, truth}
 use Rattle.sq_meaning.specs.Rows.{firsts, product, same_row}
 use Rattle.sq_meaning.specs.Status.{Outcome, and_then, each, kept}
 use Rattle.sq_meaning.specs.Syntax.{absent, expressions, literal, present}
 use Rattle.sq_meaning.specs.Tables.{rows_in}
 use Rattle.sq_meaning.specs.WellFormed.{Has, IsRowOf}
 use Rattle.sq_meaning.proofs.OutcomeLaws.{kept_all}
-use Rattle.sq_bound.specs.Condition.{Groups, PlacedClause, PlacedSelect, clause_of, cond_of, groups_if, groups_of, select_of}
+use Rattle.sq_bound.specs.Condition.{Groups, PlacedSelect, clause_of, cond_of, groups_if, groups_of, select_of}
 use Rattle.sq_bound.specs.Expression.{expr_of}
 use Rattle.sq_bound.specs.Fits.{keys_of_bases, not_nulls_hold}
 use Rattle.sq_bound.specs.Groups.{AreGroupsIfAny}
-use Rattle.sq_bound.specs.Noted.{CondIsNoted, IsNoted}
-use Rattle.sq_bound.specs.Numbered.{ClauseWith, CondWith, HaveNumbers, IsNumbered}
+use Rattle.sq_bound.specs.Noted.{IsNoted}
+use Rattle.sq_bound.specs.Numbered.{ClauseWith, IsNumbered}
 use Rattle.sq_bound.specs.SetFunction.{call_of}
 use Rattle.sq_bound.specs.WellFormed.{IsSelect, TableKinds, base_kinds}
 use Rattle.sq_bound.specs.declared.condition.BoundCond.{BoundCond}
@@ -54,7 +54,7 @@ use Rattle.sq_expression.specs.declared.frame.Lines.{Lines}
 use Rattle.sq_query.specs.Key.{IsKeyOn, StandsOn}
 use Rattle.sq_query.specs.Needed.{ReadsClause, ReadsCond, ReadsSelect}
 use Rattle.sq_query.specs.Row.{StandsOnRow, outside, truth_on_row}
-use Rattle.sq_query.specs.Search.{IsOver, IsOverBase, IsWhere}
+use Rattle.sq_query.specs.Search.{IsOver, IsWhere}
 use Rattle.sq_query.specs.SingleRow.{HasNoHaving, line_if, lines_left, listed_by}
 use Rattle.sq_query.specs.declared.key.KnownKey.{KnownKey}
 use Rattle.sq_query.proofs.Keys.Searched.{found_row, groups_in, line_on, lines_kept, lines_on, test_on, tree_of}

@@ -1,5 +1,5 @@
 -- Left open for rows_of_lines: its result; answered without a law.
-use Rattle.std.proofs.Common.{◌≡◌, List, None, Option, ap, subst, sym}
+use Rattle.std.proofs.Common.{List, None, Option, subst, sym}
 use Rattle.sq_bound.specs.declared.condition.BoundSpecification.{out-BoundSpecification}
 use Rattle.sq_bound.specs.declared.condition.Grouping.{Grouping}
 use Rattle.sq_bound.specs.declared.expression.BoundExpr.{BoundExpr}

@@ -1,5 +1,5 @@
 -- Left open for rows_of_single: its result; answered by SingleRows and Searched.
-use Rattle.std.proofs.Common.{List, Ok, ◌≡◌, subst, sym}
+use Rattle.std.proofs.Common.{subst, sym}
 use Rattle.sq_store.specs.Content.{table_at}
 use Rattle.sq_expression.specs.Fault.{HasRows}
 use Rattle.sq_meaning.specs.Tables.{rows_in}
