@@ -19,3 +19,4 @@ pub mod NotedKeys
 pub mod OnlyOne
 pub mod Searched
 pub mod ShortestKnown
+pub mod SingleRows

@@ -14,6 +14,7 @@ pub mod Row
 pub mod Search
 pub mod Several
 pub mod Shown
+pub mod SingleRow
 pub mod Sought
 pub mod Table
 pub mod Target

@@ -1,6 +1,6 @@
 -- Scans of a plain view for a value with which the first test of a condition compares a column: rows that have another value there are passed
 -- over (ISO/IEC 9075:1992, 7.4 and 7.6; own rule).
-use Rattle.std.specs.Prelude.{◌≡◌, ◌||◌, ℕ, Bool, List, [], ◌∷◌, filter}
+use Rattle.std.specs.Prelude.{◌||◌, ℕ, Bool, List, [], ◌∷◌, filter}
 use Rattle.std.specs.Cmp.Lexicographic.{pointwise}
 use Rattle.std.specs.List.{list_any}
 use Rattle.sq_lex.specs.declared.name.Name.{Name}

@@ -14,7 +14,7 @@ use Rattle.sq_store.specs.Content.{Content, table_at}
 use Rattle.sq_store.specs.Keys.{Keys, are_keyed, has_key, key_at, keys_at}
 use Rattle.sq_store.specs.declared.table.Numbered.{Numbered}
 use Rattle.sq_store.specs.declared.table.Table.{Table}
-use Rattle.sq_meaning.specs.Environment.{Env, Line, Row, Scope, alone, within}
+use Rattle.sq_meaning.specs.Environment.{Env, Line, Row, Scope, within}
 use Rattle.sq_meaning.specs.Placed.{by_place}
 use Rattle.sq_meaning.specs.Query.{clause_truth, is_true, rows}
 use Rattle.sq_meaning.specs.Status.{Outcome, and_then, not_well_formed, well_formed}

@@ -1,7 +1,8 @@
 -- A query specification outside every query has the rows that it has over those rows of a base table that have the values of a subquery in the
 -- only column of a key (ISO/IEC 9075:1992, 7.6, 7.11, 8.2, 8.4 and 8.7).
-use Rattle.std.proofs.Common.{◌≡◌, ◌∙◌, inl, inr, ℕ, zero, suc, Bool, true, false, true≢false, List, [], ◌∷◌, filter, length, map, take, slice_get, Option, Some, None, refl, sym, ap, subst, arith, Ok, Err}
-use Rattle.std.specs.Prelude.{IsTrue, fold}
+use Rattle.std.proofs.Common.{◌≡◌, ◌∙◌, inl, inr, ℕ, zero, suc, Bool, true, false, true≢false, List, [], ◌∷◌, filter, length, map, take, slice_get, Option, Some, None, Result, refl, sym, ap, subst, arith, Ok, Err}
+use Rattle.std.specs.Prelude.{IfOk, IsTrue, Vec, fold}
+use Rattle.std.specs.declared.alloc.Global.{Global}
 use Rattle.std.specs.Cmp.Lexicographic.{pointwise}
 use Rattle.std.specs.List.{AllByRecursion, AllZip, list_any}
 use Rattle.std.specs.Option.{option_and_then}
@@ -55,16 +56,17 @@ use Rattle.sq_bound.proofs.ConditionLaws.{predicate_of-CompareQuery, predicate_o
 use Rattle.sq_bound.proofs.Nested.{among_one, compared_with_one, cond_held, conj_held, select_held, select_itself, test_held}
 use Rattle.sq_bound.proofs.QuietTruths.{valued_so}
 use Rattle.sq_expression.specs.Fault.{IsRight}
+use Rattle.sq_expression.specs.declared.fault.Fault.{Fault}
 use Rattle.sq_expression.specs.Frame.{inputs_of, lent}
 use Rattle.sq_expression.specs.declared.table.BaseRows.{BaseRows}
 use Rattle.sq_query.specs.Around.{beneath}
-use Rattle.sq_query.specs.Inner.{IsInStore}
+use Rattle.sq_query.specs.Inner.{IsInStore, ServesSelect}
 use Rattle.sq_query.specs.Items.{items_of, over}
 use Rattle.sq_query.specs.Known.{AreOnlyTests, IsAmong, IsCountFor, IsReadByRows, ServesOutside}
 use Rattle.sq_query.specs.Named.{HasOther, IsColumnOf}
 use Rattle.sq_query.specs.Needed.{IsNeeded, ReadsInside}
 use Rattle.sq_query.specs.Several.{has_one_of}
-use Rattle.sq_query.specs.Sought.{IsKnownIn}
+use Rattle.sq_query.specs.Sought.{IsKnownIn, nothing_around}
 use Rattle.sq_query.specs.Union.{AreFitting}
 use Rattle.sq_query.specs.declared.needed.Needed.{Needed}
 use Rattle.sq_query.proofs.FoundByKey.FewerRows as few
@@ -282,6 +284,20 @@ module _ (q : BoundSpecification) (content : Content) (keys : List Keys) (values
       let two = second columns kinds tables given well one.0 in
       (two.0, one.1 ∙ two.1)
 
+  pub then_serve : (before now : List BaseRows) (r : Result (Vec BaseRows Global) Fault) → Serve before now → IfOk r (λ found. Serve now found.items) → IfOk r (λ found. Serve before found.items)
+  then_serve before now (Err e) first second = tt
+  then_serve before now (Ok found) first second = both_serve before now found.items first second
+
+  -- rows that serve with nothing around serve outside every query
+  pub outside_serves : (elsewhere : Needed) (before after : List BaseRows) → ServesSelect q elsewhere nothing_around content keys values caller before after → Serve before after
+  outside_serves elsewhere before after found columns kinds tables given well fitting =
+      let served = found columns kinds [] tables given (well.stands, well.notes) fitting in
+      (served.fit, served.same [] refl (λ f. tt))
+
+  pub then_outside : (elsewhere : Needed) (before now : List BaseRows) (r : Result (Vec BaseRows Global) Fault) → Serve before now → IfOk r (λ found. ServesSelect q elsewhere nothing_around content keys values caller now found.items) → IfOk r (λ found. Serve before found.items)
+  then_outside elsewhere before now (Err e) first second = tt
+  then_outside elsewhere before now (Ok found) first second = both_serve before now found.items first (outside_serves elsewhere now found.items second)
+
 module _ (q : BoundSpecification) (content : Content) (keys : List Keys) (values : List Value) (caller : Name) (inner : Needed) (inside : ReadsInside (IsNeeded inner) (select_of q)) where
   module _ (tests : List BoundTest) (only : AreOnlyTests q tests) (i : ℕ) (test : BoundTest) (at_test : slice_get tests i ≡ Some test) (never : AllByRecursion (λ x. x.can_fail ≡ false) (take i tests)) (found : List BaseRows) (own : BaseRows)
       (r : IsReadByRows q test inner content keys values caller found own) where
@@ -333,8 +349,8 @@ module _ (q : BoundSpecification) (content : Content) (keys : List Keys) (values
             (r.values.rows_are (inside_with q tests only i test at_test IsNoted r.k r.among.own r.subquery r.among.says well.notes) (numbers_inside q tests only i test at_test r.k r.among.own r.subquery r.among.says well.numbers) tables (alone [] line ∷ []))
             r.values.firsts other r.k r.among.says r.values.count)
 
-    pub subquery_serves : ServesOutside q content keys values caller found (own ∷ found)
-    subquery_serves columns kinds tables given well fitting = (
+    pub rows_of_subquery_serve : ServesOutside q content keys values caller found (own ∷ found)
+    rows_of_subquery_serve columns kinds tables given well fitting = (
       few.fewer given.bases columns content given.not_null given.there kinds values caller tables q [] (well.stands tables) inner inside (λ n free. given.stored n) found own r.item r.base.at r.base.there r.base.alone fitting
           (has columns kinds tables given well fitting) (few_are columns kinds tables given well fitting),
       few.same_next given.bases columns content given.not_null given.there kinds values caller tables q [] (well.stands tables) inner inside (λ n free. given.stored n) found own r.item r.base.at r.base.there r.base.alone fitting

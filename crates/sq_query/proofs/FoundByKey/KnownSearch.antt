@@ -42,7 +42,7 @@ use Rattle.sq_query.specs.Several.{rows_by_values}
 use Rattle.sq_query.specs.Sought.{IsKnownIn, found_of}
 use Rattle.sq_query.specs.Table.{rows_among}
 use Rattle.sq_query.specs.declared.needed.Needed.{Needed}
-use Rattle.sq_query.proofs.FoundByKey.KnownRows.{both_serve, subquery_serves}
+use Rattle.sq_query.proofs.FoundByKey.KnownRows.{both_serve, rows_of_subquery_serve}
 use Rattle.sq_query.proofs.Needs.KnownQueries.{known_of}
 use Rattle.sq_query.proofs.Needs.NeededViews.{reads_weaker}
 use Rattle.sq_query.proofs.Needs.ReadAs.{table_same}
@@ -153,4 +153,4 @@ module _ (q : BoundSpecification) (content : Content) (keys : List Keys) (values
       → (before found next : List BaseRows) (o : Option BaseRows) → Serve before found → IfSome o (IsReadByRows q test inner content keys values caller found) → next ≡ option_to_list o ++ found → Serve before next
   one_serves inside tests only i test at never before found next None so_far h is = subst (Serve before) (sym is) so_far
   one_serves inside tests only i test at never before found next (Some own) so_far h is =
-      subst (Serve before) (sym is) (both_serve q content keys values caller before found (own ∷ found) so_far (subquery_serves q content keys values caller inner inside tests only i test at never found own h))
+      subst (Serve before) (sym is) (both_serve q content keys values caller before found (own ∷ found) so_far (rows_of_subquery_serve q content keys values caller inner inside tests only i test at never found own h))

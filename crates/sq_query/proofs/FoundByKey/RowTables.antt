@@ -12,7 +12,7 @@ use Rattle.sq_meaning.specs.Environment.{Line, Row, Scope, alone}
 use Rattle.sq_meaning.specs.Placed.{by_place}
 use Rattle.sq_meaning.specs.Query.{truth}
 use Rattle.sq_meaning.specs.Status.{Outcome}
-use Rattle.sq_meaning.specs.WellFormed.{AreRowsOf, Fits, IsDeclaredAt, IsRowOf, WellFormedCond, kinds_by_place}
+use Rattle.sq_meaning.specs.WellFormed.{AreRowsOf, Fits, IsRowOf}
 use Rattle.sq_bound.specs.Condition.{cond_of}
 use Rattle.sq_bound.specs.Noted.{CondIsNoted}
 use Rattle.sq_bound.specs.WellFormed.{BasesAreThere, TableKinds, of_base_at}
@@ -28,7 +28,7 @@ use Rattle.sq_query.specs.Inner.{AreBeneath, HasKeys, IsInStore, IsReadOnRow, Se
 use Rattle.sq_query.specs.Around.{IsStanding}
 use Rattle.sq_query.specs.Items.{is_left, over}
 use Rattle.sq_query.specs.Needed.{IsNeeded, ReadsCond}
-use Rattle.sq_query.specs.Row.{HasTruthOn, IsOnRow, outside, truth_on_row}
+use Rattle.sq_query.specs.Row.{HasTruthOn, StandsOnRow, outside, truth_on_row}
 use Rattle.sq_query.specs.Table.{AreOfStore, ReadsAsMeant, bases_of, rows_among, rows_read}
 use Rattle.sq_query.specs.Union.{AreFitting}
 use Rattle.sq_query.specs.declared.around.Standing.{Standing}
@@ -40,17 +40,14 @@ use Rattle.sq_query.proofs.FoundByKey.ItemRows.{over_none}
 use Rattle.sq_query.proofs.Needs.NeededViews.{cond_reads_weaker}
 
 module _ (bases : List BaseTable) (columns : TableKinds) (content : Content) (keys : List Keys) (keyed : are_keyed keys content ≡ true) (bases_there : BasesAreThere bases columns) (parameters : List Kind) (values : List Value) (caller : Name) (given : IsRowOf parameters values)
-    (tables : TablePlace → Outcome (List Row)) (stored : AreOfStore content tables) (fitting : AreFitting columns tables) (c : BoundCond) (row : Row) (on : IsOnRow columns parameters row c) where
+    (tables : TablePlace → Outcome (List Row)) (stored : AreOfStore content tables) (fitting : AreFitting columns tables) (c : BoundCond) (row : Row) (on : StandsOnRow columns parameters row c) where
   abbrev IsSameOver : List BaseRows → Type 0
   IsSameOver found = truth_on_row tables values caller row c ≡ truth_on_row (over found tables) values caller row c
-
-  stands : (f : TablePlace → Outcome (List Row)) → WellFormedCond (by_place f) (kinds_by_place columns parameters) (IsDeclaredAt parameters) (of_base_at on.place) (cond_of [] c)
-  stands f = subst (WellFormedCond (by_place f) (kinds_by_place columns parameters) (IsDeclaredAt parameters) (of_base_at on.place)) (sym (on.well.is_tree [])) (on.well.stands f)
 
   same_beneath : HasKeys bases content keys → (found : List BaseRows) → AreBeneath c row content keys values caller found → IsSameOver found
   same_beneath has found b =
       let in_store : IsInStore columns parameters content keys values tables = record { bases = bases; keys_are = has.0; not_null = has.1; keyed = keyed; there = bases_there; inputs = given; stored = stored } in
-      let served = b.inside columns parameters (of_base_at on.place) tables in_store (stands, on.well.notes) (λ t. subst (Fits AreRowsOf (columns t)) (over_none tables t) (fitting t)) in
+      let served = b.inside columns parameters (of_base_at on.place) tables in_store (on.stands, on.notes) (λ t. subst (Fits AreRowsOf (columns t)) (over_none tables t) (fitting t)) in
       (λ i. truth_on_row (λ t. over_none tables t i) values caller row c) ∙ served.same (alone [] (row ∷ []) ∷ []) b.is_around (λ f. (record { line = (on.fits, tt); group = tt }, tt))
 
   pub same_on_row : (by_keys : Bool) → (by_keys ≡ true → HasKeys bases content keys) → (found : List BaseRows) → (by_keys ≡ true → AreBeneath c row content keys values caller found) → (by_keys ≡ false → found ≡ []) → IsSameOver found

@@ -1,7 +1,7 @@
 -- A query specification has the rows that it has over the rows of each base table that were found in the subqueries of its HAVING clause
 -- (ISO/IEC 9075:1992, 7.7 to 7.9 and 7.11).
-use Rattle.std.proofs.Common.{◌≡◌, ◌∙◌, List, [], ◌∷◌, ◌++◌, map, Option, Some, Result, refl, sym, ap, subst, Ok, Err}
-use Rattle.std.specs.Prelude.{IfOk, Vec, not, ◌||◌}
+use Rattle.std.proofs.Common.{◌≡◌, ◌∙◌, List, ◌∷◌, ◌++◌, map, Option, Some, Result, sym, ap, subst, Ok, Err}
+use Rattle.std.specs.Prelude.{IfOk, Vec}
 use Rattle.std.specs.List.{AllByRecursion, AllZip}
 use Rattle.std.specs.Option.{option_map}
 use Rattle.std.specs.declared.alloc.Global.{Global}
@@ -10,12 +10,11 @@ use Rattle.sq_value.specs.declared.domain.Kind.{Kind}
 use Rattle.sq_value.specs.declared.value.Value.{Value}
 use Rattle.sq_store.specs.Content.{Content}
 use Rattle.sq_store.specs.Keys.{Keys}
-use Rattle.sq_meaning.specs.Environment.{Env, Line, Row, Scope, alone, within}
+use Rattle.sq_meaning.specs.Environment.{Env, Line, Row, Scope, within}
 use Rattle.sq_meaning.specs.Placed.{Placed, by_place}
-use Rattle.sq_meaning.specs.Query.{clause_functions, clause_truth, is_grouped, is_some_of, is_true, list_functions, rows, scopes_of}
-use Rattle.sq_meaning.specs.Rows.{product}
-use Rattle.sq_meaning.specs.Status.{Outcome, and_then, each, kept}
-use Rattle.sq_meaning.specs.WellFormed.{Answers, Has, HasValue, IsDeclaredAt, IsLineOf, IsRowOf, IsScopeOf, Level, WellFormedClause, WellFormedCond, WellFormedSelect, WellFormedTable, kinds_by_place, shown_level}
+use Rattle.sq_meaning.specs.Query.{clause_functions, clause_truth, is_grouped, list_functions, rows, scopes_of}
+use Rattle.sq_meaning.specs.Status.{Outcome, each}
+use Rattle.sq_meaning.specs.WellFormed.{Answers, Has, HasValue, IsDeclaredAt, IsRowOf, IsScopeOf, Level, WellFormedClause, WellFormedCond, WellFormedSelect, WellFormedTable, kinds_by_place, shown_level}
 use Rattle.sq_meaning.proofs.AnswerLaws.{all_weaker}
 use Rattle.sq_meaning.proofs.FunctionKinds.{functions_well_formed}
 use Rattle.sq_meaning.proofs.ReadingKinds.{env_by_place, places_agree}
@@ -38,7 +37,7 @@ use Rattle.sq_expression.specs.declared.table.BaseRows.{BaseRows}
 use Rattle.sq_query.specs.Around.{AreRowsAround, IsAround, IsAroundGroups}
 use Rattle.sq_query.specs.Inner.{IsInStore, ReadsLines, ServesCond, ServesSelect, StandsSelect, lines_tables}
 use Rattle.sq_query.specs.Items.{items_of, over}
-use Rattle.sq_query.specs.Needed.{Adds, IsNeeded, ReadsClause}
+use Rattle.sq_query.specs.Needed.{Adds, IsNeeded}
 use Rattle.sq_query.specs.Union.{AreFitting}
 use Rattle.sq_query.specs.declared.around.Around.{Around}
 use Rattle.sq_query.specs.declared.needed.Needed.{Needed}

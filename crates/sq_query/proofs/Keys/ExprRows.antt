@@ -4,8 +4,6 @@ use Rattle.std.proofs.Common.{◌≡◌, ◌∙◌, ◌+◌, ◌<◌, ℕ, Bool,
 use Rattle.std.specs.Prelude.{IfOk, IfSome}
 use Rattle.std.proofs.lemmas.List.{map-append, take_more}
 use Rattle.std.specs.List.{AllByRecursion, AllZip}
-use Rattle.sq_lex.specs.declared.name.Name.{Name}
-use Rattle.sq_value.specs.declared.value.Value.{Value}
 use Rattle.sq_bound.specs.declared.condition.BoundCond.{BoundCond, out-BoundCond}
 use Rattle.sq_bound.specs.declared.condition.BoundConj.{BoundConj, out-BoundConj}
 use Rattle.sq_bound.specs.declared.condition.BoundTest.{BoundTest}
@@ -16,7 +14,6 @@ use Rattle.sq_query.specs.Sought.{IsSameOnLines}
 use Rattle.sq_query.specs.Ways.{FindRows, IsFoundBy, IsFoundByTest, IsFoundByTests}
 use Rattle.sq_query.specs.declared.named.Sure.{Sure}
 use Rattle.sq_query.specs.declared.named.Sure.TheVariants.{Unnoted}
-use Rattle.sq_query.specs.declared.sought.Sought.{Sought}
 use Rattle.sq_query.proofs.FoundByKey.ItemValues.{same_among}
 use Rattle.sq_query.proofs.Keys.NamedRows.{IsTermFalseBut, brackets_name, comparison_names, equal_names, list_names, term_more, terms_name, test_names}
 

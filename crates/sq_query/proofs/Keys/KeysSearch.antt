@@ -1,8 +1,8 @@
 -- What a target means among the rows that have one of several keys is what it means among all rows: the conditions of the views between have a
 -- truth on each row, and the target's own condition is false on each row with none of the keys.
-use Rattle.std.proofs.Common.{◌≡◌, ◌∙◌, ℕ, ◌+◌, ◌<◌, Bool, true, false, ◌&&◌, ◌||◌, List, [], ◌∷◌, ◌++◌, cond, length, slice_index_or, Option, Some, None, Vec, Global, Bor, Result, refl, sym, ap, subst, arith, Ok, Err}
+use Rattle.std.proofs.Common.{◌≡◌, ◌∙◌, ℕ, Bool, true, false, ◌&&◌, List, [], ◌∷◌, ◌++◌, cond, slice_index_or, Option, Some, None, Vec, Global, Bor, Result, refl, sym, ap, subst, arith, Ok, Err}
 use Rattle.std.specs.Prelude.{IfErr, IfOk, IfSome, filter, if◌then◌else◌}
-use Rattle.std.specs.List.{AllByRecursion, Contains, list_any}
+use Rattle.std.specs.List.{AllByRecursion, Contains}
 use Rattle.sq_lex.specs.declared.name.Name.{Name}
 use Rattle.sq_value.specs.Comparison.{is_same}
 use Rattle.sq_value.specs.declared.domain.Kind.{Kind}
@@ -14,7 +14,7 @@ use Rattle.sq_store.specs.Keys.{Keys, has_key, key_at}
 use Rattle.sq_store.specs.declared.table.Numbered.{Numbered}
 use Rattle.sq_meaning.specs.Environment.{Row}
 use Rattle.sq_meaning.specs.Query.{is_true}
-use Rattle.sq_meaning.specs.Status.{Outcome, and_then, kept}
+use Rattle.sq_meaning.specs.Status.{Outcome, and_then}
 use Rattle.sq_meaning.specs.WellFormed.{Has, HasValue, IsRowOf}
 use Rattle.sq_bound.specs.Condition.{cond_of}
 use Rattle.sq_bound.specs.Fits.{IsBase, has_its_values, keys_of_bases, not_nulls_hold}
@@ -30,7 +30,6 @@ use Rattle.sq_expression.specs.declared.fault.Fault.TheVariants as fault
 use Rattle.sq_condition.proofs.Conditions.{neither_left, neither_right}
 use Rattle.sq_query.specs.Key.{AreKeysOn}
 use Rattle.sq_query.specs.Several.{AreKeysUnder, has_one_of, rows_with}
-use Rattle.sq_query.specs.Row.{outside}
 use Rattle.sq_query.specs.Table.{numbered_in}
 use Rattle.sq_query.specs.Target.{and_own, chosen, conditions_of, is_true_of, rows_of_target}
 use Rattle.sq_query.specs.declared.key.KnownKeys.{KnownKeys}

@@ -7,9 +7,7 @@ use Rattle.std.proofs.lemmas.List.{take_more}
 use Rattle.std.specs.List.{AllByRecursion, AllZip}
 use Rattle.sq_lex.specs.declared.name.Name.{Name}
 use Rattle.sq_value.specs.Comparison.{is_same}
-use Rattle.sq_value.specs.SetFunctions.{is_null}
 use Rattle.sq_value.specs.declared.domain.Kind.{Kind}
-use Rattle.sq_value.specs.declared.truth.Truth.{Truth}
 use Rattle.sq_value.specs.declared.truth.Truth.TheVariants.{False}
 use Rattle.sq_value.specs.declared.value.Value.{Value}
 use Rattle.sq_value.specs.declared.value.Value.TheVariants.{Null}

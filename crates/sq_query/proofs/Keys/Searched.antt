@@ -60,14 +60,14 @@ use Rattle.sq_query.proofs.Targets.WalkedRows.{there_within}
 
 -- ---- the tree of such a query specification
 
-abbrev groups_in : BoundSpecification → Groups
+abbrev pub groups_in : BoundSpecification → Groups
 groups_in q = groups_if (option_map groups_of (out-BoundSpecification q).grouping)
 
 -- over one table, with this WHERE clause
-abbrev over_where : BoundSpecification → TablePlace → BoundCond → PlacedSelect
+abbrev pub over_where : BoundSpecification → TablePlace → BoundCond → PlacedSelect
 over_where q t own = select_by (out-BoundSpecification q).distinct (out-BoundSpecification q).list (t ∷ []) (present (cond_of [] own)) (groups_in q)
 
-tree_of : (q : BoundSpecification) (t : TablePlace) (own : BoundCond) → IsOver q t → IsWhere q own → select_of q ≡ over_where q t own
+pub tree_of : (q : BoundSpecification) (t : TablePlace) (own : BoundCond) → IsOver q t → IsWhere q own → select_of q ≡ over_where q t own
 tree_of q t own over is_where =
     select_of-out q ∙ (λ i. select_by (out-BoundSpecification q).distinct (out-BoundSpecification q).list (over i) (clause_of [] (is_where i)) (groups_in q))
 
@@ -127,20 +127,20 @@ only_kept : {A : Type 0} (test : A → Outcome Bool) (has : A → Bool) (o : Opt
 only_kept test has None = refl
 only_kept test has (Some x) = refl
 
-abbrev line_on : Numbered → Line
+abbrev pub line_on : Numbered → Line
 line_on r = r.row ∷ []
 
-lines_on : (found : List Numbered) → map as_line (map (λ (r : Numbered). r.row) found) ≡ map line_on found
+pub lines_on : (found : List Numbered) → map as_line (map (λ (r : Numbered). r.row) found) ≡ map line_on found
 lines_on found = map-map as_line (λ (r : Numbered). r.row) found
 
 module _ (tables : TablePlace → Outcome (List Row)) (columns : TableKinds) (parameters : List Kind) (values : List Value) (caller : Name) (given : IsRowOf parameters values)
     (bases : List BaseTable) (content : Content) (keys : List Keys) (place : ℕ) (b : BaseTable) (own : BoundCond) (known : KnownKey) (k : IsKeyOn place own content keys values caller known)
     (at : slice_get bases place ≡ Some b) (kinds_are : columns (Base place) ≡ Ok (base_kinds b)) (stands : StandsOn columns parameters (Base place) own) (keys_are : keys ≡ keys_of_bases bases) (nulls : not_nulls_hold bases content ≡ true)
     (rows_are : AllByRecursion (λ (r : Numbered). IsRowOf (base_kinds b) r.row) (table_at content place).rows) (keyed : are_keyed keys content ≡ true) where
-  abbrev all_rows : List Numbered
+  abbrev pub all_rows : List Numbered
   all_rows = (table_at content place).rows
 
-  abbrev found_row : Option Numbered
+  abbrev pub found_row : Option Numbered
   found_row = with_key (table_at content place) (key_at keys place known.key) known.values
 
   abbrev row_test : Numbered → Outcome Bool
@@ -149,10 +149,10 @@ module _ (tables : TablePlace → Outcome (List Row)) (columns : TableKinds) (pa
   abbrev has_it : Numbered → Bool
   has_it = has_key (key_at keys place known.key) known.values
 
-  abbrev test_on : Line → Outcome Bool
+  abbrev pub test_on : Line → Outcome Bool
   test_on line = is_true (truth (by_place tables) (cond_of [] own) (outside line values caller))
 
-  lines_kept : kept test_on (map line_on all_rows) ≡ kept test_on (map line_on (option_to_list found_row))
+  pub lines_kept : kept test_on (map line_on all_rows) ≡ kept test_on (map line_on (option_to_list found_row))
   lines_kept =
       kept_map line_on test_on all_rows
       ∙ ap (λ (o : Outcome (List Numbered)). and_then o (λ found. Ok (map line_on found)))
@@ -167,7 +167,7 @@ module _ (tables : TablePlace → Outcome (List Row)) (columns : TableKinds) (pa
       by None e = tt
       by (Some r) e = (found_is (λ (s : Numbered). IsRowOf (base_kinds b) s.row) has_it all_rows r rows_are e, tt)
 
-  all_stored : AreOfStore content tables → tables (Base place) ≡ Ok (rows_in (table_at content place))
+  pub all_stored : AreOfStore content tables → tables (Base place) ≡ Ok (rows_in (table_at content place))
   all_stored stored = stored place ∙ ap (λ (o : Outcome Table). and_then o (λ t. Ok (rows_in t))) (there_within content place k.table)
 
   pub same_by_key : (q : BoundSpecification) (few : TablePlace → Outcome (List Row)) → IsOverBase q place → IsWhere q own → AreOfStore content tables → few (Base place) ≡ Ok (rows_by_key content keys place known)

@@ -25,7 +25,7 @@ use Rattle.sq_expression.specs.Lines.{env_around}
 use Rattle.sq_condition.specs.Memo.{Meant}
 use Rattle.sq_condition.specs.Specification.{rows_meant}
 use Rattle.sq_query.specs.Needed.{IsNeeded, NeedsBases, ReadsCond, ReadsSelect}
-use Rattle.sq_query.specs.Row.{IsOnRow, outside, truth_on_row}
+use Rattle.sq_query.specs.Row.{StandsOnRow, outside, truth_on_row}
 use Rattle.sq_condition.specs.Subquery.{KnowsCond, KnowsQuery}
 use Rattle.sq_query.specs.Table.{ReadsAsMeant, bases_of, rows_among, rows_read, stored_base}
 use Rattle.sq_query.specs.Union.{AreFitting}
@@ -94,12 +94,12 @@ module _ {E : Type 0} (r : Result Needed E) (content : Content) (read : Tables) 
 -- ---- conditions on a row
 
 -- the truth of a condition is that over the tables that it reads
-pub truth_of_cond : (context : Context) (tables : TablePlace → Outcome (List Row)) (columns : TableKinds) (parameters : List Kind) (row : Row) (c : BoundCond) (result : Result Truth Fault) → IsOnRow columns parameters row c
+pub truth_of_cond : (context : Context) (tables : TablePlace → Outcome (List Row)) (columns : TableKinds) (parameters : List Kind) (row : Row) (c : BoundCond) (result : Result Truth Fault) → StandsOnRow columns parameters row c
     → ((meant : Meant) → KnowsCond context c meant → Means result (truth_on_row (table_rows context) context.parameters.now context.user row c))
     → ReadsCond (λ t. table_rows context t ≡ tables t) (cond_of [] c) → Answers (λ t. ⊤) (truth_on_row tables context.parameters.now context.user row c)
     → Meets result (truth_on_row tables context.parameters.now context.user row c)
 truth_of_cond context tables columns parameters row c result on h read ends =
-    let known = known_cond_of context c on.well.notes on.well.numbers in
+    let known = known_cond_of context c on.notes on.numbers in
     let same = same_truth (table_rows context) tables (cond_of [] c) read (outside (row ∷ []) context.parameters.now context.user) in
     subst (Means result) same (h known.0 known.1) (answers_right (λ t. ⊤) (truth_on_row tables context.parameters.now context.user row c) ends)
 

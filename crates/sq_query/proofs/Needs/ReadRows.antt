@@ -8,14 +8,14 @@ use Rattle.sq_store.specs.Content.{Content}
 use Rattle.sq_meaning.specs.Status.{Outcome, and_then}
 use Rattle.sq_meaning.specs.Environment.{Row, alone, outermost}
 use Rattle.sq_meaning.specs.Placed.{by_place}
-use Rattle.sq_meaning.specs.Query.{rows, truth}
+use Rattle.sq_meaning.specs.Query.{rows}
 use Rattle.sq_meaning.specs.QueryExpression.{query_rows}
 use Rattle.sq_meaning.specs.Rows.{SortColumn, by_columns, sorted}
-use Rattle.sq_meaning.specs.WellFormed.{Answers, IsRowOf, AreRowsOf, kinds_by_place, IsDeclaredAt}
+use Rattle.sq_meaning.specs.WellFormed.{Answers, IsRowOf, AreRowsOf, WellFormedCond, kinds_by_place, IsDeclaredAt}
 use Rattle.sq_meaning.proofs.AnswerLaws.{all_sorted, then_answers}
 use Rattle.sq_meaning.proofs.QueryKinds.{truth_of_kinds}
 use Rattle.sq_meaning.proofs.ReadingKinds.{env_by_place, places_agree}
-use Rattle.sq_bound.specs.Condition.{PlacedCond, select_of}
+use Rattle.sq_bound.specs.Condition.{cond_of, select_of}
 use Rattle.sq_bound.specs.Query.{query_of}
 use Rattle.sq_bound.specs.WellFormed.{TableKinds, IsSelect, IsQuery, IsViewQuery, kinds_of_select, kinds_of_query, of_base_at}
 use Rattle.sq_bound.specs.declared.condition.BoundCond.{BoundCond}
@@ -26,13 +26,23 @@ use Rattle.sq_bound.specs.declared.names.BaseTable.{BaseTable}
 use Rattle.sq_bound.specs.declared.query.BoundQuery.{BoundQuery}
 use Rattle.sq_expression.specs.Frame.{inputs_of}
 use Rattle.sq_query.specs.MayRead.{MayRead}
-use Rattle.sq_query.specs.Row.{IsOnRow, outside, truth_on_row}
+use Rattle.sq_query.specs.Row.{IsOnRow, StandsOnRow, outside, truth_on_row}
 use Rattle.sq_query.specs.Union.{AreFitting}
 use Rattle.sq_query.proofs.Needs.Fitting.{query_fits}
 use Rattle.sq_query.proofs.Keys.KeyedRows.{inputs_are}
 use Rattle.sq_query.proofs.Needs.KindsOfTables.{KindsAreOf}
 use Rattle.sq_query.proofs.Needs.TablesMeant.{select_fits, tables_fit}
 use Rattle.sq_query.proofs.ByUnion.UnionRows.{query_known}
+
+-- a well-formed condition stands on its row
+pub stands_so : (columns : TableKinds) (parameters : List Kind) (row : Row) (c : BoundCond) → IsOnRow columns parameters row c → StandsOnRow columns parameters row c
+stands_so columns parameters row c on = record {
+  place = on.place;
+  stands = λ rows_of. subst (WellFormedCond (by_place rows_of) (kinds_by_place columns parameters) (IsDeclaredAt parameters) (of_base_at on.place)) (sym (on.well.is_tree [])) (on.well.stands rows_of);
+  notes = on.well.notes;
+  numbers = on.well.numbers;
+  fits = on.fits;
+}
 
 module _ (bases : List BaseTable) (queries : List BoundSpecification) (columns : TableKinds) (content : Content) (user : Name) (values : List Value) (kinds_of_bases : KindsAreOf columns bases)
     (kinds_of_views : (place : ℕ) (kinds : List Kind) → columns (View place) ≡ Ok kinds → IsViewQuery columns queries place kinds)
@@ -54,8 +64,10 @@ module _ (bases : List BaseTable) (queries : List BoundSpecification) (columns :
       then_answers (AreRowsOf (kinds_of_query q)) (AreRowsOf (kinds_of_query q)) (query_rows (by_place tables) (kinds_by_place columns parameters) (query_of q) (outermost (inputs_of values) user)) (λ found. Ok (sorted (by_columns order) found))
       (query_answers q well) (λ found p. all_sorted (IsRowOf (kinds_of_query q)) (by_columns order) found p)
 
+  pub truth_stands : (row : Row) (c : BoundCond) → StandsOnRow columns parameters row c → Answers (λ t. ⊤) (truth_on_row tables values user row c)
+  truth_stands row c on =
+      truth_of_kinds (by_place tables) (kinds_by_place columns parameters) (IsDeclaredAt parameters) (places_agree tables columns parameters fitting) (cond_of [] c) (of_base_at on.place) (outside (row ∷ []) values user) (on.stands tables)
+      (env_by_place tables columns parameters (of_base_at on.place) (alone [] (row ∷ []) ∷ []) (inputs_of values) user (record { line = (on.fits, tt); group = tt }, tt) (inputs_are parameters values may.inputs))
+
   pub truth_answers : (row : Row) (c : BoundCond) → IsOnRow columns parameters row c → Answers (λ t. ⊤) (truth_on_row tables values user row c)
-  truth_answers row c on =
-      subst (λ (t : PlacedCond). Answers (λ u. ⊤) (truth (by_place tables) t (outside (row ∷ []) values user))) (sym (on.well.is_tree []))
-      (truth_of_kinds (by_place tables) (kinds_by_place columns parameters) (IsDeclaredAt parameters) (places_agree tables columns parameters fitting) on.well.tree (of_base_at on.place) (outside (row ∷ []) values user) (on.well.stands tables)
-      (env_by_place tables columns parameters (of_base_at on.place) (alone [] (row ∷ []) ∷ []) (inputs_of values) user (record { line = (on.fits, tt); group = tt }, tt) (inputs_are parameters values may.inputs)))
+  truth_answers row c on = truth_stands row c (stands_so columns parameters row c on)

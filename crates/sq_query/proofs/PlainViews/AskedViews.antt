@@ -15,7 +15,7 @@ use Rattle.sq_value.specs.declared.value.Value.{Value}
 use Rattle.sq_meaning.specs.Environment.{Env, Line, Place, Row, Scope, alone, outermost, within}
 use Rattle.sq_meaning.specs.Expression.{value}
 use Rattle.sq_meaning.specs.Placed.{Placed, by_place}
-use Rattle.sq_meaning.specs.Query.{clause_functions, clause_truth, is_grouped, is_some_of, is_true, list_functions, listed_values, rows, scopes_of}
+use Rattle.sq_meaning.specs.Query.{clause_functions, clause_truth, is_grouped, is_some_of, is_true, list_functions, rows}
 use Rattle.sq_meaning.specs.Quiet.{are_quiet, is_quiet}
 use Rattle.sq_meaning.specs.Rows.{firsts, product, same_row}
 use Rattle.sq_meaning.specs.Status.{Outcome, and_then, each, kept}
@@ -50,7 +50,7 @@ use Rattle.sq_query.specs.ValueScan.{may_have}
 use Rattle.sq_query.proofs.Needs.AnyTables.{listed_over, scopes_over}
 use Rattle.sq_query.proofs.Needs.SameTables.{over_rows, same_clause, shown_of, wanted_of}
 use Rattle.sq_query.proofs.PlainViews.AskedCells.{IsKnown, IsOwn, all_cells, cells_alike, clause_sure, first_row, key_cells, listed_sure, may_alike, own_there, shown_cells}
-use Rattle.sq_query.proofs.PlainViews.AskedRows.{AreAlikeBy, ShowsAlike, asked_lines}
+use Rattle.sq_query.proofs.PlainViews.AskedRows.{AreAlikeBy, asked_lines}
 use Rattle.sq_query.proofs.PlainViews.Classes.{map_filtered}
 use Rattle.sq_query.proofs.PlainViews.SureRows.{AreSureOn, AreSureParts, IsShort, IsSure, IsSureWith, as_short, call_sure, map_long, rows_sure, true_sure}
 

@@ -1,6 +1,6 @@
 -- An expression without an operation, whose set functions have these trees: it is a column as it was without them, and what holds of each leaf
 -- and goes through a sign holds of it.
-use Rattle.std.proofs.Common.{◌≡◌, ◌∙◌, ℕ, Bool, true, false, List, [], ◌∷◌, Option, Some, None, map, refl, sym, ap, subst}
+use Rattle.std.proofs.Common.{◌≡◌, ◌∙◌, ℕ, true, false, List, [], ◌∷◌, Some, None, map, refl, sym, ap, subst}
 use Rattle.std.specs.Prelude.{fold, slice_index_or}
 use Rattle.std.proofs.lemmas.Bool.{false≢true}
 use Rattle.sq_value.specs.declared.value.Value.{Value}

@@ -1,7 +1,7 @@
 -- A query over one table that has fewer than 10 ^ 18 rows never ends with a status but 42000, and has fewer than so many rows, if that is so of its
 -- parts (ISO/IEC 9075:1992, 6.5 and 7.6 to 7.9). A count of so few rows is in range.
-use Rattle.std.proofs.Common.{◌≡◌, ◌∙◌, inl, inr, ℕ, suc, ◌<◌, ◌≤◌, ◌^◌, Bool, true, false, not, ◌&&◌, ◌++◌, List, [], ◌∷◌, Option, Some, None, cond, filter, length, map, pos, arith, refl, sym, ap, subst, Ok, Err}
-use Rattle.std.specs.Prelude.{⊤, if◌then◌else◌, slice_index_or}
+use Rattle.std.proofs.Common.{◌≡◌, inl, inr, suc, ◌<◌, ◌≤◌, ◌^◌, Bool, true, false, not, ◌++◌, List, [], ◌∷◌, Option, Some, None, cond, filter, length, map, pos, arith, refl, sym, ap, subst, Ok, Err}
+use Rattle.std.specs.Prelude.{⊤, if◌then◌else◌}
 use Rattle.std.specs.List.{AllByRecursion}
 use Rattle.std.proofs.lemmas.Bool.{lt-ltb}
 use Rattle.sq_value.proofs.Truths.{both_left, both_right}
@@ -21,9 +21,9 @@ use Rattle.sq_meaning.specs.Quiet.{is_quiet_expr}
 use Rattle.sq_meaning.specs.Rows.{classes, firsts, same_row}
 use Rattle.sq_meaning.specs.Status.{Outcome, and_then, each, kept, well_formed}
 use Rattle.sq_meaning.specs.Sure.{IsSureOutcome}
-use Rattle.sq_meaning.specs.Syntax.{SelectList, expressions, is_null, set_function}
+use Rattle.sq_meaning.specs.Syntax.{expressions, is_null, set_function}
 use Rattle.sq_meaning.specs.declared.status.Status.TheVariants.{SyntaxErrorOrAccessRuleViolation}
-use Rattle.sq_meaning.proofs.AnswerLaws.{all_true, all_weaker}
+use Rattle.sq_meaning.proofs.AnswerLaws.{all_true}
 use Rattle.sq_meaning.proofs.SureLaws.{sure_value}
 use Rattle.sq_bound.specs.Condition.{PlacedClause}
 use Rattle.sq_bound.specs.Expression.{PlacedExpr, expr_of}

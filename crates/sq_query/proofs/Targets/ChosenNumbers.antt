@@ -1,5 +1,5 @@
 -- The numbers of the rows that conditions choose.
-use Rattle.std.proofs.Common.{◌≡◌, ◌∙◌, ℕ, Bool, List, Vec, Global, Bor, map, refl, ap, Ok, Err}
+use Rattle.std.proofs.Common.{◌≡◌, ◌∙◌, ℕ, Bool, List, Bor, map, refl, ap, Ok, Err}
 use Rattle.std.proofs.lemmas.Simd.{map-map}
 use Rattle.sq_store.specs.declared.table.Numbered.{Numbered}
 use Rattle.sq_meaning.specs.Environment.{Row}
@@ -7,7 +7,7 @@ use Rattle.sq_meaning.specs.Status.{Outcome, and_then}
 use Rattle.sq_expression.specs.Fault.{Meets}
 use Rattle.sq_expression.specs.declared.fault.Fault.{Fault}
 use Rattle.sq_expression.proofs.Groups.{fails_then, meets_same}
-use Rattle.sq_query.specs.Table.{numbered_in, numbered_row}
+use Rattle.sq_query.specs.Table.{numbered_row}
 use Rattle.sq_query.specs.Target.{chosen, numbers_chosen}
 
 module _ {X : Type 0} (test : X → Numbered → Outcome Bool) (xs : List X) where

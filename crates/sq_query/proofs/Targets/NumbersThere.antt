@@ -1,5 +1,5 @@
 -- The rows that a target means stand in the table under their numbers (ISO/IEC 9075:1992, 13.7 and 13.10).
-use Rattle.std.proofs.Common.{◌≡◌, ℕ, ◌+◌, ◌≤◌, Bool, true, false, List, [], ◌∷◌, cond, length, map, Option, Some, Result, Vec, Global, Bor, refl, ap, subst, arith, Ok, Err}
+use Rattle.std.proofs.Common.{◌≡◌, ℕ, ◌+◌, ◌≤◌, Bool, true, false, List, [], ◌∷◌, cond, length, map, Option, Some, Result, Vec, Global, refl, ap, subst, arith, Ok, Err}
 use Rattle.std.proofs.lemmas.Bool.{eq-eqb, eqb-true, leb-true}
 use Rattle.std.specs.Prelude.{IfOk, IsSome, find, if◌then◌else◌, is_some, nat_eq, nat_le, nat_lt}
 use Rattle.std.specs.List.{AllByRecursion}
@@ -8,13 +8,12 @@ use Rattle.sq_store.specs.Rising.{all_rising, rising_between}
 use Rattle.sq_store.specs.declared.table.Numbered.{Numbered}
 use Rattle.sq_store.specs.declared.table.Table.{Table}
 use Rattle.sq_store.proofs.Rises.{rows_rise_at}
-use Rattle.sq_meaning.specs.Environment.{Row}
 use Rattle.sq_meaning.specs.Status.{Outcome, and_then, kept, not_well_formed}
 use Rattle.sq_bound.proofs.QuietTruths.{both_left, both_right}
 use Rattle.sq_expression.specs.Fault.{MeetsAs}
 use Rattle.sq_expression.specs.declared.fault.Fault.{Fault}
 use Rattle.sq_expression.proofs.Kept.{ok_same}
-use Rattle.sq_query.specs.Table.{numbered_in, stored_numbered}
+use Rattle.sq_query.specs.Table.{stored_numbered}
 use Rattle.sq_query.specs.Target.{AreNumbersOf, AreRowsThere, chosen, numbers_in}
 
 -- ---- each row is found by its number, where the numbers rise

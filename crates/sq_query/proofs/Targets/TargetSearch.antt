@@ -1,7 +1,7 @@
 -- What a target names by a key is what a search over all rows finds: the conditions of the views between have a truth on each row, and the
 -- target's own condition is false on each row without the key.
-use Rattle.std.proofs.Common.{◌≡◌, ◌∙◌, ℕ, Bool, true, false, ◌||◌, List, [], ◌∷◌, ◌++◌, map, cond, find, Option, Some, None, Vec, Global, Bor, Result, refl, sym, ap, subst, Ok, Err}
-use Rattle.std.specs.Prelude.{IfErr, IfOk, if◌then◌else◌}
+use Rattle.std.proofs.Common.{◌≡◌, ◌∙◌, ℕ, Bool, true, false, ◌||◌, List, [], ◌∷◌, ◌++◌, cond, find, Option, Some, None, refl, sym, ap, subst, Ok, Err}
+use Rattle.std.specs.Prelude.{if◌then◌else◌}
 use Rattle.std.specs.List.{AllByRecursion, list_any}
 use Rattle.sq_value.proofs.Truths.{neither_left, neither_right}
 use Rattle.sq_lex.specs.declared.name.Name.{Name}
@@ -30,13 +30,12 @@ use Rattle.sq_bound.specs.declared.query.Target.{Target}
 use Rattle.sq_bound.proofs.QuietRows.{no_tables}
 use Rattle.sq_bound.proofs.QuietTruths.{both_left, both_right}
 use Rattle.sq_bound.proofs.Wider.{is_cond_wider}
-use Rattle.sq_expression.specs.Fault.{Meets, MeetsAs}
+use Rattle.sq_expression.specs.Fault.{Meets}
 use Rattle.sq_expression.specs.declared.fault.Fault.{Fault}
 use Rattle.sq_expression.specs.declared.fault.Fault.TheVariants as fault
 use Rattle.sq_query.specs.Key.{StandsOn}
 use Rattle.sq_query.specs.Meant.{IsKeyUnder}
 use Rattle.sq_query.specs.Row.{truth_on_row}
-use Rattle.sq_query.specs.Table.{numbered_in, numbered_row}
 use Rattle.sq_query.specs.Target.{and_own, are_true, chosen, conditions_of, is_true_of, rows_of_target}
 use Rattle.sq_query.specs.declared.key.KnownKey.{KnownKey}
 use Rattle.sq_query.proofs.Keys.KeyLacked.{test_answers}

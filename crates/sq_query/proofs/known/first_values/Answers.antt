@@ -12,9 +12,9 @@ loop-row-init c = subst (AllZip (IsKnownIn 0) []) (sym c.new-values.ensures.item
 pub loop-row-preserved : goal.loop-row-preserved
 loop-row-preserved c =
     let value = c.in-Some.value in
-    let known = if_some (IsKnownIn 0 c.as_slice.result.now) c.in_ok-value.field-0 value c.in_ok-value.ensures c.in-Some.is in
+    let known = if_some (IsKnownIn 0 c.row-item.result) c.in_ok-value.field-0 value c.in_ok-value.ensures c.in-Some.is in
     zip_more (IsKnownIn 0) c.args.rows.now c.loop-row.row-index c.row-item.result c.loop-row.values.items c.push.new.self.items value c.loop-row-test.true c.loop-row.invariant
-    (subst (λ (x : Row). IsKnownIn 0 x value) c.row-item.is (subst (λ (x : Row). IsKnownIn 0 x value) c.as_slice.ensures known)) c.in_ok-push-in-Some.ensures.items
+    (subst (λ (x : Row). IsKnownIn 0 x value) c.row-item.is known) c.in_ok-push-in-Some.ensures.items
 
 pub returns : goal.returns
 returns c = zip_all (IsKnownIn 0) c.args.rows.now c.loop-row.row-index c.loop-row.values.items c.loop-row-test.false c.loop-row.invariant

@@ -2,7 +2,7 @@
 use Rattle.std.proofs.Common.{List, subst, sym}
 use Rattle.std.specs.Prelude.{IfSome}
 use Rattle.sq_expression.specs.declared.table.BaseRows.{BaseRows}
-use Rattle.sq_query.specs.Known.{IsReadByRows, ServesOutside}
+use Rattle.sq_query.specs.Known.{IsReadByRows}
 use Rattle.sq_query.proofs.FoundByKey.ItemSearch.{at_index}
 use Rattle.sq_query.proofs.FoundByKey.KnownRows.{none_serve}
 use Rattle.sq_query.proofs.FoundByKey.KnownSearch.{never_more, one_serves}

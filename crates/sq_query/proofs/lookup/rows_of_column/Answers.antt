@@ -1,5 +1,5 @@
 -- Left open for rows_of_column: the clause found; answered by ItemSearch and KeyTests.
-use Rattle.std.proofs.Common.{◌≡◌, List, subst}
+use Rattle.std.proofs.Common.{List, subst}
 use Rattle.std.specs.Prelude.{IfSome}
 use Rattle.sq_value.specs.declared.value.Value.{Value}
 use Rattle.sq_query.specs.Named.{IsFalseOf}

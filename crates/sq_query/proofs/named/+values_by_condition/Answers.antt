@@ -1,5 +1,5 @@
 -- Left open: the clause named, and that the loops keep their invariants; answered by KeyTests and NamedRows.
-use Rattle.std.proofs.Common.{◌≡◌, ◌∙◌, [], Some, ap, map, subst, sym, true}
+use Rattle.std.proofs.Common.{◌∙◌, [], Some, ap, map, subst, sym}
 use Rattle.std.proofs.lemmas.List.{take_all}
 use Rattle.std.specs.List.{AllByRecursion}
 use Rattle.sq_meaning.specs.Syntax.{conds, conjunction}

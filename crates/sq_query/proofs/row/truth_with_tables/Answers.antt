@@ -7,7 +7,7 @@ use Rattle.sq_expression.specs.declared.context.Context.{Context}
 use Rattle.sq_query.specs.declared.view.Tables.{Tables}
 use Rattle.sq_query.proofs.Needs.Fitting.{fails_so}
 use Rattle.sq_query.proofs.Needs.ReadAs.{cond_read_in, truth_of_cond}
-use Rattle.sq_query.proofs.Needs.ReadRows.{truth_answers}
+use Rattle.sq_query.proofs.Needs.ReadRows.{truth_stands}
 use Rattle.sq_query.proofs.FoundByKey.RowTables.{no_memory_truth}
 use Rattle.sq_query.proofs.row.truth_with_tables.Goals as goal
 
@@ -23,7 +23,7 @@ returns-in-Ok-clause-truth g c = λ parameters tables may on.
     let condition = c.args.condition.now in
     let context : Context = record c.args.call.now { bases = c.as_slice.result; views = c.as_slice-in-Ok.result } in
     let read = (c.in-Ok.ensures.tables parameters tables may on).1 in
-    let ends = truth_answers (g.N.Names.base_tables names) (g.N.Names.view_queries names) columns content c.args.call.now.user c.args.call.now.parameters.now (g.met.N.Names.kinds_of_bases names) (g.met.N.Names.kinds_of_views names) parameters tables may c.args.row.now condition on in
+    let ends = truth_stands (g.N.Names.base_tables names) (g.N.Names.view_queries names) columns content c.args.call.now.user c.args.call.now.parameters.now (g.met.N.Names.kinds_of_bases names) (g.met.N.Names.kinds_of_views names) parameters tables may c.args.row.now condition on in
     subst (Meets c.outermost_truth-truth.result) read.same
     (truth_of_cond context read.rows_of columns parameters c.args.row.now condition c.outermost_truth-truth.result on c.outermost_truth-truth.ensures.known
     (cond_read_in context c.in-Ok.tables c.as_slice.ensures.value c.as_slice-in-Ok.ensures.value read.rows_of condition read.reads) (subst (Answers (λ t. ⊤)) (sym read.same) ends))

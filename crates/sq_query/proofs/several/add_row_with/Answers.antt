@@ -1,5 +1,5 @@
 -- Left open for add_row_with: the clause rows; answered by AddedRows and OnlyOne.
-use Rattle.std.proofs.Common.{◌≡◌, ◌∙◌, ◌∷◌, [], ap, sym}
+use Rattle.std.proofs.Common.{◌∙◌, ◌∷◌, [], ap, sym}
 use Rattle.sq_store.specs.Content.{table_at}
 use Rattle.sq_store.specs.Keys.{has_key, key_at, with_key}
 use Rattle.sq_store.proofs.Rises.{rows_rise_at}

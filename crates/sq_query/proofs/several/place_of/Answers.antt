@@ -1,5 +1,5 @@
 -- Left open for place_of: the clause place; answered by AddedRows.
-use Rattle.std.proofs.Common.{◌≡◌, ◌∙◌, ◌<◌, ℕ, Bor, ap, slice_index_or, subst, sym, take}
+use Rattle.std.proofs.Common.{◌∙◌, ◌<◌, ℕ, Bor, ap, slice_index_or, subst, sym, take}
 use Rattle.std.proofs.lemmas.List.{take_all}
 use Rattle.std.specs.List.{AllByRecursion}
 use Rattle.sq_meaning.specs.Environment.{Row}

@@ -9,7 +9,7 @@ use Rattle.sq_bound.specs.declared.condition.TablePlace.TheVariants.{Base}
 use Rattle.sq_expression.specs.Fault.{MeetsAs}
 use Rattle.sq_query.specs.Several.{AreKeysUnder, rows_with}
 use Rattle.sq_query.specs.Table.{numbered_in}
-use Rattle.sq_query.specs.Target.{conditions_of, rows_of_target}
+use Rattle.sq_query.specs.Target.{conditions_of}
 use Rattle.sq_query.proofs.Keys.KeyNames.{base_there}
 use Rattle.sq_query.proofs.Keys.KeyTests.{if_some}
 use Rattle.sq_query.proofs.Keys.KeyValues.{memory_meets}

@@ -1,5 +1,5 @@
 -- Left open for rows_with: the clause rows, and that the loop keeps its invariant; answered by AddedRows.
-use Rattle.std.proofs.Common.{◌∙◌, ℕ, List, Bor, ap, map, take}
+use Rattle.std.proofs.Common.{◌∙◌, List, ap, map, take}
 use Rattle.std.proofs.lemmas.List.{take_all}
 use Rattle.std.specs.Prelude.{filter}
 use Rattle.sq_value.specs.declared.value.Value.{Value}

@@ -13,6 +13,7 @@ use Rattle.sq_query.specs.Needed.{ReadsCond}
 use Rattle.sq_query.specs.Row.{IsOnRow, outside, truth_on_row}
 use Rattle.sq_query.specs.Target.{conditions_of, are_true}
 use Rattle.sq_expression.proofs.Expressions.{handed_on}
+use Rattle.sq_query.proofs.Needs.ReadRows.{stands_so}
 use Rattle.sq_query.proofs.Targets.Levels.{level_true, level_not, level_failed, levels_end, lent_at, none_at, chosen_by, told_by}
 use Rattle.sq_query.proofs.target.meets_levels.Goals as goal
 
@@ -41,7 +42,7 @@ loop-condition-preserved g c =
       meant = λ parameters tables may on.
           let test = λ (b : Bor BoundCond). truth_on_row tables c.args.call.now.parameters.now c.args.call.now.user c.args.row.now b.now in
           level_true test (are_true test items) items i x c.loop-condition-test.true c.condition-item.is (c.loop-condition.invariant.meant parameters tables may on)
-          (c.in_ok-truth.ensures.truth parameters tables may (lent_at (IsOnRow (g.N.Names.column_kinds c.args.names.now) parameters c.args.row.now) items i x c.loop-condition-test.true c.condition-item.is on) ∙ ap Ok holds);
+          (c.in_ok-truth.ensures.truth parameters tables may (stands_so (g.N.Names.column_kinds c.args.names.now) parameters c.args.row.now x.now (lent_at (IsOnRow (g.N.Names.column_kinds c.args.names.now) parameters c.args.row.now) items i x c.loop-condition-test.true c.condition-item.is on)) ∙ ap Ok holds);
       none = λ none. c.in_ok-truth.ensures.none (none_at (λ (d : BoundCond). has_subquery (cond_of [] d)) items i x c.loop-condition-test.true c.condition-item.is none) ∙ c.loop-condition.invariant.none none;
     }
 
@@ -97,7 +98,7 @@ returns-in_err-truth-clause-meant g c = λ parameters tables may on.
     told_by of c.from_residual-in_err-truth.result items (conditions_of c.args.target.now) same
     (handed_on c.from_residual-in_err-truth.result e (are_true test items) c.from_residual-in_err-truth.ensures.1
     (level_failed test (are_true test items) items i x c.loop-condition-test.true c.condition-item.is (c.loop-condition.invariant.meant parameters tables may all) e
-    (c.in_err-truth.ensures.truth parameters tables may (lent_at (IsOnRow (g.N.Names.column_kinds c.args.names.now) parameters c.args.row.now) items i x c.loop-condition-test.true c.condition-item.is all))))
+    (c.in_err-truth.ensures.truth parameters tables may (stands_so (g.N.Names.column_kinds c.args.names.now) parameters c.args.row.now x.now (lent_at (IsOnRow (g.N.Names.column_kinds c.args.names.now) parameters c.args.row.now) items i x c.loop-condition-test.true c.condition-item.is all)))))
 
 pub returns-then-ne-clause-meant : goal.returns-then-ne-clause-meant
 returns-then-ne-clause-meant g c = λ parameters tables may on.
@@ -111,7 +112,7 @@ returns-then-ne-clause-meant g c = λ parameters tables may on.
     let all = subst (AllByRecursion (IsOnRow (g.N.Names.column_kinds c.args.names.now) parameters c.args.row.now)) (sym same) on in
     told_by of (Ok false) items (conditions_of c.args.target.now) same
     (level_not test (are_true test items) items i x c.loop-condition-test.true c.condition-item.is (c.loop-condition.invariant.meant parameters tables may all) c.in_ok-truth.truth fails
-    (c.in_ok-truth.ensures.truth parameters tables may (lent_at (IsOnRow (g.N.Names.column_kinds c.args.names.now) parameters c.args.row.now) items i x c.loop-condition-test.true c.condition-item.is all)))
+    (c.in_ok-truth.ensures.truth parameters tables may (stands_so (g.N.Names.column_kinds c.args.names.now) parameters c.args.row.now x.now (lent_at (IsOnRow (g.N.Names.column_kinds c.args.names.now) parameters c.args.row.now) items i x c.loop-condition-test.true c.condition-item.is all))))
 
 pub returns-clause-meant : goal.returns-clause-meant
 returns-clause-meant g c = λ parameters tables may on.

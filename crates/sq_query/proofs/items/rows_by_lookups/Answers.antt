@@ -1,7 +1,7 @@
--- Left open for rows_by_keys: that the loop-counts keep their invariants; answered by Grown.
+-- Left open for rows_by_lookups: that the loop-counts keep their invariants; answered by Grown.
 use Rattle.sq_query.specs.Items.{IsReadOf}
 use Rattle.sq_query.proofs.FoundByKey.Grown.{grown_more, grown_none}
-use Rattle.sq_query.proofs.items.rows_by_keys.Goals as goal
+use Rattle.sq_query.proofs.items.rows_by_lookups.Goals as goal
 
 pub loop-count-init : goal.loop-count-init
 loop-count-init g c =
