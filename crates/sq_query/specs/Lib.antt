@@ -9,6 +9,7 @@ pub mod MayRead
 pub mod Meant
 pub mod Named
 pub mod Needed
+pub mod OnRow
 pub mod Order
 pub mod Row
 pub mod Search

@@ -10,11 +10,9 @@ use Rattle.sq_meaning.specs.Expression as meaning
 use Rattle.sq_meaning.specs.Placed.{by_place}
 use Rattle.sq_meaning.specs.Query.{truth}
 use Rattle.sq_meaning.specs.Target.{has_subquery}
-use Rattle.sq_meaning.specs.WellFormed.{Has, IsDeclaredAt, IsRowOf, WellFormedCond, kinds_by_place}
+use Rattle.sq_meaning.specs.WellFormed.{Has, IsRowOf}
 use Rattle.sq_bound.specs.Condition.{cond_of}
 use Rattle.sq_bound.specs.Expression.{expr_of}
-use Rattle.sq_bound.specs.Noted.{CondIsNoted}
-use Rattle.sq_bound.specs.Numbered.{CondWith, HaveNumbers}
 use Rattle.sq_bound.specs.WellFormed.{TableKinds, IsCond, of_base_at}
 use Rattle.sq_bound.specs.declared.condition.BoundCond.{BoundCond}
 use Rattle.sq_bound.specs.declared.condition.TablePlace.{TablePlace}
@@ -56,14 +54,4 @@ truth_on_row tables parameters user row c =
 pub record IsOnRow (columns : TableKinds) (parameters : List Kind) (row : Row) (c : BoundCond) : Type 0 where
   pub place : ℕ
   pub well : IsCond columns parameters (of_base_at place) [] c
-  pub fits : Has (λ kinds. IsRowOf kinds row) (columns (Base place))
-
--- the same of a condition of which only the tree without set functions is known to be well formed, as of a WHERE clause
-pub record StandsOnRow (columns : TableKinds) (parameters : List Kind) (row : Row) (c : BoundCond) : Type 0 where
-  pub place : ℕ
-  pub stands : (rows_of : TablePlace → Outcome (List Row))
-      → WellFormedCond (by_place rows_of) (kinds_by_place columns parameters) (IsDeclaredAt parameters)
-      (of_base_at place) (cond_of [] c)
-  pub notes : CondIsNoted c
-  pub numbers : HaveNumbers CondWith c
   pub fits : Has (λ kinds. IsRowOf kinds row) (columns (Base place))

@@ -23,7 +23,8 @@ ghost use Rattle.sq_expression.specs.Lines.{lines_in};
 ghost use Rattle.sq_query.specs.MayRead.{MayRead};
 ghost use Rattle.sq_query.specs.Needed.{FindsCond, inside_tables};
 ghost use Rattle.sq_query.specs.Inner.{HasKeys};
-ghost use Rattle.sq_query.specs.Row.{StandsOnRow, truth_on_row};
+ghost use Rattle.sq_query.specs.OnRow.{StandsOnRow};
+ghost use Rattle.sq_query.specs.Row.{truth_on_row};
 ghost use Rattle.sq_query.specs.Search.{IsReadable, IsStored};
 ghost use Rattle.sq_query.specs.SingleRow.{HasNoHaving, IsSingleRow, line_if, lines_left, listed_by};
 

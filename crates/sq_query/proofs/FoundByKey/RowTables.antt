@@ -28,7 +28,8 @@ use Rattle.sq_query.specs.Inner.{AreBeneath, HasKeys, IsInStore, IsReadOnRow, Se
 use Rattle.sq_query.specs.Around.{IsStanding}
 use Rattle.sq_query.specs.Items.{is_left, over}
 use Rattle.sq_query.specs.Needed.{IsNeeded, ReadsCond}
-use Rattle.sq_query.specs.Row.{HasTruthOn, StandsOnRow, outside, truth_on_row}
+use Rattle.sq_query.specs.OnRow.{StandsOnRow}
+use Rattle.sq_query.specs.Row.{HasTruthOn, outside, truth_on_row}
 use Rattle.sq_query.specs.Table.{AreOfStore, ReadsAsMeant, bases_of, rows_among, rows_read}
 use Rattle.sq_query.specs.Union.{AreFitting}
 use Rattle.sq_query.specs.declared.around.Standing.{Standing}

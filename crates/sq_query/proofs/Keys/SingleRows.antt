@@ -53,7 +53,8 @@ use Rattle.sq_expression.proofs.Views.{handed_on_as}
 use Rattle.sq_expression.specs.declared.frame.Lines.{Lines}
 use Rattle.sq_query.specs.Key.{IsKeyOn, StandsOn}
 use Rattle.sq_query.specs.Needed.{ReadsClause, ReadsCond, ReadsSelect}
-use Rattle.sq_query.specs.Row.{StandsOnRow, outside, truth_on_row}
+use Rattle.sq_query.specs.OnRow.{StandsOnRow}
+use Rattle.sq_query.specs.Row.{outside, truth_on_row}
 use Rattle.sq_query.specs.Search.{IsOver, IsWhere}
 use Rattle.sq_query.specs.SingleRow.{HasNoHaving, line_if, lines_left, listed_by}
 use Rattle.sq_query.specs.declared.key.KnownKey.{KnownKey}

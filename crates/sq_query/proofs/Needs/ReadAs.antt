@@ -25,7 +25,8 @@ use Rattle.sq_expression.specs.Lines.{env_around}
 use Rattle.sq_condition.specs.Memo.{Meant}
 use Rattle.sq_condition.specs.Specification.{rows_meant}
 use Rattle.sq_query.specs.Needed.{IsNeeded, NeedsBases, ReadsCond, ReadsSelect}
-use Rattle.sq_query.specs.Row.{StandsOnRow, outside, truth_on_row}
+use Rattle.sq_query.specs.OnRow.{StandsOnRow}
+use Rattle.sq_query.specs.Row.{outside, truth_on_row}
 use Rattle.sq_condition.specs.Subquery.{KnowsCond, KnowsQuery}
 use Rattle.sq_query.specs.Table.{ReadsAsMeant, bases_of, rows_among, rows_read, stored_base}
 use Rattle.sq_query.specs.Union.{AreFitting}

@@ -26,7 +26,8 @@ use Rattle.sq_bound.specs.declared.names.BaseTable.{BaseTable}
 use Rattle.sq_bound.specs.declared.query.BoundQuery.{BoundQuery}
 use Rattle.sq_expression.specs.Frame.{inputs_of}
 use Rattle.sq_query.specs.MayRead.{MayRead}
-use Rattle.sq_query.specs.Row.{IsOnRow, StandsOnRow, outside, truth_on_row}
+use Rattle.sq_query.specs.OnRow.{StandsOnRow}
+use Rattle.sq_query.specs.Row.{IsOnRow, outside, truth_on_row}
 use Rattle.sq_query.specs.Union.{AreFitting}
 use Rattle.sq_query.proofs.Needs.Fitting.{query_fits}
 use Rattle.sq_query.proofs.Keys.KeyedRows.{inputs_are}
