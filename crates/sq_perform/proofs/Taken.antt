@@ -20,10 +20,11 @@ use Rattle.sq_tree.specs.declared.script.ScriptItem.{ScriptItem}
 use Rattle.sq_tree.specs.declared.script.ScriptItem.TheVariants as script
 use Rattle.sq_tree.specs.declared.script.ScriptText.{ScriptText}
 use Rattle.sq_meaning.specs.Report.{Bytes}
-use Rattle.sq_meaning.specs.Run.{item_of_script}
+use Rattle.sq_meaning.specs.Run.{RunItem, item_of_script}
 use Rattle.sq_meaning.specs.Script.{argument_values}
 use Rattle.sq_binding.proofs.Schemas.Names.{position_at}
 use Rattle.sq_catalog.specs.Catalog.{table_number}
+use Rattle.sq_module.specs.declared.program.ProcedureName.{ProcedureName}
 use Rattle.sq_session.specs.Kind.{Procedure, fits_at}
 use Rattle.sq_session.specs.Session.{Session, is_procedure, name_at, name_of as procedure_name, procedure_number}
 use Rattle.sq_perform.specs.Fault.{IsItemFault, IsOfItem, IsPlacedIfAny, IsRefusalIfAny, IsScriptRefusal, IsUntaken, ItemFault, TextFault}
@@ -31,6 +32,7 @@ use Rattle.sq_perform.specs.Action.{item_of, name_of}
 use Rattle.sq_perform.specs.Asked.{AreActions}
 use Rattle.sq_perform.specs.Steps.{IsPrepared}
 use Rattle.sq_perform.specs.declared.action.Action.{Action}
+use Rattle.sq_perform.specs.declared.action.Action.TheVariants.{Call}
 use Rattle.sq_perform.specs.declared.action.CallAction.{CallAction}
 use Rattle.sq_perform.specs.Items.{IsTaken, call_fault, item_fault, table_fault}
 use Rattle.sq_perform.specs.Refused.{IsFirstItem, IsRefusedScript}
@@ -55,8 +57,12 @@ call_of_known procedures values handed found number answer e same fits =
     let fit : fits_at procedures number handed ≡ answer = ap (fits_at procedures number) (sym same) ∙ fits in
     here ∙ ap if_fits fit
 
--- the procedure of the number that a name has has that name
-pub number_named : (procedures : List Procedure) («module» name : Name) (number : ℕ) → procedure_number procedures «module» name ≡ Some number
+pub still_fits : (procedures : List Procedure) (number : ℕ) (handed values : List Value) (answer : Bool) → handed ≡ values → answer ≡ fits_at procedures number handed → answer ≡ true
+    → fits_at procedures number values ≡ true
+still_fits procedures number handed values answer same fits is = ap (fits_at procedures number) (sym same) ∙ sym fits ∙ is
+
+-- a procedure has the name by which it is found
+number_named : (procedures : List Procedure) («module» name : Name) (number : ℕ) → procedure_number procedures «module» name ≡ Some number
     → name_at procedures number ≡ Some (record { «module» = «module»; name = name })
 number_named procedures «module» name number found =
     let there = position_at (is_procedure «module» name) procedures number found in
@@ -65,12 +71,24 @@ number_named procedures «module» name number found =
     let second = sym (same_text name (there.0).name (sym parts.1)) in
     ap (option_map procedure_name) there.1 ∙ (λ i. Some (record { «module» = first i; name = second i }))
 
--- so a call of it has that name
-pub call_named : (procedures : List Procedure) («module» name : Name) (number : ℕ) (c : CallAction) → procedure_number procedures «module» name ≡ Some number → c.procedure ≡ number
+-- so a call of it has that name,
+call_named : (procedures : List Procedure) («module» name : Name) (c : CallAction) → procedure_number procedures «module» name ≡ Some c.procedure
     → name_of procedures c ≡ record { «module» = «module»; name = name }
-call_named procedures «module» name number c found is =
-    ap (λ n. unwrap_or (name_at procedures n) (record { «module» = []; name = [] })) is
-    ∙ ap (λ o. unwrap_or o (record { «module» = []; name = [] })) (number_named procedures «module» name number found)
+call_named procedures «module» name c found =
+    ap (λ o. unwrap_or o (record { «module» = []; name = [] })) (number_named procedures «module» name c.procedure found)
+
+-- and is the procedure of its name;
+pub call_prepared : (procedures : List Procedure) («module» name : Name) (c : CallAction) → procedure_number procedures «module» name ≡ Some c.procedure
+    → procedure_number procedures (name_of procedures c).«module» (name_of procedures c).name ≡ Some c.procedure
+call_prepared procedures «module» name c found =
+    subst (λ (n : ProcedureName). procedure_number procedures n.«module» n.name ≡ Some c.procedure) (sym (call_named procedures «module» name c found)) found
+
+-- it is what an item with that name and its values asks for
+pub call_asked : (procedures : List Procedure) («module» name : Name) (values : List Value) (c : CallAction) → procedure_number procedures «module» name ≡ Some c.procedure
+    → c.values ≡ values → item_of procedures (Call c) ≡ RunItem.call (record { in_module = «module»; procedure = name; values = values })
+call_asked procedures «module» name values c found same =
+    let named = call_named procedures «module» name c found in
+    λ i. RunItem.call (record { in_module = (named i).«module»; procedure = (named i).name; values = same i })
 
 -- ---- all items
 
