@@ -58,10 +58,11 @@ fn push_notes<S: Store>(
     ensures { OnOk result (Notes call.now session.now reply.now.status notes.new.items) }
 {
     let name = call.name(session);
+    let module = name.module;
     push_call(alloc, name, call.values.as_slice(), notes)?;
     notes.extend_from_slice(b"\n")?;
     push_cause(alloc, session, call, reply, notes)?;
-    let effects = effects_of(alloc, session, name.module, before, options)?;
+    let effects = effects_of(alloc, session, module, before, options)?;
     let ended = notes.extend_from_slice(effects.as_slice());
     drop(effects);
     ended
