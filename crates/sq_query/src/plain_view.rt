@@ -14,12 +14,12 @@ ghost use Rattle.sq_query.specs.Search.{IsOver};
 ghost use Rattle.sq_query.specs.Shown.{AreShown, Asks, IsPath, IsPlainOver, Shows, is_grouped_by, is_quiet_beside, is_sure_call, is_sure_grouping, is_unwritten, stays_in_range};
 
 use crate::needed::view_at;
-use crate::search::only_table;
 use sq_bound::{
     BoundCond, BoundExpr, BoundSpecification, Grouping, Names, Place, SetFunctionCall, TablePlace,
     is_quiet_cond, own_column,
 };
 use sq_tree::SetFunction;
+use std::alloc::{AllocError, Global};
 
 /// The base table under a plain view, whose query is over it alone, or over another such view.
 pub(crate) fn base_under<N: Names>(names: &N, view: usize) -> Option<usize>
@@ -113,6 +113,35 @@ fn plain_over(query: &BoundSpecification) -> Option<TablePlace>
     } else {
         None
     }
+}
+
+/// The only table in the FROM clause of a query specification.
+pub(crate) fn only_table(query: &BoundSpecification) -> Option<TablePlace> {
+    match query.from.tables.as_slice() {
+        [table] => Some(*table),
+        _ => None,
+    }
+}
+
+/// For each column of the base table under a plain view the one by which the view is asked where the table is asked by it.
+pub(crate) fn columns_shown<N: Names>(
+    alloc: Global,
+    names: &N,
+    view: usize,
+    base: usize,
+) -> Result<Vec<Option<usize>>, AllocError> {
+    let Some(table) = names.bases().get(base) else {
+        return Ok(Vec::new(alloc));
+    };
+    let mut shown = Vec::from_elem(alloc, None, table.get().columns.len())?;
+    for column in 0..view_at(names, view).query.list.len() {
+        if let Some((_, own)) = column_under(names, view, column) {
+            if shown[own].is_none() {
+                shown[own] = Some(column);
+            }
+        }
+    }
+    Ok(shown)
 }
 
 /// The view over which alone a query specification is.

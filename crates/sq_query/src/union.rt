@@ -13,7 +13,7 @@ ghost use Rattle.sq_query.specs.Order.{HasQueryRows, HasTermRows};
 ghost use Rattle.sq_query.specs.Search.{AreReadable};
 ghost use Rattle.sq_query.specs.Union.{MayBeBrought, IsBringable, AreBringable, IsJoinedTo, WereJoined, all_stay, rows_behind, stays};
 
-use crate::search::rows_of_specification;
+use crate::specification::rows_of_specification;
 use sq_bound::{BoundQuery, BoundTerm, BoundUnion, Names, ResultColumn};
 use sq_expression::{Context, Fault, distinct_rows, number_value};
 use sq_store::{Meter, Store};
