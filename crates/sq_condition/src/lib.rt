@@ -24,6 +24,6 @@ pub use condition::{
     known_key, named_rows, outermost_rows, rows_named_through, rows_over, truth,
 };
 pub use memo::Memo;
-pub use named::only_tests;
+pub use named::terms_of;
 pub use named_by::{NamedBy, named_by};
 pub use reading::{Reading, ViewRows};

@@ -18,7 +18,7 @@ pub enum NamedBy {
 /// What tests name rows of an item by for each line of the items before it: of a base table with these keys, and these columns
 /// with an index.
 pub fn named_by(
-    tests: &[BoundTest],
+    terms: &[BoundConj],
     item: usize,
     shown: Option<&[Option<usize>]>,
     keys: &[Items<usize>],
@@ -28,7 +28,7 @@ pub fn named_by(
         item,
         known: item,
         shown,
-        ..Sought::on_row(tests)
+        ..Sought::on_row(terms)
     };
     for (number, key) in keys.iter().enumerate() {
         if key.as_slice().iter().all(|column| sought.equal_to(*column).is_some()) {
@@ -52,8 +52,10 @@ pub fn named_by(
 
 fn is_named(sought: &Sought<'_>, column: usize, by_query: bool) -> bool {
     match sought.own_column(column) {
-        Some(own) => is_named_among(sought.tests, sought, own, by_query),
-        None => false,
+        Some(own) if !sought.terms.is_empty() => {
+            is_named_by_each(sought.terms, sought, own, by_query)
+        }
+        _ => false,
     }
 }
 

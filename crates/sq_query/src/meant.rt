@@ -4,8 +4,8 @@ use crate::few_rows::FewRows;
 use crate::inputs::Inputs;
 use crate::row::call_of;
 use crate::target::{chosen_rows, meets_target, views_of_target};
-use sq_bound::{BoundTest, Names, Target};
-use sq_condition::{KnownKey, Memo, Numbered, Reading, known_key, named_rows, only_tests};
+use sq_bound::{BoundConj, Names, Target};
+use sq_condition::{KnownKey, Memo, Numbered, Reading, known_key, named_rows, terms_of};
 use sq_expression::{Context, Fault};
 use sq_store::{Meter, Store};
 use sq_value::Row;
@@ -55,7 +55,7 @@ fn rows_named<'a, S: Store>(
         views: &[],
     };
     let mut memo = Memo::new(call.alloc, replace(meter, Meter::new()));
-    let named = named_rows(tests_of(target), target.base, &reading, &mut memo);
+    let named = named_rows(terms_of_target(target), target.base, &reading, &mut memo);
     *meter = memo.into_meter();
     match named? {
         Some(named) => Ok(named),
@@ -63,10 +63,10 @@ fn rows_named<'a, S: Store>(
     }
 }
 
-/// The tests that may name rows: none if the condition of a view between may end with a status on another row.
-fn tests_of(target: &Target) -> &[BoundTest] {
+/// The terms that may name rows: none if the condition of a view between may end with a status on another row.
+fn terms_of_target(target: &Target) -> &[BoundConj] {
     if target.leaf.get().is_quiet {
-        only_tests(&target.condition)
+        terms_of(&target.condition)
     } else {
         &[]
     }
@@ -112,7 +112,7 @@ pub fn key_of<S: Store>(
     store: &S,
     inputs: Inputs<'_>,
 ) -> Result<Option<KnownKey>, Fault> {
-    known_key(tests_of(target), target.base, &call_of(alloc, inputs), store)
+    known_key(terms_of_target(target), target.base, &call_of(alloc, inputs), store)
 }
 
 /// The numbers of rows.

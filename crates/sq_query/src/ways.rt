@@ -5,10 +5,10 @@ use crate::needed::Needed;
 use crate::plain_view::{base_under, columns_shown, view_under};
 use crate::way::{ColumnPlace, How, KeyPlace, Way};
 use sq_bound::{
-    BaseTable, BoundCond, BoundQuery, BoundSpecification, BoundTerm, BoundTest, Names, Predicate,
+    BaseTable, BoundCond, BoundQuery, BoundSpecification, BoundTerm, BoundConj, Names, Predicate,
     TablePlace, Target,
 };
-use sq_condition::{NamedBy, named_by, only_tests};
+use sq_condition::{NamedBy, named_by, terms_of};
 use std::alloc::{AllocError, Global};
 
 /// How the rows of the tables of a query expression are found: of each query specification in it, in the order of the text.
@@ -67,8 +67,8 @@ fn how_of_target(alloc: Global, target: &Target) -> Result<How, AllocError> {
     if !target.leaf.get().is_quiet {
         return Ok(How::Whole);
     }
-    let tests = only_tests(&target.condition);
-    how_of_base(alloc, target.leaf.get().table.get(), target.base, tests, 0, None)
+    let terms = terms_of(&target.condition);
+    how_of_base(alloc, target.leaf.get().table.get(), target.base, terms, 0, None)
 }
 
 /// How the rows of a base table in an item are found.
@@ -76,12 +76,12 @@ fn how_of_base(
     alloc: Global,
     table: &BaseTable,
     base: usize,
-    tests: &[BoundTest],
+    terms: &[BoundConj],
     item: usize,
     shown: Option<&[Option<usize>]>,
 ) -> Result<How, AllocError> {
     let indexed = indexed_columns(alloc, table)?;
-    let found = named_by(tests, item, shown, table.keys.as_slice(), indexed.as_slice());
+    let found = named_by(terms, item, shown, table.keys.as_slice(), indexed.as_slice());
     match found {
         Some(NamedBy::Key(key)) => Ok(How::Key(KeyPlace { base, key })),
         Some(NamedBy::Values(key)) => Ok(How::Several(KeyPlace { base, key })),
@@ -166,8 +166,8 @@ fn how_of_view<N: Names>(
         return Ok(How::Whole);
     };
     let shown = columns_shown(alloc, names, view, base)?;
-    let tests = only_tests(&query.condition);
-    how_of_base(alloc, table.get(), base, tests, 0, Some(shown.as_slice()))
+    let terms = terms_of(&query.condition);
+    how_of_base(alloc, table.get(), base, terms, 0, Some(shown.as_slice()))
 }
 
 /// Adds the ways of a query specification.
@@ -197,8 +197,8 @@ fn how_of_item<N: Names>(
     };
     match names.bases().get(base) {
         Some(table) => {
-            let tests = only_tests(&query.condition);
-            how_of_base(alloc, table.get(), base, tests, item, None)
+            let terms = terms_of(&query.condition);
+            how_of_base(alloc, table.get(), base, terms, item, None)
         }
         None => Ok(How::Whole),
     }
