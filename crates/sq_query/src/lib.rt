@@ -7,6 +7,7 @@
 #![tactic(auto)]
 
 mod around;
+mod asked;
 mod elsewhere;
 mod few_rows;
 mod inner;
@@ -29,17 +30,15 @@ mod row;
 mod scan;
 mod search;
 mod several;
-mod shown;
 mod single_row;
 mod sought;
 mod table;
 mod target;
 mod through;
 mod union;
-mod value_scan;
 mod valued;
 mod view;
-mod view_key;
+mod view_items;
 mod way;
 mod ways;
 

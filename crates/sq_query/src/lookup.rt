@@ -4,6 +4,7 @@ ghost use Rattle.std.specs.Prelude.{◌≡◌, ◌<◌, IfErr, IfOk, IfSome, len
 ghost use Rattle.sq_query.specs.Items.{HasNamedRows};
 ghost use Rattle.sq_query.specs.Valued.{HasRowsWithOne};
 
+use crate::asked::Asked;
 use crate::named::{Sure, values_by_condition};
 use crate::named_keys::{key_by_tests, keys_by_tests};
 use crate::search::base_by_key;
@@ -29,9 +30,9 @@ pub(crate) enum Lookup {
     Walk,
 }
 
-/// The rows of the base table of an item that WHERE names, from the first of these lookups that there is.
+/// The rows of the base table that is asked for an item that WHERE names, from the first of these lookups that there is.
 pub(crate) fn rows_named<'a, S: Store>(
-    base: usize,
+    asked: &Asked<'_>,
     condition: &BoundCond,
     sought: &Sought<'_>,
     lookups: &[Lookup],
@@ -39,13 +40,13 @@ pub(crate) fn rows_named<'a, S: Store>(
     call: &Context<'_>,
     meter: &mut Meter,
 ) -> Result<Option<BaseRows<'a>>, Fault>
-    requires there { base < length (S.content_now store.now) }
-    ensures found { IfOk result (λ found. IfSome found (HasNamedRows base condition.now sought.now
+    requires there { asked.now.base < length (S.content_now store.now) }
+    ensures found { IfOk result (λ found. IfSome found (HasNamedRows asked.now condition.now sought.now
         call.now.parameters.now call.now.user (S.content_now store.now) (S.key_columns store.now))) }
     ensures memory { IfErr result (λ fault. fault ≡ Fault.NoMemory) }
 {
     for lookup in lookups {
-        let own = rows_by_lookup(base, condition, sought, *lookup, store, call, meter)?;
+        let own = rows_by_lookup(asked, condition, sought, *lookup, store, call, meter)?;
         if own.is_some() {
             return Ok(own);
         }
@@ -53,9 +54,9 @@ pub(crate) fn rows_named<'a, S: Store>(
     Ok(None)
 }
 
-/// The rows of the base table of an item that WHERE names, if there is this lookup to them.
+/// The rows of the base table that is asked for an item that WHERE names, if there is this lookup to them.
 fn rows_by_lookup<'a, S: Store>(
-    base: usize,
+    asked: &Asked<'_>,
     condition: &BoundCond,
     sought: &Sought<'_>,
     lookup: Lookup,
@@ -63,57 +64,57 @@ fn rows_by_lookup<'a, S: Store>(
     call: &Context<'_>,
     meter: &mut Meter,
 ) -> Result<Option<BaseRows<'a>>, Fault>
-    requires there { base < length (S.content_now store.now) }
-    ensures found { IfOk result (λ found. IfSome found (HasNamedRows base condition.now sought.now
+    requires there { asked.now.base < length (S.content_now store.now) }
+    ensures found { IfOk result (λ found. IfSome found (HasNamedRows asked.now condition.now sought.now
         call.now.parameters.now call.now.user (S.content_now store.now) (S.key_columns store.now))) }
     ensures memory { IfErr result (λ fault. fault ≡ Fault.NoMemory) }
 {
     match lookup {
-        Lookup::Key => rows_of_key(base, condition, sought, store, call, meter),
-        Lookup::Keys => rows_of_several(base, condition, sought, store, call, meter),
-        Lookup::Index => rows_of_values(base, condition, sought, false, store, call, meter),
-        Lookup::Walk => rows_of_values(base, condition, sought, true, store, call, meter),
+        Lookup::Key => rows_of_key(asked, condition, sought, store, call, meter),
+        Lookup::Keys => rows_of_several(asked, condition, sought, store, call, meter),
+        Lookup::Index => rows_of_values(asked, condition, sought, false, store, call, meter),
+        Lookup::Walk => rows_of_values(asked, condition, sought, true, store, call, meter),
     }
 }
 
 // ---- keys
 
-/// The rows of the base table of an item that WHERE names by one value of each column of a key.
+/// The rows of the base table that is asked for an item that WHERE names by one value of each column of a key.
 fn rows_of_key<'a, S: Store>(
-    base: usize,
+    asked: &Asked<'_>,
     condition: &BoundCond,
     sought: &Sought<'_>,
     store: &'a S,
     call: &Context<'_>,
     meter: &mut Meter,
 ) -> Result<Option<BaseRows<'a>>, Fault>
-    requires there { base < length (S.content_now store.now) }
-    ensures found { IfOk result (λ found. IfSome found (HasNamedRows base condition.now sought.now
+    requires there { asked.now.base < length (S.content_now store.now) }
+    ensures found { IfOk result (λ found. IfSome found (HasNamedRows asked.now condition.now sought.now
         call.now.parameters.now call.now.user (S.content_now store.now) (S.key_columns store.now))) }
     ensures memory { IfErr result (λ fault. fault ≡ Fault.NoMemory) }
 {
-    match key_by_tests(base, condition, sought, Sure::Noted, store, call)? {
-        Some(known) => Ok(Some(base_by_key(call.alloc, store, base, &known, meter)?)),
+    match key_by_tests(asked, condition, sought, Sure::Noted, store, call)? {
+        Some(known) => Ok(Some(base_by_key(call.alloc, store, asked.base, &known, meter)?)),
         None => Ok(None),
     }
 }
 
-/// The rows of the base table of an item that WHERE names by several values of a key.
+/// The rows of the base table that is asked for an item that WHERE names by several values of a key.
 fn rows_of_several<'a, S: Store>(
-    base: usize,
+    asked: &Asked<'_>,
     condition: &BoundCond,
     sought: &Sought<'_>,
     store: &'a S,
     call: &Context<'_>,
     meter: &mut Meter,
 ) -> Result<Option<BaseRows<'a>>, Fault>
-    requires there { base < length (S.content_now store.now) }
-    ensures found { IfOk result (λ found. IfSome found (HasNamedRows base condition.now sought.now
+    requires there { asked.now.base < length (S.content_now store.now) }
+    ensures found { IfOk result (λ found. IfSome found (HasNamedRows asked.now condition.now sought.now
         call.now.parameters.now call.now.user (S.content_now store.now) (S.key_columns store.now))) }
     ensures memory { IfErr result (λ fault. fault ≡ Fault.NoMemory) }
 {
-    match keys_by_tests(base, condition, sought, Sure::Noted, store, call)? {
-        Some(known) => Ok(Some(base_by_values(base, &known, store, call, meter)?)),
+    match keys_by_tests(asked, condition, sought, Sure::Noted, store, call)? {
+        Some(known) => Ok(Some(base_by_values(asked.base, &known, store, call, meter)?)),
         None => Ok(None),
     }
 }
@@ -123,7 +124,7 @@ fn rows_of_several<'a, S: Store>(
 /// The rows of the base table of an item but those that have other values in a column by which WHERE names them: in a walk if that is said,
 /// or if the store has an index of the column.
 fn rows_of_values<'a, S: Store>(
-    base: usize,
+    asked: &Asked<'_>,
     condition: &BoundCond,
     sought: &Sought<'_>,
     may_walk: bool,
@@ -131,8 +132,8 @@ fn rows_of_values<'a, S: Store>(
     call: &Context<'_>,
     meter: &mut Meter,
 ) -> Result<Option<BaseRows<'a>>, Fault>
-    requires there { base < length (S.content_now store.now) }
-    ensures found { IfOk result (λ found. IfSome found (HasNamedRows base condition.now sought.now
+    requires there { asked.now.base < length (S.content_now store.now) }
+    ensures found { IfOk result (λ found. IfSome found (HasNamedRows asked.now condition.now sought.now
         call.now.parameters.now call.now.user (S.content_now store.now) (S.key_columns store.now))) }
     ensures memory { IfErr result (λ fault. fault ≡ Fault.NoMemory) }
 {
@@ -140,7 +141,7 @@ fn rows_of_values<'a, S: Store>(
     add_compared(condition, sought.item, &mut columns)?;
     for column in columns.as_slice() {
         let own = rows_of_column(
-            base, *column, condition, sought, may_walk, store, call, meter,
+            asked, *column, condition, sought, may_walk, store, call, meter,
         )?;
         if own.is_some() {
             return Ok(own);
@@ -151,7 +152,7 @@ fn rows_of_values<'a, S: Store>(
 
 /// The same by this column, if WHERE names the rows by values of it.
 fn rows_of_column<'a, S: Store>(
-    base: usize,
+    asked: &Asked<'_>,
     column: usize,
     condition: &BoundCond,
     sought: &Sought<'_>,
@@ -160,16 +161,19 @@ fn rows_of_column<'a, S: Store>(
     call: &Context<'_>,
     meter: &mut Meter,
 ) -> Result<Option<BaseRows<'a>>, Fault>
-    requires there { base < length (S.content_now store.now) }
-    ensures found { IfOk result (λ found. IfSome found (HasNamedRows base condition.now sought.now
+    requires there { asked.now.base < length (S.content_now store.now) }
+    ensures found { IfOk result (λ found. IfSome found (HasNamedRows asked.now condition.now sought.now
         call.now.parameters.now call.now.user (S.content_now store.now) (S.key_columns store.now))) }
     ensures memory { IfErr result (λ fault. fault ≡ Fault.NoMemory) }
 {
+    let Some(own_column) = asked.own(column) else {
+        return Ok(None);
+    };
     match values_by_condition(condition, column, sought, Sure::Noted, call)? {
         Some(values) => {
             let own = rows_if_quick(
-                base,
-                column,
+                asked.base,
+                own_column,
                 values.as_slice(),
                 may_walk,
                 store,

@@ -7,10 +7,12 @@ ghost use Rattle.sq_store.specs.Keys.{keys_at};
 ghost use Rattle.sq_bound.specs.WellFormed.{TableKinds};
 ghost use Rattle.sq_bound.specs.declared.condition.TablePlace.TheVariants as at_place;
 ghost use Rattle.sq_meaning.specs.WellFormed.{IsRowOf};
+ghost use Rattle.sq_query.specs.Asked.{IsFalseThrough};
 ghost use Rattle.sq_query.specs.Key.{AreKeysOn, IsKeyOn, StandsOn};
 ghost use Rattle.sq_query.specs.Keyed.{IsKeyedBy};
 ghost use Rattle.sq_query.specs.Named.{AreKeysBy, IsFalseOf, IsKeyBy, IsNamedByOne, IsOneOf};
 
+use crate::asked::{Asked, itself};
 use crate::key::{KnownKey, KnownKeys, shortest_known_key};
 use crate::named::{Sure, values_by_condition};
 use crate::sought::{Sought, row_of};
@@ -43,7 +45,7 @@ pub(crate) fn key_of_condition<S: Store>(
         None => {
             let tables = [TablePlace::Base(base)];
             key_by_tests(
-                base,
+                &itself(base),
                 condition,
                 &row_of(&tables),
                 Sure::Unnoted,
@@ -70,7 +72,7 @@ pub(crate) fn keys_of_condition<S: Store>(
 {
     let tables = [TablePlace::Base(base)];
     keys_by_tests(
-        base,
+        &itself(base),
         condition,
         &row_of(&tables),
         Sure::Unnoted,
@@ -81,24 +83,24 @@ pub(crate) fn keys_of_condition<S: Store>(
 
 // ---- one value of each column
 
-/// The first key of a base table in an item by whose columns a condition names the item's rows, with the values of the columns: `None` if
-/// there is no such key. The condition is false on each line whose row of the item lacks the key.
+/// The first key of the base table that is asked for an item by whose columns a condition names the item's rows, with the values of the
+/// columns: `None` if there is no such key. The condition is false on each line whose row of the item lacks the key.
 pub(crate) fn key_by_tests<S: Store>(
-    base: usize,
+    asked: &Asked<'_>,
     condition: &BoundCond,
     sought: &Sought<'_>,
     sure: Sure,
     store: &S,
     call: &Context<'_>,
 ) -> Result<Option<KnownKey>, Fault>
-    requires there { base < length (S.content_now store.now) }
+    requires there { asked.now.base < length (S.content_now store.now) }
     ensures known { IfOk result (λ found. IfSome found (IsKeyBy
-        (IsFalseOf sought.now sure call.now.parameters.now call.now.user condition.now)
-        (S.key_columns store.now) base)) }
+        (IsFalseThrough asked.now.through (IsFalseOf sought.now sure call.now.parameters.now call.now.user
+        condition.now)) (S.key_columns store.now) asked.now.base)) }
     ensures memory { IfErr result (λ fault. fault ≡ Fault.NoMemory) }
 {
-    for key in 0..store.keys(base).len() {
-        let known = key_with_number(base, key, condition, sought, sure, store, call)?;
+    for key in 0..store.keys(asked.base).len() {
+        let known = key_with_number(asked, key, condition, sought, sure, store, call)?;
         if known.is_some() {
             return Ok(known);
         }
@@ -106,9 +108,9 @@ pub(crate) fn key_by_tests<S: Store>(
     Ok(None)
 }
 
-/// The key of a base table with a number, if a condition names the rows of the item by each of its columns.
+/// The key of the base table with a number, if a condition names the rows of the item by each of its columns.
 fn key_with_number<S: Store>(
-    base: usize,
+    asked: &Asked<'_>,
     key: usize,
     condition: &BoundCond,
     sought: &Sought<'_>,
@@ -116,16 +118,17 @@ fn key_with_number<S: Store>(
     store: &S,
     call: &Context<'_>,
 ) -> Result<Option<KnownKey>, Fault>
-    requires there { base < length (S.content_now store.now) }
-    requires key { key < length (keys_at (S.key_columns store.now) base) }
+    requires there { asked.now.base < length (S.content_now store.now) }
+    requires key { key < length (keys_at (S.key_columns store.now) asked.now.base) }
     ensures known { IfOk result (λ found. IfSome found (IsKeyBy
-        (IsFalseOf sought.now sure call.now.parameters.now call.now.user condition.now)
-        (S.key_columns store.now) base)) }
+        (IsFalseThrough asked.now.through (IsFalseOf sought.now sure call.now.parameters.now call.now.user
+        condition.now)) (S.key_columns store.now) asked.now.base)) }
     ensures memory { IfErr result (λ fault. fault ≡ Fault.NoMemory) }
 {
     key_if_named(
         key,
-        store.keys(base)[key].as_slice(),
+        store.keys(asked.base)[key].as_slice(),
+        asked,
         condition,
         sought,
         sure,
@@ -133,42 +136,44 @@ fn key_with_number<S: Store>(
     )
 }
 
-/// The key with a number, if a condition names the rows of the item by each of these columns.
+/// The key with a number, if a condition names the rows of the item by each of these columns of the base table.
 fn key_if_named(
     key: usize,
     columns: &[usize],
+    asked: &Asked<'_>,
     condition: &BoundCond,
     sought: &Sought<'_>,
     sure: Sure,
     call: &Context<'_>,
 ) -> Result<Option<KnownKey>, Fault>
     ensures named { IfOk result (λ found. IfSome found (λ known. (known.key ≡ key) × AllZip (IsOneOf
-        (IsFalseOf sought.now sure call.now.parameters.now call.now.user condition.now))
-        columns.now known.values)) }
+        (IsFalseThrough asked.now.through (IsFalseOf sought.now sure call.now.parameters.now call.now.user
+        condition.now))) columns.now known.values)) }
     ensures memory { IfErr result (λ fault. fault ≡ Fault.NoMemory) }
 {
-    match named_values(columns, condition, sought, sure, call)? {
+    match named_values(columns, asked, condition, sought, sure, call)? {
         Some(values) => Ok(Some(KnownKey::of(call.alloc, key, values)?)),
         None => Ok(None),
     }
 }
 
-/// The values of columns by which a condition names the rows of the item, if it names them by one value of each.
+/// The values of columns of the base table by which a condition names the rows of the item, if it names them by one value of each.
 fn named_values(
     columns: &[usize],
+    asked: &Asked<'_>,
     condition: &BoundCond,
     sought: &Sought<'_>,
     sure: Sure,
     call: &Context<'_>,
 ) -> Result<Option<Vec<Value>>, Fault>
     ensures named { IfOk result (λ found. IfSome found (λ values. AllZip (IsOneOf
-        (IsFalseOf sought.now sure call.now.parameters.now call.now.user condition.now))
-        columns.now values.items)) }
+        (IsFalseThrough asked.now.through (IsFalseOf sought.now sure call.now.parameters.now call.now.user
+        condition.now))) columns.now values.items)) }
     ensures memory { IfErr result (λ fault. fault ≡ Fault.NoMemory) }
 {
     let mut values = Vec::new(call.alloc);
     for column in columns {
-        match value_by_condition(condition, *column, sought, sure, call)? {
+        match value_by_condition(*column, asked, condition, sought, sure, call)? {
             Some(value) => values.push(value)?,
             None => return Ok(None),
         }
@@ -176,21 +181,42 @@ fn named_values(
     Ok(Some(values))
 }
 
-/// The value of a column by which a condition names the rows of the item, if it does so by one alone.
+/// The value of a column of the base table by which a condition names the rows of the item, if it does so by one alone.
 fn value_by_condition(
-    condition: &BoundCond,
     column: usize,
+    asked: &Asked<'_>,
+    condition: &BoundCond,
     sought: &Sought<'_>,
     sure: Sure,
     call: &Context<'_>,
 ) -> Result<Option<Value>, Fault>
     ensures named { IfOk result (λ found. IfSome found (IsOneOf
-        (IsFalseOf sought.now sure call.now.parameters.now call.now.user condition.now)
-        column)) }
+        (IsFalseThrough asked.now.through (IsFalseOf sought.now sure call.now.parameters.now call.now.user
+        condition.now)) column)) }
     ensures memory { IfErr result (λ fault. fault ≡ Fault.NoMemory) }
 {
-    match values_by_condition(condition, column, sought, sure, call)? {
+    match values_by_own(column, asked, condition, sought, sure, call)? {
         Some(values) => Ok(only_value(values)),
+        None => Ok(None),
+    }
+}
+
+/// The values of a column of the base table by which a condition names the rows of the item, if the item shows the column.
+fn values_by_own(
+    column: usize,
+    asked: &Asked<'_>,
+    condition: &BoundCond,
+    sought: &Sought<'_>,
+    sure: Sure,
+    call: &Context<'_>,
+) -> Result<Option<Vec<Value>>, Fault>
+    ensures named { IfOk result (λ found. IfSome found (λ values.
+        IsFalseThrough asked.now.through (IsFalseOf sought.now sure call.now.parameters.now call.now.user
+        condition.now) column values.items)) }
+    ensures memory { IfErr result (λ fault. fault ≡ Fault.NoMemory) }
+{
+    match asked.shown(column) {
+        Some(shown) => values_by_condition(condition, shown, sought, sure, call),
         None => Ok(None),
     }
 }
@@ -206,25 +232,25 @@ fn only_value(values: Vec<Value>) -> Option<Value>
 
 // ---- several values of one column
 
-/// The first key of one column of a base table in an item by values of which a condition names the item's rows: `None` if there is no such
-/// key. The condition is false on each line whose row of the item has none of the values.
+/// The first key of one column of the base table that is asked for an item by values of which a condition names the item's rows: `None` if
+/// there is no such key. The condition is false on each line whose row of the item has none of the values.
 pub(crate) fn keys_by_tests<S: Store>(
-    base: usize,
+    asked: &Asked<'_>,
     condition: &BoundCond,
     sought: &Sought<'_>,
     sure: Sure,
     store: &S,
     call: &Context<'_>,
 ) -> Result<Option<KnownKeys>, Fault>
-    requires there { base < length (S.content_now store.now) }
+    requires there { asked.now.base < length (S.content_now store.now) }
     ensures known { IfOk result (λ found. IfSome found (AreKeysBy
-        (IsFalseOf sought.now sure call.now.parameters.now call.now.user condition.now)
-        (S.key_columns store.now) base)) }
+        (IsFalseThrough asked.now.through (IsFalseOf sought.now sure call.now.parameters.now call.now.user
+        condition.now)) (S.key_columns store.now) asked.now.base)) }
     ensures memory { IfErr result (λ fault. fault ≡ Fault.NoMemory) }
 {
-    for key in 0..store.keys(base).len() {
-        let columns = store.keys(base)[key].as_slice();
-        let known = keys_if_named(key, columns, condition, sought, sure, call)?;
+    for key in 0..store.keys(asked.base).len() {
+        let columns = store.keys(asked.base)[key].as_slice();
+        let known = keys_if_named(key, columns, asked, condition, sought, sure, call)?;
         if known.is_some() {
             return Ok(known);
         }
@@ -236,19 +262,20 @@ pub(crate) fn keys_by_tests<S: Store>(
 fn keys_if_named(
     key: usize,
     columns: &[usize],
+    asked: &Asked<'_>,
     condition: &BoundCond,
     sought: &Sought<'_>,
     sure: Sure,
     call: &Context<'_>,
 ) -> Result<Option<KnownKeys>, Fault>
     ensures named { IfOk result (λ found. IfSome found (λ known. (known.key ≡ key) × IsNamedByOne
-        (IsFalseOf sought.now sure call.now.parameters.now call.now.user condition.now)
-        columns.now known.values.items)) }
+        (IsFalseThrough asked.now.through (IsFalseOf sought.now sure call.now.parameters.now call.now.user
+        condition.now)) columns.now known.values.items)) }
     ensures memory { IfErr result (λ fault. fault ≡ Fault.NoMemory) }
 {
     match columns {
         [column] => {
-            let values = values_by_condition(condition, *column, sought, sure, call)?;
+            let values = values_by_own(*column, asked, condition, sought, sure, call)?;
             Ok(keys_with(key, values))
         }
         _ => Ok(None),

@@ -15,11 +15,12 @@ ghost use Rattle.sq_bound.specs.declared.condition.TablePlace.{TablePlace as Any
 ghost use Rattle.sq_bound.specs.declared.condition.TablePlace.TheVariants as at_place;
 
 use crate::items::is_found;
+use crate::view_items::is_shown;
 use sq_bound::{
     BoundCond, BoundConj, BoundSpecification, BoundTest, Names, Predicate, TableBody, TablePlace,
     View,
 };
-use sq_expression::BaseRows;
+use sq_expression::{BaseRows, ViewRows};
 use std::alloc::{AllocError, Global};
 
 /// The places of the base tables and views that stand in FROM clauses, subqueries and views included.
@@ -117,6 +118,16 @@ impl Needed {
             → IsNeeded result table }
     {
         self.bases.retain(|base| !is_found(*base, found));
+        self
+    }
+
+    /// Those of them that are none of these views.
+    pub(crate) fn without_views(mut self, shown: &[ViewRows]) -> Needed
+        ensures fewer { (table : AnyPlace) → IsNeeded result table → IsNeeded self table }
+        ensures left { (table : AnyPlace) → IsNeeded self table → is_hidden shown.now table ≡ true
+            → IsNeeded result table }
+    {
+        self.views.retain(|view| !is_shown(*view, shown));
         self
     }
 

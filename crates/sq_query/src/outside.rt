@@ -15,8 +15,9 @@ use crate::known::{compares_with_subquery, with_known};
 use crate::lookup::Lookup;
 use crate::needed::Needed;
 use crate::view::{Tables, tables_of};
+use crate::view_items::views_named;
 use sq_bound::{BoundSpecification, Names};
-use sq_expression::{BaseRows, Context, Fault};
+use sq_expression::{BaseRows, Context, Fault, ViewRows};
 use sq_store::{Meter, Store};
 
 /// The tables that a query specification outside every query reads: of a base table in its FROM clause the rows that its WHERE clause
@@ -33,11 +34,12 @@ pub(crate) fn tables_of_items<'a, N: Names, S: Store>(
     ensures { HasTables result (N.base_tables names.now) (N.view_queries names.now)
         (N.column_kinds names.now) (S.content_now store.now) call.now.user call.now.parameters.now query.now }
 {
-    let all = rows_looked_up(query, store, call, meter)?;
+    let found = rows_looked_up(query, store, call, meter)?;
+    let shown = views_named(names, query, found.as_slice(), store, call, meter)?;
     let others = Needed::of_specification(call.alloc, query)?;
-    let left = others.without(all.as_slice());
+    let left = others.without(found.as_slice()).without_views(shown.as_slice());
     let tables = tables_of(names, Ok(left), store, call, meter)?;
-    with_bases(all, tables)
+    with_views(shown, with_bases(found, tables)?)
 }
 
 /// The rows of the base tables that are looked up. What rows of a subquery name comes before lookups by columns that are no key.
@@ -105,4 +107,17 @@ pub(crate) fn with_bases<'a>(
     all.append(&mut bases)?;
     drop(bases);
     Ok(Tables { bases: all, views })
+}
+
+/// Views, and the tables behind them.
+fn with_views<'a>(shown: Vec<ViewRows>, tables: Tables<'a>) -> Result<Tables<'a>, Fault>
+    ensures answered { IsAnswered result }
+    ensures bases { IfOk result (λ all. all.bases.items ≡ tables.entry.bases.items) }
+    ensures views { IfOk result (λ all. all.views.items ≡ shown.entry.items ++ tables.entry.views.items) }
+{
+    let Tables { bases, mut views } = tables;
+    let mut all = shown;
+    all.append(&mut views)?;
+    drop(views);
+    Ok(Tables { bases, views: all })
 }

@@ -1,0 +1,197 @@
+//! What a query specification outside every query reads of the plain views in its FROM clause: if its WHERE clause names their rows, what they
+//! show of these alone.
+
+ghost use Rattle.std.specs.Prelude.{◌≡◌, ◌<◌, ◌++◌, IfErr, IfOk, IfSome, length, option_to_list, true};
+ghost use Rattle.std.specs.List.{list_any};
+ghost use Rattle.sq_meaning.specs.WellFormed.{HasValue};
+ghost use Rattle.sq_bound.specs.WellFormed.{BasesAreThere};
+ghost use Rattle.sq_bound.specs.declared.condition.TablePlace.TheVariants as at_place;
+ghost use Rattle.sq_expression.specs.Fault.{IsAnswered};
+ghost use Rattle.sq_query.specs.Items.{items_of};
+ghost use Rattle.sq_query.specs.Search.{IsReadable};
+ghost use Rattle.sq_query.specs.ViewItems.{IsShownItem, IsViewAlone, ServeViews, is_shown, is_view};
+
+use crate::around::{Around, Standing};
+use crate::asked::{Asked, columns_under};
+use crate::items::is_once;
+use crate::lookup::{Lookup, rows_named};
+use crate::needed::Needed;
+use crate::plain_view::base_under;
+use crate::sought::Sought;
+use crate::through::rows_through;
+use sq_bound::{BoundCond, BoundSpecification, Names, TablePlace};
+use sq_expression::{BaseRows, Context, Fault, ViewRows};
+use sq_store::{Meter, Store};
+use std::alloc::AllocError;
+
+/// What plain views in the FROM clause of a query specification outside every query show of the rows that its WHERE clause names, of each view
+/// of which it names some. The rows that were found of base tables may be what names them.
+pub(crate) fn views_named<N: Names, S: Store>(
+    names: &N,
+    query: &BoundSpecification,
+    found: &[BaseRows<'_>],
+    store: &S,
+    call: &Context<'_>,
+    meter: &mut Meter,
+) -> Result<Vec<ViewRows>, Fault>
+{
+    if !has_view(query.from.tables.as_slice()) {
+        return Ok(Vec::new(call.alloc));
+    }
+    match &query.condition {
+        Some(condition) => {
+            let inner = Needed::of_subqueries(call.alloc, query)?;
+            let shown = shown_items(names, query, condition, &inner, found, store, call, meter);
+            drop(inner);
+            shown
+        }
+        None => Ok(Vec::new(call.alloc)),
+    }
+}
+
+/// Whether one of the tables is a view.
+fn has_view(tables: &[TablePlace]) -> bool
+{
+    tables.iter().any(|table| is_view(*table))
+}
+
+fn is_view(table: TablePlace) -> bool
+{
+    match table {
+        TablePlace::Base(_) => false,
+        TablePlace::View(_) => true,
+    }
+}
+
+/// The same of a query specification with this WHERE clause, whose subqueries read the inner tables.
+fn shown_items<N: Names, S: Store>(
+    names: &N,
+    query: &BoundSpecification,
+    condition: &BoundCond,
+    inner: &Needed,
+    found: &[BaseRows<'_>],
+    store: &S,
+    call: &Context<'_>,
+    meter: &mut Meter,
+) -> Result<Vec<ViewRows>, Fault>
+{
+    let mut shown = Vec::new(call.alloc);
+    for item in 0..query.from.tables.as_slice().len() {
+        let own = shown_item(
+            names,
+            query,
+            condition,
+            item,
+            inner,
+            shown.as_slice(),
+            found,
+            store,
+            call,
+            meter,
+        )?;
+        shown = with_shown(own, shown)?;
+    }
+    Ok(shown)
+}
+
+/// Before these the rows of a view, if there is one more.
+fn with_shown(own: Option<ViewRows>, shown: Vec<ViewRows>) -> Result<Vec<ViewRows>, AllocError>
+    ensures { IfOk result (λ all. all.items ≡ option_to_list own ++ shown.entry.items) }
+{
+    let mut all = shown;
+    match own {
+        Some(own) => {
+            all.insert(0, own)?;
+            Ok(all)
+        }
+        None => Ok(all),
+    }
+}
+
+/// What the plain view in an item shows of the rows that WHERE names, if it does. All rows of a view are needed that stands elsewhere, too.
+fn shown_item<N: Names, S: Store>(
+    names: &N,
+    query: &BoundSpecification,
+    condition: &BoundCond,
+    item: usize,
+    inner: &Needed,
+    shown: &[ViewRows],
+    found: &[BaseRows<'_>],
+    store: &S,
+    call: &Context<'_>,
+    meter: &mut Meter,
+) -> Result<Option<ViewRows>, Fault>
+    requires item { item < length (items_of query.now) }
+{
+    let tables = query.from.tables.as_slice();
+    let TablePlace::View(view) = tables[item] else {
+        return Ok(None);
+    };
+    if !is_view_alone(view, item, query, inner, shown) {
+        return Ok(None);
+    }
+    let Some(base) = base_under(names, view) else {
+        return Ok(None);
+    };
+    let sought = Sought {
+        item,
+        tables,
+        found,
+        around: Around {
+            standing: Standing::Within,
+            lines: None,
+        },
+    };
+    match rows_under(names, view, base, condition, &sought, store, call, meter)? {
+        Some(own) => {
+            let rows = rows_through(names, view, &own, call);
+            drop(own);
+            Ok(Some(rows?))
+        }
+        None => Ok(None),
+    }
+}
+
+/// Whether a view stands in this item alone, and in no subquery, and was not shown before.
+fn is_view_alone(
+    view: usize,
+    item: usize,
+    query: &BoundSpecification,
+    inner: &Needed,
+    shown: &[ViewRows],
+) -> bool
+    requires { item < length (items_of query.now) }
+{
+    is_once(TablePlace::View(view), item, query.from.tables.as_slice())
+        && !inner.contains(TablePlace::View(view))
+        && !is_shown(view, shown)
+}
+
+/// Whether the rows of a view are among these.
+pub(crate) fn is_shown(view: usize, shown: &[ViewRows]) -> bool
+{
+    shown.iter().any(|own| own.place == view)
+}
+
+/// The rows of the base table under a plain view in an item that a condition names.
+fn rows_under<'a, N: Names, S: Store>(
+    names: &N,
+    view: usize,
+    base: usize,
+    condition: &BoundCond,
+    sought: &Sought<'_>,
+    store: &'a S,
+    call: &Context<'_>,
+    meter: &mut Meter,
+) -> Result<Option<BaseRows<'a>>, Fault>
+{
+    let columns = columns_under(call.alloc, names, view)?;
+    let asked = Asked {
+        base,
+        through: Some(columns.as_slice()),
+    };
+    let lookups = [Lookup::Key, Lookup::Keys, Lookup::Index, Lookup::Walk];
+    let own = rows_named(&asked, condition, sought, &lookups, store, call, meter);
+    drop(columns);
+    own
+}
