@@ -1,4 +1,5 @@
 pub mod Around
+pub mod Asked
 pub mod FewRows
 pub mod Inner
 pub mod Items
@@ -21,5 +22,5 @@ pub mod Table
 pub mod Target
 pub mod Union
 pub mod Valued
-pub mod ValueScan
+pub mod ViewItems
 pub mod Ways

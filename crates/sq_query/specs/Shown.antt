@@ -1,11 +1,10 @@
--- What a query specification reads whose FROM clause is a plain view alone: where its WHERE clause names a row of the base table under
--- the view by a key, that row alone of it, through other plain views too (ISO/IEC 9075:1992, 7.4, 7.6 and 11.19; own rule).
-use Rattle.std.specs.Prelude.{⊤, ◌≡◌, ◌<◌, ◌&&◌, ℕ, nat_eq, nat_lt, Bool, true, false, List, [], ◌∷◌, IfSome, length, slice_get, Option, Some, None, Ok}
+-- Plain views, over one table alone, and what they show of some rows of the base table under them (ISO/IEC 9075:1992, 7.4, 7.6 and 11.19; own
+-- rule).
+use Rattle.std.specs.Prelude.{⊤, ◌≡◌, ◌&&◌, ℕ, nat_eq, nat_lt, Bool, true, false, List, [], ◌∷◌, IfSome, length, slice_get, Option, Some, None, Ok}
 use Rattle.std.specs.List.{AllZip, list_all, list_any}
 use Rattle.std.specs.Option.{option_and_then}
 use Rattle.sq_lex.specs.declared.name.Name.{Name}
 use Rattle.sq_value.specs.declared.value.Value.{Value}
-use Rattle.sq_store.specs.Keys.{Keys, key_at, keys_at}
 use Rattle.sq_tree.specs.declared.expr.SetFunction.{SetFunction}
 use Rattle.sq_tree.specs.declared.expr.SetFunction.TheVariants.{Count, Sum, Avg, Min, Max}
 use Rattle.sq_meaning.specs.Environment.{Row}
@@ -25,11 +24,8 @@ use Rattle.sq_bound.specs.declared.expression.BoundExpr.{BoundExpr}
 use Rattle.sq_bound.specs.declared.expression.SetFunctionCall.{SetFunctionCall}
 use Rattle.sq_bound.specs.declared.expression.SetFunctionCall.TheVariants.{CountRows, Over}
 use Rattle.sq_expression.specs.Fault.{IsRight}
-use Rattle.sq_query.specs.Key.{IsNamedBy}
-use Rattle.sq_query.specs.Search.{AreBeside, IsOver, IsWhere, with_rows}
+use Rattle.sq_query.specs.Search.{IsOver, with_rows}
 use Rattle.sq_query.specs.Table.{rows_of_view}
-use Rattle.sq_query.specs.declared.key.KnownKey.{KnownKey}
-use Rattle.sq_query.specs.declared.shown.ViewSearch.{ViewSearch}
 
 -- the column of its only table that an expression is
 abbrev pub column_of : BoundExpr → Option ℕ
@@ -116,27 +112,6 @@ abbrev pub AreShown : List BoundSpecification → List ℕ → List ℕ → List
 AreShown queries [] own columns = own ≡ columns
 AreShown queries (view ∷ views) own columns =
     (between : List ℕ) × AreShown queries views own between × AsksAt queries view between columns
-
--- a key of the base table under these views: a condition on the rows of the first names a row by columns that show those of the key, one
--- for each
-pub record IsShownKey (queries : List BoundSpecification) (views : List ℕ) (base : ℕ) (own : BoundCond)
-    (keys : List Keys) (parameters : List Value) (user : Name) (known : KnownKey) : Type 0 where
-  pub key : known.key < length (keys_at keys base)
-  pub columns : List ℕ
-  pub shown : AreShown queries views (key_at keys base known.key) columns
-  pub by_columns : IsNamedBy columns own parameters user known.values
-
--- The only table of a query specification is a plain view, its WHERE clause names a row of the base table under it by a key, and no subquery
--- reads the view.
-pub record IsViewSearch (q : BoundSpecification) (columns : TableKinds) (queries : List BoundSpecification)
-    (keys : List Keys) (parameters : List Value) (user : Name) (search : ViewSearch) : Type 0 where
-  pub views : List ℕ
-  pub path : IsPath columns queries (search.view ∷ views) search.base
-  pub own : BoundCond
-  pub over : IsOver q (View search.view)
-  pub is_where : IsWhere q own
-  pub key : IsShownKey queries (search.view ∷ views) search.base own keys parameters user search.key
-  pub beside : AreBeside q (View search.view) search.others
 
 module _ (own : List Row) (tables : TablePlace → Outcome (List Row)) (user : Name)
     (queries : List BoundSpecification) (base : ℕ) where

@@ -5,7 +5,7 @@ ghost use Rattle.sq_meaning.specs.WellFormed.{HasValue};
 ghost use Rattle.sq_bound.specs.WellFormed.{BasesAreThere};
 ghost use Rattle.sq_bound.specs.declared.condition.TablePlace.TheVariants as at_place;
 ghost use Rattle.sq_query.specs.Asked.{AreUnder, IsShownBy};
-ghost use Rattle.sq_query.specs.Shown.{IsPath};
+ghost use Rattle.sq_query.specs.Shown.{AreShown, IsPath};
 
 use crate::needed::view_at;
 use crate::plain_view::column_under;

@@ -11,6 +11,7 @@ ghost use Rattle.sq_query.specs.Needed.{Adds, AddsBefore, AreKnown, IsClosed, Is
 ghost use Rattle.sq_query.specs.Inner.{around_tables, lines_tables, terms_tables, tests_tables};
 ghost use Rattle.sq_query.specs.Items.{is_left};
 ghost use Rattle.sq_query.specs.Table.{IsViewAt};
+ghost use Rattle.sq_query.specs.ViewItems.{is_hidden};
 ghost use Rattle.sq_bound.specs.declared.condition.TablePlace.{TablePlace as AnyPlace};
 ghost use Rattle.sq_bound.specs.declared.condition.TablePlace.TheVariants as at_place;
 

@@ -1,15 +1,21 @@
 //! What a query specification outside every query reads of the plain views in its FROM clause: if its WHERE clause names their rows, what they
 //! show of these alone.
 
-ghost use Rattle.std.specs.Prelude.{◌≡◌, ◌<◌, ◌++◌, IfErr, IfOk, IfSome, length, option_to_list, true};
-ghost use Rattle.std.specs.List.{list_any};
+ghost use Rattle.std.specs.Prelude.{◌≡◌, ◌<◌, ◌++◌, ◌∷◌, ℕ, List, IfErr, IfOk, IfSome, length, option_to_list, true};
 ghost use Rattle.sq_meaning.specs.WellFormed.{HasValue};
+ghost use Rattle.sq_bound.specs.Condition.{select_of};
+ghost use Rattle.sq_bound.specs.Fits.{keys_of_bases};
 ghost use Rattle.sq_bound.specs.WellFormed.{BasesAreThere};
 ghost use Rattle.sq_bound.specs.declared.condition.TablePlace.TheVariants as at_place;
 ghost use Rattle.sq_expression.specs.Fault.{IsAnswered};
-ghost use Rattle.sq_query.specs.Items.{items_of};
-ghost use Rattle.sq_query.specs.Search.{IsReadable};
-ghost use Rattle.sq_query.specs.ViewItems.{IsShownItem, IsViewAlone, ServeViews, is_shown, is_view};
+ghost use Rattle.sq_query.specs.Asked.{IsFalseUnder};
+ghost use Rattle.sq_query.specs.Items.{IsNamed, items_of};
+ghost use Rattle.sq_query.specs.Named.{IsFalseOf};
+ghost use Rattle.sq_query.specs.Needed.{FindsSelect, IsNeeded, ReadsInside};
+ghost use Rattle.sq_query.specs.Search.{IsReadable, IsWhere};
+ghost use Rattle.sq_query.specs.Shown.{IsPath};
+ghost use Rattle.sq_query.specs.ViewItems.{IsShownItem, IsViewAlone, ServeViews, is_shown};
+ghost use Rattle.sq_query.specs.declared.named.Sure.TheVariants.{Noted};
 
 use crate::around::{Around, Standing};
 use crate::asked::{Asked, columns_under};
@@ -34,6 +40,12 @@ pub(crate) fn views_named<N: Names, S: Store>(
     call: &Context<'_>,
     meter: &mut Meter,
 ) -> Result<Vec<ViewRows>, Fault>
+    requires { IsReadable (N.base_tables names.now) (N.column_kinds names.now) (S.content_now store.now)
+        (S.key_columns store.now) query.now }
+    ensures answered { IsAnswered result }
+    ensures shown { IfOk result (λ shown. ServeViews query.now (N.base_tables names.now) (N.column_kinds names.now)
+        (N.view_queries names.now) (S.content_now store.now) call.now.user call.now.parameters.now found.now
+        shown.items) }
 {
     if !has_view(query.from.tables.as_slice()) {
         return Ok(Vec::new(call.alloc));
@@ -50,13 +62,11 @@ pub(crate) fn views_named<N: Names, S: Store>(
 }
 
 /// Whether one of the tables is a view.
-fn has_view(tables: &[TablePlace]) -> bool
-{
+fn has_view(tables: &[TablePlace]) -> bool {
     tables.iter().any(|table| is_view(*table))
 }
 
-fn is_view(table: TablePlace) -> bool
-{
+fn is_view(table: TablePlace) -> bool {
     match table {
         TablePlace::Base(_) => false,
         TablePlace::View(_) => true,
@@ -74,6 +84,14 @@ fn shown_items<N: Names, S: Store>(
     call: &Context<'_>,
     meter: &mut Meter,
 ) -> Result<Vec<ViewRows>, Fault>
+    requires readable { IsReadable (N.base_tables names.now) (N.column_kinds names.now) (S.content_now store.now)
+        (S.key_columns store.now) query.now }
+    requires where_clause { IsWhere query.now condition.now }
+    requires inside { ReadsInside (IsNeeded inner.now) (select_of query.now) }
+    ensures answered { IsAnswered result }
+    ensures shown { IfOk result (λ shown. ServeViews query.now (N.base_tables names.now) (N.column_kinds names.now)
+        (N.view_queries names.now) (S.content_now store.now) call.now.user call.now.parameters.now found.now
+        shown.items) }
 {
     let mut shown = Vec::new(call.alloc);
     for item in 0..query.from.tables.as_slice().len() {
@@ -121,7 +139,14 @@ fn shown_item<N: Names, S: Store>(
     call: &Context<'_>,
     meter: &mut Meter,
 ) -> Result<Option<ViewRows>, Fault>
+    requires finds { FindsSelect (N.base_tables names.now) (N.column_kinds names.now) query.now }
+    requires keys { S.key_columns store.now ≡ keys_of_bases (N.base_tables names.now) }
+    requires where_clause { IsWhere query.now condition.now }
     requires item { item < length (items_of query.now) }
+    ensures answered { IsAnswered result }
+    ensures shown { IfOk result (λ own. IfSome own (IsShownItem query.now (N.column_kinds names.now)
+        (N.view_queries names.now) (S.content_now store.now) (S.key_columns store.now) call.now.parameters.now
+        call.now.user inner.now found.now shown.now)) }
 {
     let tables = query.from.tables.as_slice();
     let TablePlace::View(view) = tables[item] else {
@@ -161,6 +186,7 @@ fn is_view_alone(
     shown: &[ViewRows],
 ) -> bool
     requires { item < length (items_of query.now) }
+    ensures { result ≡ true → IsViewAlone query.now item view inner.now shown.now }
 {
     is_once(TablePlace::View(view), item, query.from.tables.as_slice())
         && !inner.contains(TablePlace::View(view))
@@ -169,6 +195,7 @@ fn is_view_alone(
 
 /// Whether the rows of a view are among these.
 pub(crate) fn is_shown(view: usize, shown: &[ViewRows]) -> bool
+    ensures { result ≡ is_shown view shown.now }
 {
     shown.iter().any(|own| own.place == view)
 }
@@ -184,6 +211,15 @@ fn rows_under<'a, N: Names, S: Store>(
     call: &Context<'_>,
     meter: &mut Meter,
 ) -> Result<Option<BaseRows<'a>>, Fault>
+    requires there { BasesAreThere (N.base_tables names.now) (N.column_kinds names.now) }
+    requires known { HasValue (N.column_kinds names.now (at_place.View view)) }
+    requires base { base < length (S.content_now store.now) }
+    ensures found { (views : List ℕ)
+        → IsPath (N.column_kinds names.now) (N.view_queries names.now) (view ∷ views) base
+        → IfOk result (λ found. IfSome found (λ own. (own.place ≡ base) × IsNamed (IsFalseUnder
+        (N.view_queries names.now) (view ∷ views) (IsFalseOf sought.now Noted call.now.parameters.now
+        call.now.user condition.now)) (S.content_now store.now) (S.key_columns store.now) own)) }
+    ensures memory { IfErr result (λ fault. fault ≡ Fault.NoMemory) }
 {
     let columns = columns_under(call.alloc, names, view)?;
     let asked = Asked {

@@ -37,7 +37,7 @@ use Rattle.sq_query.specs.Table.{stored_rows}
 use Rattle.sq_query.specs.Union.{AreFitting}
 use Rattle.sq_query.specs.declared.needed.Needed.{Needed}
 use Rattle.sq_query.proofs.FoundByKey.ItemRows.{all_if, all_stay, contained, fewer_fit, found_none, one_of_all, only_item, row_lacks, rows_mapped, same_over_lines, where_in}
-use Rattle.sq_query.proofs.FoundByKey.LeftOut.{kept_thinned, lines_are, stays}
+use Rattle.sq_query.proofs.FoundByKey.OneTable as one
 use Rattle.sq_query.proofs.Keys.KeyColumns.{rows_have_values}
 use Rattle.sq_query.proofs.Keys.KeyNames.{element_at}
 use Rattle.sq_query.proofs.Keys.KeyOut.{all_both}
@@ -131,8 +131,7 @@ module _ (bases : List BaseTable) (columns : TableKinds) (content : Content) (nu
 
   module _ (has : Row → Bool) (few_are : lent own.rows.items ≡ filter has all_rows) where
     abbrev left : TablePlace → Row → Bool
-    left (Base n) row = if nat_eq place n then has row else true
-    left (View n) row = true
+    left = one.left now next q (Base place) item alone_there.once has
 
     abbrev if_own : Bool → Row → Bool
     if_own b row = if b then has row else true
@@ -155,29 +154,6 @@ module _ (bases : List BaseTable) (columns : TableKinds) (content : Content) (nu
       wanted line = is_true (clause_truth (by_place now) (where_in q) (beneath scopes line values caller))
 
       module _ (out : (line : Line) → AllZip IsIn ts line → (row : Row) → slice_get line item ≡ Some row → has row ≡ false → wanted line ≡ Ok false) where
-        lacks_own : (t : TablePlace) (row : Row) → left t row ≡ false → (t ≡ Base place) × (has row ≡ false)
-        lacks_own (View n) row h = absurd (true≢false h)
-        lacks_own (Base n) row h = by (nat_eq place n) refl h
-          where
-            by : (b : Bool) → nat_eq place n ≡ b → if_own b row ≡ false → (Base n ≡ Base place) × (has row ≡ false)
-            by true e k = (ap (λ m. Base m) (sym (eqb-true place n e)), k)
-            by false e k = absurd (true≢false k)
-
-        line_out : (line : Line) → AllZip IsIn ts line → stays (map left ts) line ≡ false → wanted line ≡ Ok false
-        line_out line is h =
-            let l = row_lacks left ts line h in
-            let own_lacks = lacks_own l.1 l.2 l.5 in
-            let same : l.0 ≡ item = only_item place ts item l.0 alone_there.once (l.3 ∙ ap (λ (t : TablePlace). let o : Option TablePlace = Some t in o) own_lacks.0) in
-            out line is l.2 (subst (λ i. slice_get line i ≡ Some l.2) same l.4) own_lacks.1
-
-        with_heads : (heads : List (Unit {0})) (line : Line) → is_true (clause_truth (by_place now) (where_in q) (within (alone heads line) (env scopes))) ≡ wanted line
-        with_heads heads line = ap is_true (clause_alone now heads line (env scopes) (out-BoundSpecification q).condition)
-
         pub same_next : rows (by_place now) (select_of q) (env scopes) ≡ rows (by_place next) (select_of q) (env scopes)
         same_next =
-            same_over_lines q now next (env scopes) (inside_weaker (IsNeeded inner) (λ t. now t ≡ next t) still (select_of q) inside)
-            (λ heads. kept_thinned now next left next_is (λ line. is_true (clause_truth (by_place now) (where_in q) (within (alone heads line) (env scopes)))) ts
-            (λ lines are.
-            all_weaker (AllZip IsIn ts) (λ line. stays (map left ts) line ≡ false → is_true (clause_truth (by_place now) (where_in q) (within (alone heads line) (env scopes))) ≡ Ok false)
-            (λ line is h. with_heads heads line ∙ line_out line is h) (product lines)
-            (lines_are now IsIn ts (rows_in_lines ts tables_known) lines are)))
+            one.same_next now next q (Base place) item alone_there.once has next_is (inside_weaker (IsNeeded inner) (λ t. now t ≡ next t) still (select_of q) inside) values caller scopes IsIn (rows_in_lines ts tables_known) out

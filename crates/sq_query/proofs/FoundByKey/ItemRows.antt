@@ -3,7 +3,7 @@ use Rattle.std.proofs.Common.{◌≡◌, ◌∙◌, ◌<◌, ◌+◌, ℕ, zero,
 use Rattle.std.specs.Prelude.{IfSome, filter, option_to_list}
 use Rattle.std.specs.List.{AllByRecursion, AllZip, Contains, list_any}
 use Rattle.std.specs.Option.{option_map}
-use Rattle.std.proofs.lemmas.Bool.{eq-eqb}
+use Rattle.std.proofs.lemmas.Bool.{eq-eqb, eqb-true}
 use Rattle.sq_value.proofs.Truths.{neither_left, neither_right}
 use Rattle.sq_value.specs.declared.domain.Kind.{Kind}
 use Rattle.sq_store.specs.declared.table.Numbered.{Numbered}
@@ -23,7 +23,7 @@ use Rattle.sq_bound.specs.declared.condition.TablePlace.TheVariants.{Base, View}
 use Rattle.sq_bound.proofs.ConditionLaws.{select_of-out}
 use Rattle.sq_expression.specs.declared.table.BaseRows.{BaseRows}
 use Rattle.sq_expression.specs.Frame.{lent}
-use Rattle.sq_query.specs.Items.{IsOnce, is_empty_item, is_empty_of, is_found, is_of_base, items_of, over}
+use Rattle.sq_query.specs.Items.{IsOnce, is_empty_item, is_empty_of, is_found, is_table, items_of, over}
 use Rattle.sq_query.specs.Sought.{IsLineAmong, IsRowAmong, found_of}
 use Rattle.sq_query.specs.Needed.{ReadsInside}
 use Rattle.sq_query.proofs.Keys.OnlyOne.{AtMostOne}
@@ -100,27 +100,37 @@ row_lacks at (t ∷ ts) (row ∷ line) h = by (at t row) refl h (row_lacks at ts
     by false e k rest = (0, t, row, refl, refl, e)
     by true e k rest = let later = rest k in (suc later.0, later.1, later.2, later.3, later.4, later.5)
 
--- ---- a base table that stands in one item
+-- ---- a table that stands in one item
 
-none_there : (place : ℕ) (ts : List TablePlace) (i : ℕ) → list_any (is_of_base place) ts ≡ false → slice_get ts i ≡ Some (Base place) → ⊥
-none_there place [] i none e = cc
-none_there place (t ∷ ts) zero none e =
-    let same : t ≡ Base place = cc in
-    true≢false (sym (eq-eqb place place refl) ∙ ap (is_of_base place) (sym same) ∙ neither_left (is_of_base place t) (list_any (is_of_base place) ts) none)
-none_there place (t ∷ ts) (suc i) none e = none_there place ts i (neither_right (is_of_base place t) (list_any (is_of_base place) ts) none) e
+pub is_itself : (t : TablePlace) → is_table t t ≡ true
+is_itself (Base n) = eq-eqb n n refl
+is_itself (View n) = eq-eqb n n refl
 
-at_once : (place : ℕ) (ts : List TablePlace) (item i : ℕ) → list_any (is_of_base place) (take item ts) ≡ false → list_any (is_of_base place) (drop (suc item) ts) ≡ false → slice_get ts i ≡ Some (Base place) → i ≡ item
-at_once place [] item i before behind e = absurd cc
-at_once place (t ∷ ts) zero zero before behind e = refl
-at_once place (t ∷ ts) zero (suc i) before behind e = absurd (none_there place ts i behind e)
-at_once place (t ∷ ts) (suc item) zero before behind e = absurd (none_there place (t ∷ take item ts) zero before e)
-at_once place (t ∷ ts) (suc item) (suc i) before behind e =
-    ap suc (at_once place ts item i (neither_right (is_of_base place t) (list_any (is_of_base place) (take item ts)) before) behind e)
+pub same_place : (t u : TablePlace) → is_table t u ≡ true → t ≡ u
+same_place (Base m) (Base n) h = ap (λ k. Base k) (eqb-true m n h)
+same_place (Base m) (View n) h = cc
+same_place (View m) (Base n) h = cc
+same_place (View m) (View n) h = ap (λ k. View k) (eqb-true m n h)
 
-pub only_item : (place : ℕ) (ts : List TablePlace) (item i : ℕ) → IsOnce place item ts → slice_get ts i ≡ Some (Base place) → i ≡ item
-only_item place ts item i once e =
+none_there : (t : TablePlace) (ts : List TablePlace) (i : ℕ) → list_any (is_table t) ts ≡ false → slice_get ts i ≡ Some t → ⊥
+none_there t [] i none e = cc
+none_there t (u ∷ ts) zero none e =
+    let same : u ≡ t = cc in
+    true≢false (sym (is_itself t) ∙ ap (is_table t) (sym same) ∙ neither_left (is_table t u) (list_any (is_table t) ts) none)
+none_there t (u ∷ ts) (suc i) none e = none_there t ts i (neither_right (is_table t u) (list_any (is_table t) ts) none) e
+
+at_once : (t : TablePlace) (ts : List TablePlace) (item i : ℕ) → list_any (is_table t) (take item ts) ≡ false → list_any (is_table t) (drop (suc item) ts) ≡ false → slice_get ts i ≡ Some t → i ≡ item
+at_once t [] item i before behind e = absurd cc
+at_once t (u ∷ ts) zero zero before behind e = refl
+at_once t (u ∷ ts) zero (suc i) before behind e = absurd (none_there t ts i behind e)
+at_once t (u ∷ ts) (suc item) zero before behind e = absurd (none_there t (u ∷ take item ts) zero before e)
+at_once t (u ∷ ts) (suc item) (suc i) before behind e =
+    ap suc (at_once t ts item i (neither_right (is_table t u) (list_any (is_table t) (take item ts)) before) behind e)
+
+pub only_item : (t : TablePlace) (ts : List TablePlace) (item i : ℕ) → IsOnce t item ts → slice_get ts i ≡ Some t → i ≡ item
+only_item t ts item i once e =
     let next : item + 1 ≡ suc item = omega arith in
-    at_once place ts item i once.0 (subst (λ n. list_any (is_of_base place) (drop n ts) ≡ false) next once.1) e
+    at_once t ts item i once.0 (subst (λ n. list_any (is_table t) (drop n ts) ≡ false) next once.1) e
 
 pub found_none : (place : ℕ) (found : List BaseRows) → is_found place found ≡ false → found_of place found ≡ None
 found_none place [] h = refl
