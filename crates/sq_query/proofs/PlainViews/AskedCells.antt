@@ -1,15 +1,13 @@
--- The values of a row that a query over one table shows in columns of that table, those of lines of one group, and rows that may have some values;
--- and clauses that never end with a status (ISO/IEC 9075:1992, 7.6 to 7.9).
+-- The values of a row that a query over one table shows in columns of that table, and those of lines of one group; and clauses that never end
+-- with a status (ISO/IEC 9075:1992, 7.6 to 7.9).
 use Rattle.std.proofs.Common.{◌≡◌, ◌∙◌, ℕ, zero, suc, Bool, true, false, ◌&&◌, ◌||◌, List, [], ◌∷◌, Option, Some, None, map, nat_eq, refl, sym, ap, subst, Ok, Err}
 use Rattle.std.specs.Prelude.{if◌then◌else◌, slice_get, slice_index_or}
-use Rattle.std.specs.Cmp.Lexicographic.{lists_equiv, pointwise}
+use Rattle.std.specs.Cmp.Lexicographic.{pointwise}
 use Rattle.std.specs.List.{AllByRecursion, AllZip, list_all, list_any}
 use Rattle.std.specs.Option.{option_and_then}
 use Rattle.std.proofs.lemmas.Bool.{eqb-true, false≢true}
 use Rattle.sq_value.specs.Comparison.{is_same}
 use Rattle.sq_value.specs.Key.{in_columns}
-use Rattle.sq_value.specs.SetFunctions.{is_null}
-use Rattle.sq_value.specs.laws.ValueOrder.{same_equiv}
 use Rattle.sq_value.specs.declared.value.Value.{Value}
 use Rattle.sq_value.specs.declared.value.Value.TheVariants.{Chars, Null, Num}
 use Rattle.sq_tree.specs.declared.expr.Sign.{Sign}
@@ -41,30 +39,7 @@ use Rattle.sq_query.proofs.PlainViews.Classes.{same_ok, then_there}
 use Rattle.sq_query.proofs.PlainViews.QuietExprs.{column_stays, quiet_holds}
 use Rattle.sq_query.proofs.PlainViews.SureRows.{IsSure, sure_so}
 
--- ---- rows that may have some values
-
-nulls_alike : (x y : Value) → is_same x y ≡ true → is_null x ≡ is_null y
-nulls_alike Null Null h = refl
-nulls_alike Null (Num n) h = cc
-nulls_alike Null (Chars t) h = cc
-nulls_alike (Num n) Null h = cc
-nulls_alike (Num n) (Num m) h = refl
-nulls_alike (Num n) (Chars t) h = refl
-nulls_alike (Chars t) Null h = cc
-nulls_alike (Chars t) (Num n) h = refl
-nulls_alike (Chars t) (Chars u) h = refl
-
-any_null_alike : (xs ys : List Value) → pointwise is_same xs ys ≡ true → list_any is_null xs ≡ list_any is_null ys
-any_null_alike [] [] h = refl
-any_null_alike [] (y ∷ ys) h = cc
-any_null_alike (x ∷ xs) [] h = cc
-any_null_alike (x ∷ xs) (y ∷ ys) h = λ i. nulls_alike x y (both_left (is_same x y) (pointwise is_same xs ys) h) i || any_null_alike xs ys (both_right (is_same x y) (pointwise is_same xs ys) h) i
-
--- values that are the same, each, may be wanted alike
-pub may_alike : (wanted xs ys : List Value) → pointwise is_same xs ys ≡ true → (pointwise is_same wanted xs || list_any is_null xs) ≡ (pointwise is_same wanted ys || list_any is_null ys)
-may_alike wanted xs ys h =
-    let laws = lists_equiv same_equiv in
-    λ i. (laws.symm wanted xs ∙ laws.congr xs ys wanted h ∙ laws.symm ys wanted) i || any_null_alike xs ys h i
+-- ---- rows that are the same
 
 cell_alike : (r s : Row) (n : ℕ) → same_row r s ≡ true → is_same (slice_index_or r n Null) (slice_index_or s n Null) ≡ true
 cell_alike [] [] n h = refl

@@ -1,16 +1,13 @@
--- Asking the table of a plain view by columns asks the view by those that show them: over the rows of the table that may have some values, the
--- query of the view has those of its rows that may have them. And it never ends with a status (ISO/IEC 9075:1992, 7.6 to 7.9 and 11.19).
+-- Asking the table of a plain view by columns asks the view by those that show them: over the rows of the table with wanted values there, the query
+-- of the view has those of its rows that have wanted values. And it never ends with a status (ISO/IEC 9075:1992, 7.6 to 7.9 and 11.19).
 use Rattle.std.proofs.Common.{◌≡◌, ◌∙◌, ℕ, Bool, true, false, ◌&&◌, ◌||◌, ◌++◌, List, [], ◌∷◌, Option, Some, None, filter, length, map, nat_eq, nat_lt, refl, sym, ap, subst, Ok}
 use Rattle.std.specs.Prelude.{⊤, if◌then◌else◌}
-use Rattle.std.specs.Cmp.Lexicographic.{pointwise}
 use Rattle.std.specs.List.{AllByRecursion, AllZip, list_all, list_any}
 use Rattle.std.specs.Option.{option_map}
 use Rattle.std.proofs.lemmas.Bool.{false≢true}
 use Rattle.std.proofs.lemmas.List.Concat.{flat_map_single}
 use Rattle.sq_lex.specs.declared.name.Name.{Name}
-use Rattle.sq_value.specs.Comparison.{is_same}
 use Rattle.sq_value.specs.Key.{in_columns}
-use Rattle.sq_value.specs.SetFunctions.{is_null as is_null_value}
 use Rattle.sq_value.specs.declared.value.Value.{Value}
 use Rattle.sq_meaning.specs.Environment.{Env, Line, Place, Row, Scope, alone, outermost, within}
 use Rattle.sq_meaning.specs.Expression.{value}
@@ -46,13 +43,13 @@ use Rattle.sq_condition.proofs.NoFunctions.{have_none}
 use Rattle.sq_query.specs.Needed.{ReadsClause, ReadsCond, ReadsConds, ReadsSelect}
 use Rattle.sq_query.specs.Shown.{Asks, IsPlainOver, Shows, is_grouped_by, is_quiet_beside, is_sure_call, is_sure_grouping, is_unwritten}
 use Rattle.sq_query.specs.Table.{rows_of_view}
-use Rattle.sq_query.specs.ValueScan.{may_have}
 use Rattle.sq_query.proofs.Needs.AnyTables.{listed_over, scopes_over}
 use Rattle.sq_query.proofs.Needs.SameTables.{over_rows, same_clause, shown_of, wanted_of}
-use Rattle.sq_query.proofs.PlainViews.AskedCells.{IsKnown, IsOwn, all_cells, cells_alike, clause_sure, first_row, key_cells, listed_sure, may_alike, own_there, shown_cells}
+use Rattle.sq_query.proofs.PlainViews.AskedCells.{IsKnown, IsOwn, all_cells, cells_alike, clause_sure, first_row, key_cells, listed_sure, own_there, shown_cells}
 use Rattle.sq_query.proofs.PlainViews.AskedRows.{AreAlikeBy, asked_lines}
 use Rattle.sq_query.proofs.PlainViews.Classes.{map_filtered}
 use Rattle.sq_query.proofs.PlainViews.SureRows.{AreSureOn, AreSureParts, IsShort, IsSure, IsSureWith, as_short, call_sure, map_long, rows_sure, true_sure}
+use Rattle.sq_query.proofs.PlainViews.Wanted.{AreAlike, wanted_in}
 
 -- ---- what a quiet clause reads
 
@@ -129,7 +126,7 @@ module _ (t : TablePlace) (columns : TableKinds) (caller : Name) (distinct : Boo
 
     -- ---- over some of the rows
 
-    module _ (f g : TablePlace → Outcome (List Row)) (own shown : List ℕ) (zipped : AllZip (Shows bound) own shown) (among : is_by_groups ≡ true → AllByRecursion (λ n. list_any (λ (q : Place). nat_eq q.column n) by ≡ true) own) (wanted : List Value) where
+    module _ (f g : TablePlace → Outcome (List Row)) (own shown : List ℕ) (zipped : AllZip (Shows bound) own shown) (among : is_by_groups ≡ true → AllByRecursion (λ n. list_any (λ (q : Place). nat_eq q.column n) by ≡ true) own) (wants : List Value → Bool) (alike : AreAlike wants) where
       known : AllByRecursion (λ e. IsKnown f env functions columns t e) es
       known =
           all_weaker (WellFormedExpr (by_place no_tables) (kinds_by_place columns []) (IsDeclaredAt []) (shown_level {N = Placed TablePlace} (expressions es) (t ∷ []) by having ∷ [])) (λ e. IsKnown f env functions columns t e) (λ e w. w.0) es p.stands.1
@@ -137,15 +134,15 @@ module _ (t : TablePlace) (columns : TableKinds) (caller : Name) (distinct : Boo
       own_places : AllByRecursion IsOwn by
       own_places = all_weaker (WellFormedColumn (by_place no_tables) (kinds_by_place columns []) (IsDeclaredAt []) (of_lines (t ∷ []) ∷ [])) IsOwn (λ c w. own_there columns t c w.0) by p.stands.3
 
-      shows_alike : (scope : Scope (Unit {0})) (row : Row) → each (λ e. value (by_place f) e (within scope env)) es ≡ Ok row → may_have shown wanted row ≡ may_have own wanted (first_row scope.line)
-      shows_alike scope row e = ap (λ cells. pointwise is_same wanted cells || list_any is_null_value cells) (shown_cells f env functions columns t bound scope row own shown zipped known e)
+      shows_alike : (scope : Scope (Unit {0})) (row : Row) → each (λ e. value (by_place f) e (within scope env)) es ≡ Ok row → wanted_in wants shown row ≡ wanted_in wants own (first_row scope.line)
+      shows_alike scope row e = ap wants (shown_cells f env functions columns t bound scope row own shown zipped known e)
 
-      lines_alike : is_by_groups ≡ true → AreAlikeBy f (expressions es) having env (λ line. may_have own wanted (first_row line)) (may_have shown wanted) by
+      lines_alike : is_by_groups ≡ true → AreAlikeBy f (expressions es) having env (λ line. wanted_in wants own (first_row line)) (wanted_in wants shown) by
       lines_alike grouped a b j k ja kb h =
-          may_alike wanted (in_columns (first_row a) own) (in_columns (first_row b) own) (cells_alike (first_row a) (first_row b) own (key_cells f env by a b j k own own_places (among grouped) ja kb h))
+          alike (in_columns (first_row a) own) (in_columns (first_row b) own) (cells_alike (first_row a) (first_row b) own (key_cells f env by a b j k own own_places (among grouped) ja kb h))
 
-      rows_alike : (r s : Row) → same_row r s ≡ true → may_have shown wanted r ≡ may_have shown wanted s
-      rows_alike r s h = may_alike wanted (in_columns r shown) (in_columns s shown) (cells_alike r s shown (all_cells r s shown h))
+      rows_alike : (r s : Row) → same_row r s ≡ true → wanted_in wants shown r ≡ wanted_in wants shown s
+      rows_alike r s h = alike (in_columns r shown) (in_columns s shown) (cells_alike r s shown (all_cells r s shown h))
 
       -- the same phases over other tables
       same_phases : (lines : List Line) → and_then (kept (wanted_of g g distinct (expressions es) t (clause_of [] condition) by having env g) lines) (shown_of g g distinct (expressions es) t (clause_of [] condition) by having env g)
@@ -157,19 +154,19 @@ module _ (t : TablePlace) (columns : TableKinds) (caller : Name) (distinct : Boo
           (λ left. and_then (each (λ scope. listed_over g f (expressions es) (within scope env) i) left)
           (λ found_rows. Ok (if distinct then firsts same_row found_rows else found_rows)))))
 
-      few_lines : (all : List Row) → product (filter (may_have own wanted) all ∷ []) ≡ filter (λ (line : Line). may_have own wanted (first_row line)) (product (all ∷ []))
+      few_lines : (all : List Row) → product (filter (wanted_in wants own) all ∷ []) ≡ filter (λ (line : Line). wanted_in wants own (first_row line)) (product (all ∷ []))
       few_lines all =
-          flat_map_single as_line (filter (may_have own wanted) all)
-          ∙ map_filtered (may_have own wanted) as_line (λ (line : Line). may_have own wanted (first_row line)) all (all_weaker (λ r. ⊤) (λ r. may_have own wanted r ≡ may_have own wanted r) (λ r h. refl) all (all_true all))
-          ∙ ap (filter (λ (line : Line). may_have own wanted (first_row line))) (sym (flat_map_single as_line all))
+          flat_map_single as_line (filter (wanted_in wants own) all)
+          ∙ map_filtered (wanted_in wants own) as_line (λ (line : Line). wanted_in wants own (first_row line)) all (all_weaker (λ r. ⊤) (λ r. wanted_in wants own r ≡ wanted_in wants own r) (λ r h. refl) all (all_true all))
+          ∙ ap (filter (λ (line : Line). wanted_in wants own (first_row line))) (sym (flat_map_single as_line all))
 
-      tree_asked : (all found : List Row) → f t ≡ Ok all → g t ≡ Ok (filter (may_have own wanted) all) → rows (by_place f) tree env ≡ Ok found → rows (by_place g) tree env ≡ Ok (filter (may_have shown wanted) found)
+      tree_asked : (all found : List Row) → f t ≡ Ok all → g t ≡ Ok (filter (wanted_in wants own) all) → rows (by_place f) tree env ≡ Ok found → rows (by_place g) tree env ≡ Ok (filter (wanted_in wants shown) found)
       tree_asked all found at few is =
           let on_f = wanted_of f f distinct (expressions es) t (clause_of [] condition) by having env f in
-          over_rows g g distinct (expressions es) t (clause_of [] condition) by having env g (filter (may_have own wanted) all) few
+          over_rows g g distinct (expressions es) t (clause_of [] condition) by having env g (filter (wanted_in wants own) all) few
           ∙ ap (λ (ls : List Line). and_then (kept (wanted_of g g distinct (expressions es) t (clause_of [] condition) by having env g) ls) (shown_of g g distinct (expressions es) t (clause_of [] condition) by having env g)) (few_lines all)
-          ∙ same_phases (filter (λ (line : Line). may_have own wanted (first_row line)) (product (all ∷ [])))
-          ∙ asked_lines f (expressions es) having env (λ line. may_have own wanted (first_row line)) (may_have shown wanted) distinct by lines_alike p.some shows_alike rows_alike on_f (product (all ∷ [])) found
+          ∙ same_phases (filter (λ (line : Line). wanted_in wants own (first_row line)) (product (all ∷ [])))
+          ∙ asked_lines f (expressions es) having env (λ line. wanted_in wants own (first_row line)) (wanted_in wants shown) distinct by lines_alike p.some shows_alike rows_alike on_f (product (all ∷ [])) found
           (sym (over_rows f f distinct (expressions es) t (clause_of [] condition) by having env f all at) ∙ is)
 
 -- ---- with groups, or without
@@ -300,10 +297,10 @@ module _ (q : BoundSpecification) (t : TablePlace) (columns : TableKinds) (plain
   one_so (n ∷ own) [] h = absurd h
   one_so (n ∷ own) (p ∷ shown) h = (h.0.one, one_so own shown h.1)
 
-  -- asked by columns of its table, it has the rows that may have the values in the columns that show them
-  pub plain_asked : (f g : TablePlace → Outcome (List Row)) (own shown : List ℕ) → AllZip (Asks q) own shown → (wanted : List Value) (all found : List Row) → f t ≡ Ok all → g t ≡ Ok (filter (may_have own wanted) all)
-      → rows_of_view f caller q ≡ Ok found → rows_of_view g caller q ≡ Ok (filter (may_have shown wanted) found)
-  plain_asked f g own shown asks wanted all found at few is =
+  -- asked by columns of its table, it has the rows with wanted values in the columns that show them
+  pub plain_asked : (f g : TablePlace → Outcome (List Row)) (own shown : List ℕ) → AllZip (Asks q) own shown → (wants : List Value → Bool) → AreAlike wants → (all found : List Row) → f t ≡ Ok all → g t ≡ Ok (filter (wanted_in wants own) all)
+      → rows_of_view f caller q ≡ Ok found → rows_of_view g caller q ≡ Ok (filter (wanted_in wants shown) found)
+  plain_asked f g own shown asks wants alike all found at few is =
       ap (λ (s : PlacedSelect). rows (by_place g) s (outermost [] caller)) here.is_tree
-      ∙ tree_asked t columns caller distinct bound condition here.functions here.by here.having here.is_plain f g own shown (shown_so own shown asks) (here.among own (one_so own shown asks)) wanted all found at few
+      ∙ tree_asked t columns caller distinct bound condition here.functions here.by here.having here.is_plain f g own shown (shown_so own shown asks) (here.among own (one_so own shown asks)) wants alike all found at few
       (sym (ap (λ (s : PlacedSelect). rows (by_place f) s (outermost [] caller)) here.is_tree) ∙ is)

@@ -1,16 +1,12 @@
 -- The views of a path, each found by its place (ISO/IEC 9075:1992, 11.19).
-use Rattle.std.proofs.Common.{◌≡◌, ◌∙◌, ℕ, ◌<◌, List, [], ◌∷◌, Option, Some, None, Result, ap, length, refl, sym, subst, Ok, Err}
-use Rattle.std.specs.Prelude.{IfOk, IfSome, IsSomeAnd, slice_get}
+use Rattle.std.proofs.Common.{◌≡◌, ◌∙◌, ℕ, ◌<◌, List, [], ◌∷◌, Option, Some, None, Result, ◌++◌, ap, refl, sym, subst}
+use Rattle.std.specs.Prelude.{IfOk, IfSome, slice_get}
 use Rattle.std.specs.List.{AllZip}
-use Rattle.std.specs.declared.alloc.AllocError.{AllocError}
 use Rattle.sq_lex.specs.declared.name.Name.{Name}
-use Rattle.sq_value.specs.declared.value.Value.{Value}
-use Rattle.sq_store.specs.Keys.{Keys, key_at, keys_at}
 use Rattle.sq_meaning.specs.Environment.{Row}
 use Rattle.sq_meaning.specs.Status.{Outcome, and_then, well_formed}
 use Rattle.sq_meaning.specs.WellFormed.{HasValue}
 use Rattle.sq_bound.specs.WellFormed.{IsSelect, TableKinds, before_view}
-use Rattle.sq_bound.specs.declared.condition.BoundCond.{BoundCond}
 use Rattle.sq_bound.specs.declared.condition.BoundSpecification.{BoundSpecification}
 use Rattle.sq_bound.specs.declared.condition.TablePlace.{TablePlace}
 use Rattle.sq_bound.specs.declared.condition.TablePlace.TheVariants.{Base, View}
@@ -19,11 +15,9 @@ use Rattle.sq_expression.specs.Fault.{IsRight}
 use Rattle.sq_expression.specs.Frame.{view_outcome}
 use Rattle.sq_expression.specs.declared.fault.Fault.{Fault}
 use Rattle.sq_expression.specs.declared.table.ViewRows.{ViewRows}
-use Rattle.sq_query.specs.Key.{IsNamedBy}
 use Rattle.sq_query.specs.Search.{IsOver, with_rows}
-use Rattle.sq_query.specs.Shown.{AreRight, AreShown, Asks, AsksAt, IsPath, IsPlainOver, IsPlainView, IsShownKey, first_of, shown_of}
+use Rattle.sq_query.specs.Shown.{AreRight, AreShown, Asks, AsksAt, IsPath, IsPlainOver, IsPlainView, first_of, shown_of}
 use Rattle.sq_query.specs.Table.{IsViewAt, rows_of_view}
-use Rattle.sq_query.specs.declared.key.KnownKey.{KnownKey}
 use Rattle.sq_query.proofs.Keys.KnownKeys.{same_some}
 use Rattle.sq_query.proofs.Needs.NeededViews.{reads_known, stands_before}
 use Rattle.sq_query.proofs.Keys.Searched.{only_read}
@@ -95,37 +89,40 @@ module _ (queries : List BoundSpecification) (view : ℕ) (q : BoundSpecificatio
   pub shows_at : (between columns : List ℕ) → AllZip (Asks q) between columns → AsksAt queries view between columns
   shows_at between columns zipped = subst (λ (o : Option BoundSpecification). IfSome o (λ s. AllZip (Asks s) between columns)) (sym among) zipped
 
-  pub shown_first : (r : Result (Option (List ℕ)) AllocError) → IfOk r (λ found. IfSome found (AllZip (Asks q) own)) → IfOk r (λ found. IfSome found (AreShown queries (view ∷ []) own))
-  shown_first (Err e) h = tt
-  shown_first (Ok None) h = tt
-  shown_first (Ok (Some columns)) h = (own, refl, shows_at own columns h)
+zip_joined : {A B : Type 0} (R : A → B → Type 0) (xs others : List A) (ys more : List B) → AllZip R xs ys → AllZip R others more → AllZip R (xs ++ others) (ys ++ more)
+zip_joined R [] others [] more one two = two
+zip_joined R [] others (y ∷ ys) more one two = absurd one
+zip_joined R (x ∷ xs) others [] more one two = absurd one
+zip_joined R (x ∷ xs) others (y ∷ ys) more one two = (one.0, zip_joined R xs others ys more one.1 two)
 
-  pub shown_next : (views : List ℕ) (between : Option (List ℕ)) (r : Result (Option (List ℕ)) AllocError) → IfSome between (AreShown queries views own)
-      → IfOk r (λ found. IfSome found (λ shown. IsSomeAnd between (λ columns. AllZip (Asks q) columns shown))) → IfOk r (λ found. IfSome found (AreShown queries (view ∷ views) own))
-  shown_next views between (Err e) are h = tt
-  shown_next views between (Ok None) are h = tt
-  shown_next views None (Ok (Some columns)) are h = absurd h
-  shown_next views (Some below) (Ok (Some columns)) are h = (below, are, shows_at below columns h)
+module _ (queries : List BoundSpecification) where
+  asks_joined : (o : Option BoundSpecification) (xs others ys more : List ℕ) → IfSome o (λ q. AllZip (Asks q) xs ys) → IfSome o (λ q. AllZip (Asks q) others more) → IfSome o (λ q. AllZip (Asks q) (xs ++ others) (ys ++ more))
+  asks_joined None xs others ys more one two = tt
+  asks_joined (Some q) xs others ys more one two = zip_joined (Asks q) xs others ys more one two
 
--- columns that there are
-pub some_zipped : (R : ℕ → ℕ → Type 0) (o : Option (List ℕ)) (own : List ℕ) (r : Result (Option (List ℕ)) AllocError) → o ≡ Some own → IfOk r (λ found. IfSome found (AllZip R own))
-    → IfOk r (λ found. IfSome found (λ shown. IsSomeAnd o (λ columns. AllZip R columns shown)))
-some_zipped R o own (Err e) is h = tt
-some_zipped R o own (Ok None) is h = tt
-some_zipped R o own (Ok (Some shown)) is h = subst (λ (p : Option (List ℕ)). IsSomeAnd p (λ columns. AllZip R columns shown)) (sym is) h
+  shown_joined : (views xs others ys more : List ℕ) → AreShown queries views xs ys → AreShown queries views others more → AreShown queries views (xs ++ others) (ys ++ more)
+  shown_joined [] xs others ys more one two = λ i. one i ++ two i
+  shown_joined (view ∷ views) xs others ys more one two =
+      (one.0 ++ two.0, shown_joined views xs others one.0 two.0 one.1 two.1, asks_joined (slice_get queries view) one.0 two.0 ys more one.2 two.2)
 
--- a key whose columns are shown
-pub key_shown : (queries : List BoundSpecification) (views : List ℕ) (base : ℕ) (own : BoundCond) (keys : List Keys) (parameters : List Value) (user : Name) (number : ℕ) (columns : List ℕ) (r : Result (Option KnownKey) Fault) → number < length (keys_at keys base)
-    → AreShown queries views (key_at keys base number) columns → IfOk r (λ found. IfSome found (λ known. (known.key ≡ number) × IsNamedBy columns own parameters user known.values))
-    → IfOk r (λ found. IfSome found (IsShownKey queries views base own keys parameters user))
-key_shown queries views base own keys parameters user number columns (Err e) within are h = tt
-key_shown queries views base own keys parameters user number columns (Ok None) within are h = tt
-key_shown queries views base own keys parameters user number columns (Ok (Some known)) within are h = record {
-  key = subst (λ (n : ℕ). n < length (keys_at keys base)) (sym h.0) within;
-  columns = columns;
-  shown = subst (λ (n : ℕ). AreShown queries views (key_at keys base n) columns) (sym h.0) are;
-  by_columns = h.1;
-}
+  none_shown : (views : List ℕ) → AreShown queries views [] []
+  none_shown [] = refl
+  none_shown (view ∷ views) = ([], none_shown views, by (slice_get queries view))
+    where
+      by : (o : Option BoundSpecification) → IfSome o (λ q. AllZip (Asks q) [] [])
+      by None = tt
+      by (Some q) = tt
+
+  -- one column more
+  pub shown_more : (views : List ℕ) (c n : ℕ) (cs ns : List ℕ) → AreShown queries views (c ∷ []) (n ∷ []) → AreShown queries views cs ns → AreShown queries views (c ∷ cs) (n ∷ ns)
+  shown_more views c n cs ns one more = shown_joined views (c ∷ []) cs (n ∷ []) ns one more
+
+  -- columns that are shown each are shown together
+  pub shown_each : (views cs ns : List ℕ) → AllZip (λ c n. AreShown queries views (c ∷ []) (n ∷ [])) cs ns → AreShown queries views cs ns
+  shown_each views [] [] each = none_shown views
+  shown_each views [] (n ∷ ns) each = absurd each
+  shown_each views (c ∷ cs) [] each = absurd each
+  shown_each views (c ∷ cs) (n ∷ ns) each = shown_more views c n cs ns each.0 (shown_each views cs ns each.1)
 
 -- ---- rows that are shown
 
