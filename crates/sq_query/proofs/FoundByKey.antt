@@ -1,5 +1,6 @@
 -- A query has the rows that it has over those rows of each table of FROM that were found by a key.
 pub mod AroundValues
+pub mod AskedColumns
 pub mod FewerRows
 pub mod FoundRead
 pub mod FoundRows
@@ -12,9 +13,11 @@ pub mod KnownRows
 pub mod KnownSearch
 pub mod LeftOut
 pub mod LineValues
+pub mod OneTable
 pub mod RowTables
 pub mod Rows
 pub mod Served
 pub mod ServedHaving
 pub mod ServedWhere
+pub mod WhereOnLines
 pub mod WithOne

@@ -8,6 +8,7 @@ pub mod QuietExprs
 pub mod SureRows
 pub mod Thinned
 pub mod ThroughViews
+pub mod ViewItems
 pub mod ViewPaths
 pub mod ViewsThere
 pub mod Wanted

@@ -57,6 +57,7 @@ use Rattle.sq_query.proofs.Keys.KeyLacked.{lacked}
 use Rattle.sq_query.proofs.Keys.KeyTests.{if_some}
 use Rattle.sq_query.proofs.Keys.KeysSearch.{none_same, only_one}
 use Rattle.sq_query.proofs.Keys.OnlyOne.{at_most_one, distinct_at}
+use Rattle.sq_query.proofs.FoundByKey.WhereOnLines.{where_on_lines, where_trusted}
 use Rattle.sq_query.proofs.FoundByKey.WithOne.{other_values}
 
 -- ---- tables that never end with a status
@@ -86,14 +87,6 @@ module _ (bases : List BaseTable) (columns : TableKinds) (content : Content) (ke
 
   abbrev env : List (Scope (Unit {0})) → Env (Unit {0})
   env scopes = record { scopes = scopes; inputs = inputs_of values; user = caller }
-
-  -- WHERE may stand on its lines
-  where_well : (now : TablePlace → Outcome (List Row)) → WellFormedClause (by_place now) (kinds_by_place columns parameters) (IsDeclaredAt parameters) (of_lines ts ∷ around) (where_in q)
-  where_well now = (subst (WellFormedSelect (by_place now) (kinds_by_place columns parameters) (IsDeclaredAt parameters) around) (select_of-out q) (stands now)).2
-
-  -- its tests are noted as they are
-  where_noted : (own : BoundCond) → (out-BoundSpecification q).condition ≡ Some own → HasNotes own
-  where_noted own is = if_some HasNotes (out-BoundSpecification q).condition own (select_itself IsNoted q notes).tests is
 
   over_sure : (found : List BaseRows) (t : TablePlace) → may_fail t ≡ false → IsSureOutcome (over found tables t)
   over_sure found (View n) h = absurd (true≢false h)
@@ -173,13 +166,10 @@ module _ (bases : List BaseTable) (columns : TableKinds) (content : Content) (ke
 
       module _ (k : IsByKey q r.item content keys found a values caller own) where
         where_stands : StandsOnLines columns parameters around ts (cond_of [] k.condition)
-        where_stands f = subst (λ (c : Option BoundCond). WellFormedClause (by_place f) (kinds_by_place columns parameters) (IsDeclaredAt parameters) (of_lines ts ∷ around) (clause_of [] c)) k.is_where (where_well f)
+        where_stands = where_on_lines columns parameters q around k.condition k.is_where stands
 
         trusted : AreTrustedIn Noted k.condition columns now
-        trusted =
-            all_weaker AreNotedTests (λ term. AreTrusted Noted (out-BoundConj term).tests columns now)
-            (λ term noted. all_weaker IsNotedTest (λ test. IsTrusted Noted test columns now) (λ test h e. record { fitting = fitting; bases = over_sure found; sure = h.sure e [] tt }) (out-BoundConj term).tests noted)
-            (out-BoundCond k.condition).terms (where_noted k.condition k.is_where)
+        trusted = where_trusted columns parameters q around k.condition k.is_where notes now fitting (over_sure found)
 
         module _ (line : Line) (is : AllZip IsIn ts line) (row : Row) (at_item : slice_get line r.item ≡ Some row) where
           has_values : has_its_values base.0 row ≡ true

@@ -21,6 +21,7 @@ use Rattle.sq_bound.proofs.ExpressionLaws.{expr_of-Column}
 use Rattle.sq_expression.specs.Frame.{lent}
 use Rattle.sq_expression.specs.declared.fault.Fault.{Fault}
 use Rattle.sq_expression.specs.declared.table.BaseRows.{BaseRows}
+use Rattle.sq_query.specs.Asked.{IsFalseThrough}
 use Rattle.sq_query.specs.Items.{IsAlone, IsNamed, IsReadOf, items_of}
 use Rattle.sq_query.specs.Named.{AreKeysBy, AreTrustedIn, IsColumnOf, IsFalseOn, IsKeyBy}
 use Rattle.sq_query.specs.Row.{HasValueOn}
@@ -29,10 +30,12 @@ use Rattle.sq_query.specs.Several.{rows_by_values}
 use Rattle.sq_query.specs.Sought.{IsValueBehind}
 use Rattle.sq_query.specs.Valued.{HasRowsWithOne, rows_with_one}
 use Rattle.sq_query.specs.declared.around.Around.{Around}
+use Rattle.sq_query.specs.declared.asked.Asked.{Asked}
 use Rattle.sq_query.specs.declared.key.KnownKey.{KnownKey}
 use Rattle.sq_query.specs.declared.key.KnownKeys.{KnownKeys}
 use Rattle.sq_query.specs.declared.named.Sure.TheVariants.{Noted}
 use Rattle.sq_query.specs.declared.needed.Needed.{Needed}
+use Rattle.sq_query.proofs.FoundByKey.AskedColumns.{at_itself, named_weaker, through_none}
 
 -- ---- columns
 
@@ -78,21 +81,31 @@ pub rows_of_values : (IsFalse : ℕ → List Value → Type 0) (content : Conten
 rows_of_values IsFalse content keys base n vs None named are = tt
 rows_of_values IsFalse content keys base n vs (Some own) named are = (are.0, inr (inr (n, vs, record { named = named; are = are.1 ∙ ap (λ (p : ℕ). rows_with_one content p n vs) (sym are.0) })))
 
-pub own_named : (q : BoundSpecification) (item base : ℕ) (inner : Needed) (content : Content) (keys : List Keys) (a : Around) (values : List Value) (caller : Name) (found : List BaseRows) (ts : List TablePlace) (d : TablePlace) (condition : BoundCond)
-    (r : Result (Option BaseRows) Fault) → ts ≡ items_of q → item < length (items_of q) → get_or ts item d ≡ Base base → base < length content → IsAlone q item base inner found → IsWhere q condition
-    → IfOk r (λ own. IfSome own (λ rows. (rows.place ≡ base) × IsNamed (IsFalseOn item ts found a values caller (AreTrustedIn Noted condition) (cond_of [] condition)) content keys rows)) → IfOk r (λ own. IfSome own (IsReadOf q inner content keys a values caller found))
-own_named q item base inner content keys a values caller found ts d condition (Err f) are within is stored alone is_where named = tt
-own_named q item base inner content keys a values caller found ts d condition (Ok None) are within is stored alone is_where named = tt
-own_named q item base inner content keys a values caller found ts d condition (Ok (Some own)) are within is stored alone is_where named =
-    let here = sym named.0 in
-    let at = at_index (items_of q) item d (Base base) within (subst (λ (l : List TablePlace). get_or l item d ≡ Base base) are is) in record {
-      item = item;
-      at = at ∙ ap (λ (p : ℕ). let o : Option TablePlace = Some (Base p) in o) here;
-      there = subst (λ (p : ℕ). p < length content) here stored;
-      alone = subst (λ (p : ℕ). IsAlone q item p inner found) here alone;
-      rows = inl (record {
-        condition = condition;
-        is_where = is_where;
-        named = subst (λ (l : List TablePlace). IsNamed (IsFalseOn item l found a values caller (AreTrustedIn Noted condition) (cond_of [] condition)) content keys own) are named.1;
-      });
-    }
+module _ (q : BoundSpecification) (item base : ℕ) (inner : Needed) (content : Content) (keys : List Keys) (a : Around) (values : List Value) (caller : Name) (found : List BaseRows) (ts : List TablePlace) (d : TablePlace) (condition : BoundCond)
+    (are : ts ≡ items_of q) (within : item < length (items_of q)) (is : get_or ts item d ≡ Base base) (stored : base < length content) (alone : IsAlone q item base inner found) (is_where : IsWhere q condition) where
+  abbrev IsFalse : ℕ → List Value → Type 0
+  IsFalse = IsFalseOn item ts found a values caller (AreTrustedIn Noted condition) (cond_of [] condition)
+
+  abbrev IsRead : ℕ → Option (Bor (List (Option ℕ))) → BaseRows → Type 0
+  IsRead place through rows = (rows.place ≡ place) × IsNamed (IsFalseThrough through IsFalse) content keys rows
+
+  itself_named : (r : Result (Option BaseRows) Fault) → IfOk r (λ own. IfSome own (IsRead base None)) → IfOk r (λ own. IfSome own (IsReadOf q inner content keys a values caller found))
+  itself_named (Err f) named = tt
+  itself_named (Ok None) named = tt
+  itself_named (Ok (Some own)) named =
+      let here = sym named.0 in
+      let at = at_index (items_of q) item d (Base base) within (subst (λ (l : List TablePlace). get_or l item d ≡ Base base) are is) in record {
+        item = item;
+        at = at ∙ ap (λ (p : ℕ). let o : Option TablePlace = Some (Base p) in o) here;
+        there = subst (λ (p : ℕ). p < length content) here stored;
+        alone = subst (λ (p : ℕ). IsAlone q item p inner found) here alone;
+        rows = inl (record {
+          condition = condition;
+          is_where = is_where;
+          named = subst (λ (l : List TablePlace). IsNamed (IsFalseOn item l found a values caller (AreTrustedIn Noted condition) (cond_of [] condition)) content keys own) are
+              (named_weaker (IsFalseThrough None IsFalse) IsFalse (through_none IsFalse) content keys own named.1);
+        });
+      }
+
+  pub own_named : (asked : Asked) → asked.base ≡ base → asked.through ≡ None → (r : Result (Option BaseRows) Fault) → IfOk r (λ own. IfSome own (IsRead asked.base asked.through)) → IfOk r (λ own. IfSome own (IsReadOf q inner content keys a values caller found))
+  own_named asked at none r named = itself_named r (at_itself asked base (λ place through. IfOk r (λ own. IfSome own (IsRead place through))) at none named)

@@ -16,13 +16,16 @@ use Rattle.sq_bound.specs.declared.condition.TablePlace.TheVariants.{Base}
 use Rattle.sq_expression.specs.declared.fault.Fault.{Fault}
 use Rattle.sq_expression.specs.declared.table.BaseRows.{BaseRows}
 use Rattle.sq_query.specs.Key.{AreKeysOn, IsKeyOn, IsNamedBy}
+use Rattle.sq_query.specs.Asked.{IsFalseThrough}
 use Rattle.sq_query.specs.Named.{AreKeysBy, IsFalseBut, IsFalseOf, IsFalseOn, IsKeyBy, IsOneOf}
 use Rattle.sq_query.specs.Sought.{IsOfRow, nothing_around}
 use Rattle.sq_query.specs.declared.around.Around.{Around}
+use Rattle.sq_query.specs.declared.asked.Asked.{Asked}
 use Rattle.sq_query.specs.declared.key.KnownKey.{KnownKey}
 use Rattle.sq_query.specs.declared.key.KnownKeys.{KnownKeys}
 use Rattle.sq_query.specs.declared.named.Sure.TheVariants.{Unnoted}
 use Rattle.sq_query.specs.declared.sought.Sought.{Sought}
+use Rattle.sq_query.proofs.FoundByKey.AskedColumns.{at_itself, through_none}
 use Rattle.sq_query.proofs.Keys.KeyOut.{named_so, zip_weaker}
 use Rattle.sq_query.proofs.Keys.NamedRows.{none_trusted_in}
 
@@ -65,16 +68,31 @@ module _ (place : ℕ) (own : BoundCond) (content : Content) (keys : List Keys) 
       (subst (λ (a : Around). IsFalseOn s.item s.tables.now s.found.now a parameters user Known (cond_of [] own) n vs) is.outside
       (λ columns kinds levels tables scopes line row on stands known at other. h columns kinds levels tables scopes line row on stands (none_trusted_in own columns tables) at other))))
 
-  pub key_of_row : (r : Result (Option KnownKey) Fault) → IfOk r (λ found. IfSome found (IsKeyBy (IsFalseOf s Unnoted parameters user own) keys place)) → IfOk r (λ found. IfSome found (IsKeyOn place own content keys parameters user))
-  key_of_row (Err e) h = tt
-  key_of_row (Ok None) h = tt
-  key_of_row (Ok (Some known)) h = record {
+  key_itself : (r : Result (Option KnownKey) Fault) → IfOk r (λ found. IfSome found (IsKeyBy (IsFalseThrough None (IsFalseOf s Unnoted parameters user own)) keys place)) → IfOk r (λ found. IfSome found (IsKeyOn place own content keys parameters user))
+  key_itself (Err e) h = tt
+  key_itself (Ok None) h = tt
+  key_itself (Ok (Some known)) h = record {
     table = there;
     key = h.key;
-    named = zip_weaker (IsOneOf (IsFalseOf s Unnoted parameters user own)) (IsOneOf (IsFalseBut (Base place) parameters user (cond_of [] own))) (λ n v f. row_false n (v ∷ []) f) (key_at keys place known.key) known.values h.named;
+    named = zip_weaker (IsOneOf (IsFalseThrough None (IsFalseOf s Unnoted parameters user own))) (IsOneOf (IsFalseBut (Base place) parameters user (cond_of [] own)))
+        (λ n v f. row_false n (v ∷ []) (through_none (IsFalseOf s Unnoted parameters user own) n (v ∷ []) f)) (key_at keys place known.key) known.values h.named;
   }
 
-  pub keys_of_row : (r : Result (Option KnownKeys) Fault) → IfOk r (λ found. IfSome found (AreKeysBy (IsFalseOf s Unnoted parameters user own) keys place)) → IfOk r (λ found. IfSome found (AreKeysOn place own content keys parameters user))
-  keys_of_row (Err e) h = tt
-  keys_of_row (Ok None) h = tt
-  keys_of_row (Ok (Some known)) h = record { table = there; key = h.key; named = (h.named.0, h.named.1, row_false h.named.0 known.values.items h.named.2) }
+  pub key_of_row : (a : Asked) → a.base ≡ place → a.through ≡ None → (r : Result (Option KnownKey) Fault)
+      → IfOk r (λ found. IfSome found (IsKeyBy (IsFalseThrough a.through (IsFalseOf s Unnoted parameters user own)) keys a.base)) → IfOk r (λ found. IfSome found (IsKeyOn place own content keys parameters user))
+  key_of_row a at none r h =
+      key_itself r (at_itself a place (λ p through. IfOk r (λ found. IfSome found (IsKeyBy (IsFalseThrough through (IsFalseOf s Unnoted parameters user own)) keys p))) at none h)
+
+  keys_itself : (r : Result (Option KnownKeys) Fault) → IfOk r (λ found. IfSome found (AreKeysBy (IsFalseThrough None (IsFalseOf s Unnoted parameters user own)) keys place)) → IfOk r (λ found. IfSome found (AreKeysOn place own content keys parameters user))
+  keys_itself (Err e) h = tt
+  keys_itself (Ok None) h = tt
+  keys_itself (Ok (Some known)) h = record {
+    table = there;
+    key = h.key;
+    named = (h.named.0, h.named.1, row_false h.named.0 known.values.items (through_none (IsFalseOf s Unnoted parameters user own) h.named.0 known.values.items h.named.2));
+  }
+
+  pub keys_of_row : (a : Asked) → a.base ≡ place → a.through ≡ None → (r : Result (Option KnownKeys) Fault)
+      → IfOk r (λ found. IfSome found (AreKeysBy (IsFalseThrough a.through (IsFalseOf s Unnoted parameters user own)) keys a.base)) → IfOk r (λ found. IfSome found (AreKeysOn place own content keys parameters user))
+  keys_of_row a at none r h =
+      keys_itself r (at_itself a place (λ p through. IfOk r (λ found. IfSome found (AreKeysBy (IsFalseThrough through (IsFalseOf s Unnoted parameters user own)) keys p))) at none h)

@@ -1,4 +1,5 @@
 -- Left open for rows_of_several: the clause found; answered by ItemSearch and KeyTests.
+use Rattle.sq_query.specs.Asked.{IsFalseThrough}
 use Rattle.sq_query.specs.Named.{AreKeysBy, IsFalseOf}
 use Rattle.sq_query.specs.declared.named.Sure.TheVariants.{Noted}
 use Rattle.sq_query.proofs.FoundByKey.ItemSearch.{rows_of_keys}
@@ -8,6 +9,6 @@ use Rattle.sq_query.proofs.lookup.rows_of_several.Goals as goal
 pub returns-in_ok-base_by_values-in-Some-clause-found : goal.returns-in_ok-base_by_values-in-Some-clause-found
 returns-in_ok-base_by_values-in-Some-clause-found g c =
     let keys = g.S.Store.key_columns c.args.store.now in
-    let IsFalse = IsFalseOf c.args.sought.now Noted c.args.call.now.parameters.now c.args.call.now.user c.args.condition.now in
-    rows_of_keys IsFalse (g.S.Store.content_now c.args.store.now) keys c.args.base c.in_ok-base_by_values-in-Some.field-0 c.in-Some.known c.in_ok-base_by_values-in-Some.ensures.place
-    (if_some (AreKeysBy IsFalse keys c.args.base) c.in_ok-known.field-0 c.in-Some.known c.in_ok-known.ensures.known c.in-Some.is) c.in_ok-base_by_values-in-Some.ensures.rows
+    let IsFalse = IsFalseThrough c.args.asked.now.through (IsFalseOf c.args.sought.now Noted c.args.call.now.parameters.now c.args.call.now.user c.args.condition.now) in
+    rows_of_keys IsFalse (g.S.Store.content_now c.args.store.now) keys c.args.asked.now.base c.in_ok-base_by_values-in-Some.field-0 c.in-Some.known c.in_ok-base_by_values-in-Some.ensures.place
+    (if_some (AreKeysBy IsFalse keys c.args.asked.now.base) c.in_ok-known.field-0 c.in-Some.known c.in_ok-known.ensures.known c.in-Some.is) c.in_ok-base_by_values-in-Some.ensures.rows

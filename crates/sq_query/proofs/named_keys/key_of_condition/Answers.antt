@@ -10,5 +10,5 @@ returns-in_err-known-clause-memory g c = λ columns parameters stands given.
 pub returns-in-None-clause-known : goal.returns-in-None-clause-known
 returns-in-None-clause-known g c =
     let store = c.args.store.now in
-    key_of_row c.args.base c.args.condition.now (g.S.Store.content_now store) (g.S.Store.key_columns store) c.args.call.now.parameters.now c.args.call.now.user c.row_of.result c.row_of.ensures c.requires.there c.key_by_tests.result
+    key_of_row c.args.base c.args.condition.now (g.S.Store.content_now store) (g.S.Store.key_columns store) c.args.call.now.parameters.now c.args.call.now.user c.row_of.result c.row_of.ensures c.requires.there c.itself.result c.itself.ensures.base c.itself.ensures.through c.key_by_tests.result
     c.key_by_tests.ensures.known
