@@ -2,14 +2,15 @@
 
 ghost use Rattle.std.specs.Prelude.{◌<◌, length};
 
+use crate::asked::{Asked, columns_under, itself};
 use crate::items::is_once;
 use crate::lookup::{Lookup, add_compared};
 use crate::named::Sure;
 use crate::named_exprs::{Seen, is_named_by_some, key_of_several, named_key};
 use crate::needed::Needed;
+use crate::plain_view::base_under;
 use crate::way::{ColumnPlace, How, KeyPlace};
 use sq_bound::{BaseTable, BoundCond, BoundSpecification, Names, Reference, TablePlace};
-use sq_items::Items;
 use std::alloc::{AllocError, Global};
 
 /// How the rows of each item of a query specification are found, if other parts of the statement read these tables. First those are found
@@ -89,7 +90,7 @@ fn how_of_item<N: Names>(
         Some(table) => how_of_base(
             alloc,
             table.get(),
-            base,
+            &itself(base),
             condition,
             seen,
             Sure::Noted,
@@ -99,66 +100,146 @@ fn how_of_item<N: Names>(
     }
 }
 
-/// How the rows of a base table at a place are found that a condition names: by the first of these lookups that there is.
+/// How the rows of the base table that is asked for an item are found that a condition names: by the first of these lookups that there is.
 pub(crate) fn how_of_base(
     alloc: Global,
     table: &BaseTable,
-    base: usize,
+    asked: &Asked<'_>,
     condition: &BoundCond,
     seen: &Seen<'_>,
     sure: Sure,
     lookups: &[Lookup],
 ) -> Result<How, AllocError> {
     for lookup in lookups {
-        if let Some(how) = how_by_lookup(alloc, table, base, condition, seen, sure, *lookup)? {
+        if let Some(how) = how_by_lookup(alloc, table, asked, condition, seen, sure, *lookup)? {
             return Ok(how);
         }
     }
     Ok(How::Whole)
 }
 
-/// How the rows of a base table are found that a condition names, if there is this lookup to them.
+/// How the rows of the base table are found that a condition names, if there is this lookup to them.
 fn how_by_lookup(
     alloc: Global,
     table: &BaseTable,
-    base: usize,
+    asked: &Asked<'_>,
     condition: &BoundCond,
     seen: &Seen<'_>,
     sure: Sure,
     lookup: Lookup,
 ) -> Result<Option<How>, AllocError> {
     let keys = table.keys.as_slice();
+    let base = asked.base;
     match lookup {
         Lookup::Key => {
-            let found = named_key(alloc, keys, condition, seen, sure)?;
+            let found = named_key(alloc, keys, asked, condition, seen, sure)?;
             Ok(found.map(|key| How::Key(KeyPlace { base, key })))
         }
         Lookup::Keys => {
-            let found = key_of_several(alloc, keys, condition, seen, sure)?;
+            let found = key_of_several(alloc, keys, asked, condition, seen, sure)?;
             Ok(found.map(|key| How::Several(KeyPlace { base, key })))
         }
         Lookup::Index => {
-            let found = column_of_index(alloc, table, condition, seen, sure)?;
+            let found = column_of_index(alloc, table, asked, condition, seen, sure)?;
             Ok(found.map(|column| How::Value(ColumnPlace { base, column })))
         }
         Lookup::Walk => Ok(Some(How::Whole)),
     }
 }
 
-/// The keys of the base table at a place.
-pub(crate) fn keys_of<N: Names>(names: &N, base: usize) -> &[Items<usize>] {
-    match names.bases().get(base) {
-        Some(table) => table.get().keys.as_slice(),
-        None => &[],
+// ---- plain views
+
+/// How the rows of each item of a query specification outside every query are found, those of plain views by the rows of the base tables under
+/// them. What is found of a view names no rows of another item.
+pub(crate) fn hows_with_views<N: Names>(
+    alloc: Global,
+    names: &N,
+    query: &BoundSpecification,
+    hows: &[How],
+) -> Result<Vec<How>, AllocError>
+    requires { FindsSelect (N.base_tables names.now) (N.column_kinds names.now) query.now }
+{
+    let inner = Needed::of_subqueries(alloc, query)?;
+    let mut all = Vec::new(alloc);
+    for (item, how) in hows.iter().enumerate() {
+        let seen = Seen {
+            item,
+            hows,
+            is_within: true,
+        };
+        all.push(how_with_view(alloc, names, query, *how, &inner, &seen)?)?;
     }
+    Ok(all)
+}
+
+/// How the rows of an item are found, if it is a plain view, or else so.
+fn how_with_view<N: Names>(
+    alloc: Global,
+    names: &N,
+    query: &BoundSpecification,
+    how: How,
+    inner: &Needed,
+    seen: &Seen<'_>,
+) -> Result<How, AllocError>
+    requires { FindsSelect (N.base_tables names.now) (N.column_kinds names.now) query.now }
+{
+    let tables = query.from.tables.as_slice();
+    let Some(condition) = &query.condition else {
+        return Ok(how);
+    };
+    let Some(TablePlace::View(view)) = tables.get(seen.item) else {
+        return Ok(how);
+    };
+    if inner.contains(TablePlace::View(*view))
+        || !is_once(TablePlace::View(*view), seen.item, tables)
+    {
+        return Ok(how);
+    }
+    how_of_view(alloc, names, *view, condition, seen)
+}
+
+/// How the rows of a plain view in an item are found that a condition names.
+fn how_of_view<N: Names>(
+    alloc: Global,
+    names: &N,
+    view: usize,
+    condition: &BoundCond,
+    seen: &Seen<'_>,
+) -> Result<How, AllocError>
+    requires there { BasesAreThere (N.base_tables names.now) (N.column_kinds names.now) }
+    requires known { HasValue (N.column_kinds names.now (at_place.View view)) }
+{
+    let Some(base) = base_under(names, view) else {
+        return Ok(How::Whole);
+    };
+    let Some(table) = names.bases().get(base) else {
+        return Ok(How::Whole);
+    };
+    let columns = columns_under(alloc, names, view)?;
+    let asked = Asked {
+        base,
+        through: Some(columns.as_slice()),
+    };
+    let how = how_of_base(
+        alloc,
+        table.get(),
+        &asked,
+        condition,
+        seen,
+        Sure::Noted,
+        &[Lookup::Key, Lookup::Keys, Lookup::Index, Lookup::Walk],
+    );
+    drop(columns);
+    how
 }
 
 // ---- columns of which the store has an index
 
-/// The first column that refers to a table and by which a condition names the rows of an item.
+/// The first column of the base table that refers to a table and by which a condition names the rows of an item.
 fn column_of_index(
     alloc: Global,
     table: &BaseTable,
+    asked: &Asked<'_>,
     condition: &BoundCond,
     seen: &Seen<'_>,
     sure: Sure,
@@ -166,15 +247,22 @@ fn column_of_index(
     let mut columns = Vec::new(alloc);
     add_compared(condition, seen.item, &mut columns)?;
     for column in columns.as_slice() {
-        if refers(table, *column) && is_named_by_some(alloc, condition, *column, seen, sure)? {
-            return Ok(Some(*column));
+        let own = referring_column(table, asked, *column);
+        if own.is_some() && is_named_by_some(alloc, condition, *column, seen, sure)? {
+            return Ok(own);
         }
     }
     Ok(None)
 }
 
+/// The column of the base table that is asked for a column of an item, if it alone refers to a table.
+fn referring_column(table: &BaseTable, asked: &Asked<'_>, column: usize) -> Option<usize> {
+    let own = asked.own(column)?;
+    if refers(table, own) { Some(own) } else { None }
+}
+
 /// Whether a reference of a base table has this column alone.
-pub(crate) fn refers(table: &BaseTable, column: usize) -> bool {
+fn refers(table: &BaseTable, column: usize) -> bool {
     table
         .references
         .as_slice()

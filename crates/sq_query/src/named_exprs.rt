@@ -5,6 +5,7 @@ ghost use Rattle.std.specs.Prelude.{◌≡◌, ◌++◌, IfOk, IfSome, OnOk, map
 ghost use Rattle.sq_query.specs.Ways.{IsFoundBy, IsFoundByTest, IsFoundByTests};
 ghost use Rattle.sq_query.specs.declared.named.Sure.TheVariants as at_sure;
 
+use crate::asked::Asked;
 use crate::named::{Sure, equal_to, is_column_in, is_passed};
 use crate::way::How;
 use sq_bound::{BoundCond, BoundExpr, BoundTest, Operation, Place, Predicate};
@@ -23,47 +24,54 @@ pub(crate) struct Seen<'l> {
     pub is_within: bool,
 }
 
-/// The first of these keys by whose columns a condition names the rows of an item, by one expression each.
+/// The first of these keys of the base table that is asked for an item by whose columns a condition names the item's rows, by one expression
+/// each.
 pub(crate) fn named_key(
     alloc: Global,
     keys: &[Items<usize>],
+    asked: &Asked<'_>,
     condition: &BoundCond,
     seen: &Seen<'_>,
     sure: Sure,
 ) -> Result<Option<usize>, AllocError> {
     for (number, key) in keys.iter().enumerate() {
-        if is_named(alloc, key.as_slice(), condition, seen, sure)? {
+        if is_named(alloc, key.as_slice(), asked, condition, seen, sure)? {
             return Ok(Some(number));
         }
     }
     Ok(None)
 }
 
-/// Whether a condition names the rows of an item by one expression for each of these columns.
+/// Whether a condition names the rows of an item by one expression for each of these columns of the base table.
 fn is_named(
     alloc: Global,
     columns: &[usize],
+    asked: &Asked<'_>,
     condition: &BoundCond,
     seen: &Seen<'_>,
     sure: Sure,
 ) -> Result<bool, AllocError> {
     for column in columns {
-        if !is_named_by_one(alloc, condition, *column, seen, sure)? {
+        if !is_named_by_one(alloc, asked, condition, *column, seen, sure)? {
             return Ok(false);
         }
     }
     Ok(true)
 }
 
-/// Whether a condition names the rows of an item by one expression for a column.
+/// Whether a condition names the rows of an item by one expression for a column of the base table.
 fn is_named_by_one(
     alloc: Global,
+    asked: &Asked<'_>,
     condition: &BoundCond,
     column: usize,
     seen: &Seen<'_>,
     sure: Sure,
 ) -> Result<bool, AllocError> {
-    match exprs_by_condition(alloc, condition, column, seen, sure)? {
+    let Some(shown) = asked.shown(column) else {
+        return Ok(false);
+    };
+    match exprs_by_condition(alloc, condition, shown, seen, sure)? {
         Some(exprs) => Ok(exprs.len() == 1),
         None => Ok(false),
     }
@@ -73,28 +81,33 @@ fn is_named_by_one(
 pub(crate) fn key_of_several(
     alloc: Global,
     keys: &[Items<usize>],
+    asked: &Asked<'_>,
     condition: &BoundCond,
     seen: &Seen<'_>,
     sure: Sure,
 ) -> Result<Option<usize>, AllocError> {
     for (number, key) in keys.iter().enumerate() {
-        if is_named_by_several(alloc, key.as_slice(), condition, seen, sure)? {
+        if is_named_by_several(alloc, key.as_slice(), asked, condition, seen, sure)? {
             return Ok(Some(number));
         }
     }
     Ok(None)
 }
 
-/// Whether there is one column, and a condition names the rows of an item by expressions for it.
+/// Whether there is one column of the base table, and a condition names the rows of an item by expressions for it.
 fn is_named_by_several(
     alloc: Global,
     columns: &[usize],
+    asked: &Asked<'_>,
     condition: &BoundCond,
     seen: &Seen<'_>,
     sure: Sure,
 ) -> Result<bool, AllocError> {
     match columns {
-        [column] => is_named_by_some(alloc, condition, *column, seen, sure),
+        [column] => match asked.shown(*column) {
+            Some(shown) => is_named_by_some(alloc, condition, shown, seen, sure),
+            None => Ok(false),
+        },
         _ => Ok(false),
     }
 }
