@@ -1,6 +1,6 @@
 -- What plain views in the FROM clause of a query specification show of the rows that its WHERE clause names (ISO/IEC 9075:1992, 7.4, 7.6 and
 -- 11.19; own rule).
-use Rattle.std.specs.Prelude.{⊥, ◌≡◌, ◌<◌, ℕ, Bool, true, false, not, nat_eq, find, List, [], ◌∷◌, length, slice_get, Option, Some, None}
+use Rattle.std.specs.Prelude.{◌≡◌, ◌<◌, ℕ, Bool, true, false, not, nat_eq, find, List, [], ◌∷◌, length, slice_get, Option, Some, None}
 use Rattle.std.specs.List.{list_any}
 use Rattle.sq_lex.specs.declared.name.Name.{Name}
 use Rattle.sq_value.specs.declared.domain.Kind.{Kind}

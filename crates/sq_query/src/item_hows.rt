@@ -1,6 +1,10 @@
 //! How the rows of the items of a FROM clause are found, as far as it is known before any call.
 
 ghost use Rattle.std.specs.Prelude.{◌<◌, length};
+ghost use Rattle.sq_meaning.specs.WellFormed.{HasValue};
+ghost use Rattle.sq_bound.specs.WellFormed.{BasesAreThere};
+ghost use Rattle.sq_bound.specs.declared.condition.TablePlace.TheVariants as at_place;
+ghost use Rattle.sq_query.specs.Needed.{FindsSelect};
 
 use crate::asked::{Asked, columns_under, itself};
 use crate::items::is_once;

@@ -22,7 +22,6 @@ mod named;
 mod named_exprs;
 mod named_keys;
 mod needed;
-mod only_how;
 mod order;
 mod outside;
 mod plain_view;

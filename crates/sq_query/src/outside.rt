@@ -113,7 +113,7 @@ pub(crate) fn with_bases<'a>(
 fn with_views<'a>(shown: Vec<ViewRows>, tables: Tables<'a>) -> Result<Tables<'a>, Fault>
     ensures answered { IsAnswered result }
     ensures bases { IfOk result (λ all. all.bases.items ≡ tables.entry.bases.items) }
-    ensures views { IfOk result (λ all. all.views.items ≡ shown.entry.items ++ tables.entry.views.items) }
+    ensures views { IfOk result (λ all. all.views.items ≡ shown.items ++ tables.entry.views.items) }
 {
     let Tables { bases, mut views } = tables;
     let mut all = shown;

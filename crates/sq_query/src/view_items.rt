@@ -97,12 +97,12 @@ fn shown_items<N: Names, S: Store>(
     for item in 0..query.from.tables.as_slice().len() {
         let own = shown_item(
             names,
-            query,
+            &*query,
             condition,
             item,
             inner,
             shown.as_slice(),
-            found,
+            &*found,
             store,
             call,
             meter,
@@ -114,7 +114,7 @@ fn shown_items<N: Names, S: Store>(
 
 /// Before these the rows of a view, if there is one more.
 fn with_shown(own: Option<ViewRows>, shown: Vec<ViewRows>) -> Result<Vec<ViewRows>, AllocError>
-    ensures { IfOk result (λ all. all.items ≡ option_to_list own ++ shown.entry.items) }
+    ensures { IfOk result (λ all. all.items ≡ option_to_list own ++ shown.items) }
 {
     let mut all = shown;
     match own {
@@ -127,14 +127,14 @@ fn with_shown(own: Option<ViewRows>, shown: Vec<ViewRows>) -> Result<Vec<ViewRow
 }
 
 /// What the plain view in an item shows of the rows that WHERE names, if it does. All rows of a view are needed that stands elsewhere, too.
-fn shown_item<N: Names, S: Store>(
+fn shown_item<'q, N: Names, S: Store>(
     names: &N,
-    query: &BoundSpecification,
+    query: &'q BoundSpecification,
     condition: &BoundCond,
     item: usize,
     inner: &Needed,
     shown: &[ViewRows],
-    found: &[BaseRows<'_>],
+    found: &'q [BaseRows<'q>],
     store: &S,
     call: &Context<'_>,
     meter: &mut Meter,

@@ -7,12 +7,12 @@ ghost use Rattle.sq_bound.specs.Joined.{specifications_of, term_specifications};
 ghost use Rattle.sq_query.specs.Needed.{FindsSelect};
 
 use crate::elsewhere::{beside_term, beside_test, with_around, with_lines_of, with_subqueries};
-use crate::item_hows::{how_of_base, hows_of_items};
+use crate::asked::itself;
+use crate::item_hows::{how_of_base, hows_of_items, hows_with_views};
 use crate::lookup::Lookup;
 use crate::named::Sure;
 use crate::named_exprs::{Seen, is_one_row};
 use crate::needed::Needed;
-use crate::only_how::how_of_only;
 use crate::way::{How, KeyPlace, Way};
 use sq_bound::{
     BaseTable, BoundCond, BoundConj, BoundQuery, BoundSpecification, BoundTerm, Names, Predicate,
@@ -125,7 +125,15 @@ fn how_of_row(
                 hows: &[],
                 is_within: true,
             };
-            how_of_base(alloc, table, base, condition, &seen, Sure::Unnoted, lookups)
+            how_of_base(
+                alloc,
+                table,
+                &itself(base),
+                condition,
+                &seen,
+                Sure::Unnoted,
+                lookups,
+            )
         }
     }
 }
@@ -193,18 +201,33 @@ fn add_of_outermost<N: Names>(
 ) -> Result<(), AllocError>
     requires { FindsSelect (N.base_tables names.now) (N.column_kinds names.now) query.now }
 {
-    let only = how_of_only(alloc, names, query)?;
     let nowhere = Needed::new(alloc);
     let around = Beneath {
         elsewhere: &nowhere,
-        by_keys: only.is_none(),
+        by_keys: true,
         is_within: true,
     };
-    let added = match only {
-        Some(how) => add_with(alloc, names, query, &[how], &around, ways),
-        None => add_of_select(alloc, names, query, &around, ways),
-    };
+    let added = add_with_views(alloc, names, query, &around, ways);
     drop(nowhere);
+    added
+}
+
+/// Adds the ways of a query specification outside every query, from the rows of the tables that it reads.
+fn add_with_views<N: Names>(
+    alloc: Global,
+    names: &N,
+    query: &BoundSpecification,
+    around: &Beneath<'_>,
+    ways: &mut Vec<Way>,
+) -> Result<(), AllocError>
+    requires { FindsSelect (N.base_tables names.now) (N.column_kinds names.now) query.now }
+{
+    let hows = hows_within(alloc, names, query, around)?;
+    let shown = hows_with_views(alloc, names, query, hows.as_slice())?;
+    add_items(query.from.tables.as_slice(), shown.as_slice(), ways)?;
+    drop(shown);
+    let added = add_inside(alloc, names, query, hows.as_slice(), around, ways);
+    drop(hows);
     added
 }
 
@@ -218,14 +241,15 @@ fn add_of_select<N: Names>(
     ways: &mut Vec<Way>,
 ) -> Result<(), AllocError> {
     let hows = hows_within(alloc, names, query, around)?;
-    let added = add_with(alloc, names, query, hows.as_slice(), around, ways);
+    add_items(query.from.tables.as_slice(), hows.as_slice(), ways)?;
+    let added = add_inside(alloc, names, query, hows.as_slice(), around, ways);
     drop(hows);
     added
 }
 
-/// Adds the ways of a query specification of whose items the rows are found so.
+/// Adds the ways of the subqueries of a query specification of whose items the rows are found so.
 #[cycle(add_of_select)]
-fn add_with<N: Names>(
+fn add_inside<N: Names>(
     alloc: Global,
     names: &N,
     query: &BoundSpecification,
@@ -233,7 +257,6 @@ fn add_with<N: Names>(
     around: &Beneath<'_>,
     ways: &mut Vec<Way>,
 ) -> Result<(), AllocError> {
-    add_items(query.from.tables.as_slice(), hows, ways)?;
     add_of_where(alloc, names, query, hows, around, ways)?;
     add_of_having(alloc, names, query, around, ways)
 }

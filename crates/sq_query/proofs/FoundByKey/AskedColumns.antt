@@ -1,5 +1,5 @@
 -- The columns by which a base table is asked for the rows of an item: its own, or those that a plain view shows (ISO/IEC 9075:1992, 7.4 and 11.19).
-use Rattle.std.proofs.Common.{◌≡◌, ℕ, List, ◌∷◌, [], inl, inr, slice_get, Option, Some, None, Result, Bor, sym, subst, Ok, Err}
+use Rattle.std.proofs.Common.{◌≡◌, ◌+◌, ℕ, zero, suc, List, ◌∷◌, [], ◌++◌, inl, inr, length, slice_get, Option, Some, None, Result, Vec, Global, Bor, arith, refl, sym, subst, Ok, Err}
 use Rattle.std.specs.Prelude.{IfOk, IfSome}
 use Rattle.std.specs.List.{AllZip}
 use Rattle.sq_value.specs.declared.value.Value.{Value}
@@ -46,3 +46,22 @@ named_weaker F G so content keys own (inr (inr (n, vs, h))) = inr (inr (n, vs, r
 pub through_under : (queries : List BoundSpecification) (views : List ℕ) (columns : Bor (List (Option ℕ))) (F : ℕ → List Value → Type 0) → AreUnder queries views columns.now → (n : ℕ) (vs : List Value) → IsFalseThrough (Some columns) F n vs
     → IsFalseUnder queries views F n vs
 through_under queries views columns F under n vs h = (h.0, under n h.0 h.1, h.2)
+
+module _ (queries : List BoundSpecification) (views : List ℕ) (columns : Bor (List (Option ℕ))) (F : ℕ → List Value → Type 0) (content : Content) (keys : List Keys) (base : ℕ) where
+  pub under_named : (r : Result (Option BaseRows) Fault) → AreUnder queries views columns.now → IfOk r (λ o. IfSome o (λ own. (own.place ≡ base) × IsNamed (IsFalseThrough (Some columns) F) content keys own))
+      → IfOk r (λ o. IfSome o (λ own. (own.place ≡ base) × IsNamed (IsFalseUnder queries views F) content keys own))
+  under_named (Err e) under h = tt
+  under_named (Ok None) under h = tt
+  under_named (Ok (Some own)) under h = (h.0, named_weaker (IsFalseThrough (Some columns) F) (IsFalseUnder queries views F) (through_under queries views columns F under) content keys own h.1)
+
+-- columns in a list, one more
+pub columns_more : (Shows : ℕ → ℕ → Type 0) (columns : List (Option ℕ)) (o : Option ℕ) → ((own n : ℕ) → slice_get columns n ≡ Some (Some own) → Shows own n) → IfSome o (λ own. Shows own (length columns)) → (own n : ℕ)
+    → slice_get (columns ++ o ∷ []) n ≡ Some (Some own) → Shows own n
+columns_more Shows [] o h more own zero e = let same : o ≡ Some own = cc in subst (λ (p : Option ℕ). IfSome p (λ x. Shows x 0)) same more
+columns_more Shows [] o h more own (suc n) e = absurd cc
+columns_more Shows (c ∷ columns) o h more own zero e = h own zero e
+columns_more Shows (c ∷ columns) o h more own (suc n) e = columns_more (λ x m. Shows x (suc m)) columns o (λ x m. h x (suc m)) more own n e
+
+pub one_longer : {A : Type 0} (xs : List A) (x : A) → length (xs ++ x ∷ []) ≡ length xs + 1
+one_longer [] x = refl
+one_longer (y ∷ xs) x = omega (arith, one_longer xs x)

@@ -1,5 +1,5 @@
 -- What is read where some base tables were found by keys: those, the other tables of FROM, and those of the subqueries.
-use Rattle.std.proofs.Common.{◌≡◌, ◌∙◌, Bool, true, false, not, ◌||◌, List, [], ◌∷◌, ◌++◌, cond, find, nat_eq, Some, Result, refl, sym, Ok, Err}
+use Rattle.std.proofs.Common.{◌≡◌, ◌∙◌, ℕ, Bool, true, false, not, ◌||◌, List, [], ◌∷◌, ◌++◌, cond, find, nat_eq, Some, Result, refl, sym, Ok, Err}
 use Rattle.std.specs.Prelude.{IfOk}
 use Rattle.sq_lex.specs.declared.name.Name.{Name}
 use Rattle.sq_value.specs.declared.value.Value.{Value}

@@ -14,6 +14,7 @@ use Rattle.sq_bound.specs.declared.condition.TablePlace.{TablePlace}
 use Rattle.sq_bound.specs.declared.condition.TablePlace.TheVariants.{Base, View}
 use Rattle.sq_expression.specs.Frame.{lent, scopes_beyond}
 use Rattle.sq_expression.specs.declared.table.BaseRows.{BaseRows}
+use Rattle.sq_expression.specs.declared.table.ViewRows.{ViewRows}
 use Rattle.sq_query.specs.Around.{IsStanding}
 use Rattle.sq_query.specs.Inner.{AreOfOtherParts, AreOnlyRows, IsLineBeneath, IsOnlyRow}
 use Rattle.sq_query.specs.Items.{is_empty_item, is_found, is_left, items_of}
@@ -22,6 +23,7 @@ use Rattle.sq_query.specs.Needed.{Adds, IsNeeded, NeedsMore, NeedsNone, ReadsCon
 use Rattle.sq_query.specs.declared.around.Around.{Around}
 use Rattle.sq_query.specs.declared.around.Standing.{Standing}
 use Rattle.sq_query.specs.declared.around.Standing.TheVariants.{OnNoLine, OnSomeLine, Within}
+use Rattle.sq_query.specs.ViewItems.{is_hidden, is_shown}
 use Rattle.sq_query.specs.declared.needed.Needed.{Needed}
 use Rattle.sq_query.proofs.Needs.Added.{conds_needed, needs_more}
 use Rattle.sq_query.proofs.FoundByKey.ItemRows.{no_line_among}
@@ -138,3 +140,13 @@ module _ (before : Needed) (bases : Vec ℕ Global) (found : List BaseRows) (is 
   pub kept_left : (t : TablePlace) → IsNeeded before t → is_left found t ≡ true → IsNeeded (record before { bases = bases }) t
   kept_left (View p) h left = h
   kept_left (Base p) h left = subst (λ (l : List ℕ). list_any (λ x. nat_eq x p) l ≡ true) (sym is) (any_left (λ b. not (is_found b found)) p left before.bases.items h)
+
+-- and views that were not shown
+module _ (before : Needed) (views : Vec ℕ Global) (shown : List ViewRows) (is : views.items ≡ filter (λ v. not (is_shown v shown)) before.views.items) where
+  pub fewer_hidden : (t : TablePlace) → IsNeeded (record before { views = views }) t → IsNeeded before t
+  fewer_hidden (Base p) h = h
+  fewer_hidden (View p) h = any_fewer (λ x. nat_eq x p) (λ v. not (is_shown v shown)) before.views.items (subst (λ (l : List ℕ). list_any (λ x. nat_eq x p) l ≡ true) is h)
+
+  pub kept_hidden : (t : TablePlace) → IsNeeded before t → is_hidden shown t ≡ true → IsNeeded (record before { views = views }) t
+  kept_hidden (Base p) h hidden = h
+  kept_hidden (View p) h hidden = subst (λ (l : List ℕ). list_any (λ x. nat_eq x p) l ≡ true) (sym is) (any_left (λ v. not (is_shown v shown)) p hidden before.views.items h)

@@ -74,6 +74,20 @@ module _ (columns : TableKinds) (queries : List BoundSpecification) (view base :
   no_view_next none [] path = refl
   no_view_next none (v ∷ views) path = absurd (none v (over_same (View v) path.0))
 
+-- a view has one path
+module _ (columns : TableKinds) (queries : List BoundSpecification) where
+  over_other : (view : ℕ) (t u : TablePlace) (v : IsPlainView columns queries view t) (w : IsPlainView columns queries view u) → IsOver v.query u
+  over_other view t u v w = subst (λ (s : BoundSpecification). IsOver s u) (same_some w.query v.query (slice_get queries view) w.is_query v.is_query) w.plain.over
+
+  pub same_path : (view : ℕ) (views others : List ℕ) (base other : ℕ) → IsPath columns queries (view ∷ views) base → IsPath columns queries (view ∷ others) other → (views ≡ others) × (base ≡ other)
+  same_path view [] [] base other p o = (refl, over_bases p.0.query base other p.0.plain.over (over_other view (Base base) (Base other) p.0 o.0))
+  same_path view [] (n ∷ others) base other p o = absurd (over_either p.0.query base n p.0.plain.over (over_other view (Base base) (View n) p.0 o.0))
+  same_path view (m ∷ views) [] base other p o = absurd (over_either p.0.query other m (over_other view (View m) (Base other) p.0 o.0) p.0.plain.over)
+  same_path view (m ∷ views) (n ∷ others) base other p o =
+      let next : m ≡ n = over_views p.0.query m n p.0.plain.over (over_other view (View m) (View n) p.0 o.0) in
+      let rest = same_path m views others base other p.1 (subst (λ (k : ℕ). IsPath columns queries (k ∷ others) other) (sym next) o.1) in
+      ((λ i. next i ∷ rest.0 i), rest.1)
+
 -- ---- one column through views
 
 -- one view more
