@@ -4,6 +4,7 @@ ghost use Rattle.std.specs.Prelude.{◌<◌, length};
 ghost use Rattle.sq_meaning.specs.WellFormed.{HasValue};
 ghost use Rattle.sq_bound.specs.WellFormed.{BasesAreThere};
 ghost use Rattle.sq_bound.specs.declared.condition.TablePlace.TheVariants as at_place;
+ghost use Rattle.sq_query.specs.Items.{items_of};
 ghost use Rattle.sq_query.specs.Needed.{FindsSelect};
 
 use crate::asked::{Asked, columns_under, itself};
@@ -13,6 +14,7 @@ use crate::named::Sure;
 use crate::named_exprs::{Seen, is_named_by_some, key_of_several, named_key};
 use crate::needed::Needed;
 use crate::plain_view::base_under;
+use crate::view_items::is_view_alone;
 use crate::way::{ColumnPlace, How, KeyPlace};
 use sq_bound::{BaseTable, BoundCond, BoundSpecification, Names, Reference, TablePlace};
 use std::alloc::{AllocError, Global};
@@ -165,41 +167,46 @@ pub(crate) fn hows_with_views<N: Names>(
 {
     let inner = Needed::of_subqueries(alloc, query)?;
     let mut all = Vec::new(alloc);
-    for (item, how) in hows.iter().enumerate() {
+    for item in 0..query.from.tables.as_slice().len() {
         let seen = Seen {
             item,
             hows,
             is_within: true,
         };
-        all.push(how_with_view(alloc, names, query, *how, &inner, &seen)?)?;
+        all.push(how_with_view(alloc, names, query, &inner, &seen)?)?;
     }
     Ok(all)
 }
 
-/// How the rows of an item are found, if it is a plain view, or else so.
+/// How the rows of an item are found: as it was seen, if it is no plain view whose rows WHERE names.
 fn how_with_view<N: Names>(
     alloc: Global,
     names: &N,
     query: &BoundSpecification,
-    how: How,
     inner: &Needed,
     seen: &Seen<'_>,
 ) -> Result<How, AllocError>
-    requires { FindsSelect (N.base_tables names.now) (N.column_kinds names.now) query.now }
+    requires finds { FindsSelect (N.base_tables names.now) (N.column_kinds names.now) query.now }
+    requires item { seen.now.item < length (items_of query.now) }
 {
     let tables = query.from.tables.as_slice();
-    let Some(condition) = &query.condition else {
-        return Ok(how);
+    let TablePlace::View(view) = tables[seen.item] else {
+        return Ok(how_seen(seen));
     };
-    let Some(TablePlace::View(view)) = tables.get(seen.item) else {
-        return Ok(how);
-    };
-    if inner.contains(TablePlace::View(*view))
-        || !is_once(TablePlace::View(*view), seen.item, tables)
-    {
-        return Ok(how);
+    match &query.condition {
+        Some(condition) if is_view_alone(view, seen.item, query, inner, &[]) => {
+            how_of_view(alloc, names, view, condition, seen)
+        }
+        _ => Ok(How::Whole),
     }
-    how_of_view(alloc, names, *view, condition, seen)
+}
+
+/// How the rows of an item are found, as far as that is known.
+fn how_seen(seen: &Seen<'_>) -> How {
+    match seen.hows.get(seen.item) {
+        Some(how) => *how,
+        None => How::Whole,
+    }
 }
 
 /// How the rows of a plain view in an item are found that a condition names.

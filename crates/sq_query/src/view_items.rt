@@ -178,7 +178,7 @@ fn shown_item<'q, N: Names, S: Store>(
 }
 
 /// Whether a view stands in this item alone, and in no subquery, and was not shown before.
-fn is_view_alone(
+pub(crate) fn is_view_alone(
     view: usize,
     item: usize,
     query: &BoundSpecification,
