@@ -6,9 +6,8 @@ ghost use Rattle.sq_bound.specs.declared.condition.TablePlace.TheVariants as at_
 ghost use Rattle.sq_query.specs.Needed.{FindsSelect};
 
 use crate::item_hows::{keys_of, refers};
-use crate::needed::Needed;
 use crate::plain_view::{base_under, column_under, view_under};
-use crate::search::{over_base, tables_beside};
+use crate::search::tables_beside;
 use crate::value_scan::first_column;
 use crate::view_key::columns_through;
 use crate::way::{ColumnPlace, How, KeyPlace};
@@ -17,9 +16,8 @@ use sq_items::Items;
 use std::alloc::{AllocError, Global};
 use std::slice::from_ref;
 
-/// How the rows of a query specification's only table are found: of a base table by a key that its WHERE clause begins with, of a view by a
-/// key of the base table under it, or in a scan for the value with which it first compares a column. `None` if they are looked for as those
-/// of any item.
+/// How the rows of a query specification's only table, a view, are found: by a key of the base table under it, or in a scan for the value
+/// with which WHERE first compares a column. `None` if they are looked for as those of any item.
 pub(crate) fn how_of_only<N: Names>(
     alloc: Global,
     names: &N,
@@ -29,25 +27,6 @@ pub(crate) fn how_of_only<N: Names>(
 {
     match view_under(query) {
         Some(view) => how_of_view(alloc, names, query, view),
-        None => key_of_base(alloc, names, query),
-    }
-}
-
-/// The key of the only table, a base table, that a WHERE clause without subqueries begins with.
-fn key_of_base<N: Names>(
-    alloc: Global,
-    names: &N,
-    query: &BoundSpecification,
-) -> Result<Option<How>, AllocError> {
-    let Some((base, condition)) = over_base(query) else {
-        return Ok(None);
-    };
-    let inner = Needed::of_subqueries(alloc, query)?;
-    if !inner.is_empty() {
-        return Ok(None);
-    }
-    match shortest_key(keys_of(names, base), condition) {
-        Some(key) => Ok(Some(How::Key(KeyPlace { base, key }))),
         None => Ok(None),
     }
 }

@@ -1,5 +1,5 @@
--- A query specification without HAVING whose WHERE clause names a row of its only base table by a key: its rows are those for that row, if WHERE is true of it, whatever tables its subqueries read.
-use Rattle.std.proofs.Common.{◌≡◌, ◌∙◌, ℕ, Bool, true, List, [], ◌∷◌, Option, Some, None, Result, map, slice_get, refl, sym, ap, subst, Ok, Err}
+-- A query specification whose WHERE clause names a row of its only base table by a key: its rows are those for that row, if WHERE is true of it, whatever tables its subqueries read. HAVING has none.
+use Rattle.std.proofs.Common.{◌≡◌, ◌∙◌, ℕ, Bool, true, false, List, [], ◌∷◌, Option, Some, None, Result, map, slice_get, refl, sym, ap, subst, Ok, Err}
 use Rattle.std.specs.Prelude.{IsErrAnd, Vec, if◌then◌else◌, option_to_list}
 use Rattle.std.specs.Option.{option_map}
 use Rattle.std.specs.List.{AllByRecursion}
@@ -13,14 +13,14 @@ use Rattle.sq_store.specs.Keys.{Keys, are_keyed}
 use Rattle.sq_store.specs.declared.table.Numbered.{Numbered}
 use Rattle.sq_meaning.specs.Environment.{Line, Row, outermost, within}
 use Rattle.sq_meaning.specs.Placed.{by_place}
-use Rattle.sq_meaning.specs.Query.{clause_truth, is_true, rows, truth}
+use Rattle.sq_meaning.specs.Query.{is_true, rows, truth}
 use Rattle.sq_meaning.specs.Rows.{firsts, product, same_row}
 use Rattle.sq_meaning.specs.Status.{Outcome, and_then, each, kept}
-use Rattle.sq_meaning.specs.Syntax.{absent, expressions, literal, present}
+use Rattle.sq_meaning.specs.Syntax.{expressions, present}
 use Rattle.sq_meaning.specs.Tables.{rows_in}
+use Rattle.sq_meaning.specs.Target.{clause_has_subquery, has_subquery}
 use Rattle.sq_meaning.specs.WellFormed.{Has, IsRowOf}
-use Rattle.sq_meaning.proofs.OutcomeLaws.{kept_all}
-use Rattle.sq_bound.specs.Condition.{Groups, PlacedSelect, clause_of, cond_of, groups_if, groups_of, select_of}
+use Rattle.sq_bound.specs.Condition.{Groups, PlacedSelect, cond_of, groups_if, groups_of, select_of}
 use Rattle.sq_bound.specs.Expression.{expr_of}
 use Rattle.sq_bound.specs.Fits.{keys_of_bases, not_nulls_hold}
 use Rattle.sq_bound.specs.Groups.{AreGroupsIfAny}
@@ -37,38 +37,36 @@ use Rattle.sq_bound.specs.declared.expression.BoundExpr.{BoundExpr}
 use Rattle.sq_bound.specs.declared.names.BaseTable.{BaseTable}
 use Rattle.sq_bound.proofs.ConditionLaws.{groups_of-out}
 use Rattle.sq_bound.proofs.Nested.{select_held, select_itself}
-use Rattle.sq_condition.specs.Specification.{as_line, is_shown}
+use Rattle.sq_condition.specs.Specification.{as_line}
 use Rattle.sq_condition.proofs.Grouped.{groups_from_lines}
 use Rattle.sq_condition.proofs.Lone.{clause_alone}
 use Rattle.sq_condition.proofs.Phases.{from_lines, lines_shown}
 use Rattle.sq_expression.specs.Fault.{HasRows, Meets, MeetsAs, rows_in as list_of_rows}
-use Rattle.sq_expression.specs.Frame.{inputs_of, reading, table_rows}
-use Rattle.sq_expression.specs.Group.{seen_of_groups}
-use Rattle.sq_expression.specs.Lines.{line_env, lines_in}
-use Rattle.sq_expression.specs.Select.{row_seen, rows_left}
+use Rattle.sq_expression.specs.Frame.{inputs_of, table_rows}
+use Rattle.sq_expression.specs.Lines.{lines_in}
 use Rattle.sq_expression.specs.declared.context.Context.{Context}
 use Rattle.sq_expression.specs.declared.fault.Fault.{Fault}
 use Rattle.sq_expression.specs.declared.fault.Fault.TheVariants as fault
 use Rattle.sq_expression.proofs.Views.{handed_on_as}
 use Rattle.sq_expression.specs.declared.frame.Lines.{Lines}
 use Rattle.sq_query.specs.Key.{IsKeyOn, StandsOn}
-use Rattle.sq_query.specs.Needed.{ReadsClause, ReadsCond, ReadsSelect}
+use Rattle.sq_query.specs.Needed.{ReadsCond, ReadsSelect, clause_tables, cond_tables, inside_tables}
 use Rattle.sq_query.specs.OnRow.{StandsOnRow}
 use Rattle.sq_query.specs.Row.{outside, truth_on_row}
 use Rattle.sq_query.specs.Search.{IsOver, IsWhere}
-use Rattle.sq_query.specs.SingleRow.{HasNoHaving, line_if, lines_left, listed_by}
+use Rattle.sq_query.specs.SingleRow.{HasPlainHaving, line_if, lines_left, listed_by}
 use Rattle.sq_query.specs.declared.key.KnownKey.{KnownKey}
 use Rattle.sq_query.proofs.Keys.Searched.{found_row, groups_in, line_on, lines_kept, lines_on, test_on, tree_of}
-use Rattle.sq_query.proofs.Needs.AnyTables.{listed_over, scopes_over}
-use Rattle.sq_query.proofs.Needs.SameTables.{over_rows, same_clause, shown_of}
+use Rattle.sq_query.proofs.Needs.AnyTables.{clause_over, listed_over, scopes_over}
+use Rattle.sq_query.proofs.Needs.NoSubquery.{cond_plain, none_of_both}
+use Rattle.sq_query.proofs.Needs.SameTables.{over_rows, shown_of}
 
 -- ---- the rows for the lines
 
--- without HAVING the clause of the groups is absent
-having_absent : (h : Option Grouping) → HasNoHaving h → (groups_if (option_map groups_of h)).having ≡ absent
-having_absent None lacks = refl
-having_absent (Some g) lacks =
-    ap (λ (gs : Groups). gs.having) (groups_of-out g) ∙ ap (clause_of (map call_of (out-Grouping g).set_functions)) lacks
+-- the clause of the groups has no subquery
+having_plain : (h : Option Grouping) → HasPlainHaving h → clause_has_subquery (groups_if (option_map groups_of h)).having ≡ false
+having_plain None plain = refl
+having_plain (Some g) plain = ap (λ (gs : Groups). clause_has_subquery gs.having) (groups_of-out g) ∙ plain (map call_of (out-Grouping g).set_functions)
 
 module _ (context : Context) (distinct : Bool) (list : List BoundExpr) where
   -- what goes on from the lines, for groups if there are any
@@ -77,21 +75,11 @@ module _ (context : Context) (distinct : Bool) (list : List BoundExpr) where
       let gs = groups_if (option_map groups_of h) in
       from_lines None context distinct (map (expr_of gs.functions) list) gs.columns gs.having (tt ∷ [])
 
-  abbrev last_of : Grouping → List (Line × List Value) → Outcome (List Row)
-  last_of g left = and_then (each (row_seen list None context) left) (λ rows. Ok (rows_left distinct rows))
-
-  -- every group is shown
-  all_shown : (g : Grouping) → HasNoHaving (Some g) → (groups : List (Line × List Value)) → kept (is_shown g None context) groups ≡ Ok groups
-  all_shown g lacks groups =
-      (λ i. kept (λ group. is_true (clause_truth (reading context) (clause_of (map literal group.1) (lacks i)) (line_env group.0 None context))) groups)
-      ∙ kept_all groups
-
-  pub listed_is : (h : Option Grouping) → HasNoHaving h → AreGroupsIfAny list h → (lines : List Line) → next_by h lines ≡ listed_by distinct list h context lines
-  listed_is None lacks fits lines = lines_shown None context distinct list (tt ∷ []) lines
-  listed_is (Some g) lacks fits lines =
+  pub listed_is : (h : Option Grouping) → AreGroupsIfAny list h → (lines : List Line) → next_by h lines ≡ listed_by distinct list h context lines
+  listed_is None fits lines = lines_shown None context distinct list (tt ∷ []) lines
+  listed_is (Some g) fits lines =
       ap (λ (gs : Groups). from_lines None context distinct (map (expr_of gs.functions) list) gs.columns gs.having (tt ∷ []) lines) (groups_of-out g)
       ∙ groups_from_lines None context distinct list g fits (tt ∷ []) lines
-      ∙ (λ i. and_then (seen_of_groups (out-Grouping g).columns (map call_of (out-Grouping g).set_functions) None context lines) (λ groups. and_then (all_shown g lacks groups i) (last_of g)))
 
 -- ---- over one table
 
@@ -99,9 +87,9 @@ module _ (tables : TablePlace → Outcome (List Row)) (context : Context) (q : B
   abbrev values : List Value
   values = context.parameters.now
 
-  rows_on : (all : List Row) → tables t ≡ Ok all → ReadsClause (λ u. tables u ≡ table_rows context u) (groups_in q).having
+  rows_on : (all : List Row) → tables t ≡ Ok all → clause_has_subquery (groups_in q).having ≡ false
       → rows (by_place tables) (select_of q) (outermost (inputs_of values) context.user) ≡ and_then (lines_left tables own values context.user all) (next_by context (out-BoundSpecification q).distinct (out-BoundSpecification q).list (out-BoundSpecification q).grouping)
-  rows_on all whole same =
+  rows_on all whole plain =
       let env = outermost (inputs_of values) context.user in
       let gs = groups_in q in
       let es = expressions (map (expr_of gs.functions) (out-BoundSpecification q).list) in
@@ -114,15 +102,15 @@ module _ (tables : TablePlace → Outcome (List Row)) (context : Context) (q : B
       ((λ i. kept (λ line. is_true (clause_alone tables (tt ∷ []) line env (Some own) i)) (product (all ∷ []))) ∙ ap (kept (λ line. is_true (truth (by_place tables) (cond_of [] own) (outside line values context.user)))) (flat_map_single as_line all))
       ∙ (λ i. and_then lines
       (λ left. and_then (scopes_over tables g es gs.columns gs.having (tt ∷ []) left env i)
-      (λ scopes. and_then (kept (λ scope. is_true (same_clause tables g gs.having same (within scope env) i)) scopes)
+      (λ scopes. and_then (kept (λ scope. is_true (clause_over tables g gs.having (within scope env) plain i)) scopes)
       (λ left. and_then (each (λ scope. listed_over tables g es (within scope env) i) left)
       (λ shown. Ok (if (out-BoundSpecification q).distinct then firsts same_row shown else shown))))))
 
-  pub rows_listed : (all : List Row) → tables t ≡ Ok all → HasNoHaving (out-BoundSpecification q).grouping → AreGroupsIfAny (out-BoundSpecification q).list (out-BoundSpecification q).grouping
+  pub rows_listed : (all : List Row) → tables t ≡ Ok all → HasPlainHaving (out-BoundSpecification q).grouping → AreGroupsIfAny (out-BoundSpecification q).list (out-BoundSpecification q).grouping
       → rows (by_place tables) (select_of q) (outermost (inputs_of values) context.user) ≡ and_then (lines_left tables own values context.user all) (listed_by (out-BoundSpecification q).distinct (out-BoundSpecification q).list (out-BoundSpecification q).grouping context)
-  rows_listed all whole lacks fits =
-      rows_on all whole (subst (ReadsClause (λ u. tables u ≡ table_rows context u)) (sym (having_absent (out-BoundSpecification q).grouping lacks)) tt)
-      ∙ (λ i. and_then (lines_left tables own values context.user all) (λ lines. listed_is context (out-BoundSpecification q).distinct (out-BoundSpecification q).list (out-BoundSpecification q).grouping lacks fits lines i))
+  rows_listed all whole plain fits =
+      rows_on all whole (having_plain (out-BoundSpecification q).grouping plain)
+      ∙ (λ i. and_then (lines_left tables own values context.user all) (λ lines. listed_is context (out-BoundSpecification q).distinct (out-BoundSpecification q).list (out-BoundSpecification q).grouping fits lines i))
 
 -- ---- the answer
 
@@ -162,6 +150,11 @@ groups_noted columns parameters q well = (select_itself IsNoted q well.notes).gr
 -- it reads what the query specification reads
 pub where_read : (P : TablePlace → Type 0) (q : BoundSpecification) (t : TablePlace) (own : BoundCond) → IsOver q t → IsWhere q own → ReadsSelect P (select_of q) → ReadsCond P (cond_of [] own)
 where_read P q t own over is_where reads = (subst (ReadsSelect P) (tree_of q t own over is_where) reads).1
+
+-- where no subquery of a query specification reads a table, its WHERE clause has none
+pub where_plain : (q : BoundSpecification) (t : TablePlace) (own : BoundCond) → IsOver q t → IsWhere q own → inside_tables (select_of q) ≡ [] → has_subquery (cond_of [] own) ≡ false
+where_plain q t own over is_where none =
+    cond_plain [] own (none_of_both (cond_tables (cond_of [] own)) (clause_tables (groups_in q).having) (sym (ap inside_tables (tree_of q t own over is_where)) ∙ none)).0
 
 -- ---- the lines of the found row
 

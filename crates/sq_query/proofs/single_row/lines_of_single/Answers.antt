@@ -1,4 +1,4 @@
--- Left open for lines_of_single: the call of line_of_row, and its result; answered by SingleRows and others.
+-- Left open for lines_of_single: the call of line_of_row, and the clauses; answered by SingleRows and others.
 use Rattle.std.proofs.Common.{◌∙◌, Ok, ap, subst, sym}
 use Rattle.sq_store.specs.Content.{table_at}
 use Rattle.sq_store.specs.Keys.{has_key, key_at}
@@ -23,8 +23,8 @@ line_of_row-requires-clause-finds g c =
     let single = c.args.single.now in
     (c.requires.readable.finds.0, where_read (λ t. HasValue (columns t)) c.args.query.now (Base single.base) single.condition.now c.requires.single.over c.requires.single.is_where c.requires.readable.finds.1)
 
-pub returns-in-Some : goal.returns-in-Some
-returns-in-Some g c = λ parameters tables may well.
+pub returns-in-Some-clause-lines : goal.returns-in-Some-clause-lines
+returns-in-Some-clause-lines g c = λ parameters tables may well.
     let names = c.args.names.now in
     let store = c.args.store.now in
     let content = g.S.Store.content_now store in
@@ -49,10 +49,10 @@ returns-in-Some g c = λ parameters tables may well.
     let on = where_on_row columns parameters query place own r.row s.is_where well stands (subst (Has (λ ks. IsRowOf ks r.row)) (sym kinds) is_row) in
     subst (MeetsAs lines_in c.line_of_row.result)
     (sym (one_line tables columns parameters values user may.inputs bases content keys place table.0 own single.key s.key table.1 kinds stands c.requires.readable.keys c.requires.readable.not_null rows_are (g.met.S.Store.keyed store) r c.in-Some.ensures.row))
-    (c.line_of_row.ensures parameters tables may on)
+    (c.line_of_row.ensures.line parameters tables may on)
 
-pub returns-in-None : goal.returns-in-None
-returns-in-None g c = λ parameters tables may well.
+pub returns-in-None-clause-lines : goal.returns-in-None-clause-lines
+returns-in-None-clause-lines g c = λ parameters tables may well.
     let names = c.args.names.now in
     let store = c.args.store.now in
     let content = g.S.Store.content_now store in

@@ -1,4 +1,4 @@
--- Left open for rows_of_single: its result; answered by SingleRows and Searched.
+-- Left open for rows_of_single: the clause rows; answered by SingleRows and Searched.
 use Rattle.std.proofs.Common.{subst, sym}
 use Rattle.sq_store.specs.Content.{table_at}
 use Rattle.sq_expression.specs.Fault.{HasRows}
@@ -14,8 +14,8 @@ use Rattle.sq_query.proofs.Keys.Searched.{all_stored, only_read, where_stands}
 use Rattle.sq_query.proofs.Keys.SingleRows.{failed_lines, groups_noted, listed_for, rows_listed}
 use Rattle.sq_query.proofs.single_row.rows_of_single.Goals as goal
 
-pub returns-in_err-lines : goal.returns-in_err-lines
-returns-in_err-lines g c = λ parameters tables may well.
+pub returns-in_err-lines-clause-rows : goal.returns-in_err-lines-clause-rows
+returns-in_err-lines-clause-rows g c = λ parameters tables may well.
     let names = c.args.names.now in
     let store = c.args.store.now in
     let content = g.S.Store.content_now store in
@@ -39,11 +39,11 @@ returns-in_err-lines g c = λ parameters tables may well.
     let o = out-BoundSpecification query in
     let all = rows_in (table_at content place) in
     subst (HasRows c.from_residual.result)
-    (sym (rows_listed tables call query (Base place) own s.over s.is_where all (all_stored tables columns parameters values user may.inputs bases content keys place table.0 own single.key s.key table.1 kinds stands c.requires.readable.keys c.requires.readable.not_null rows_are (g.met.S.Store.keyed store) may.meant.bases) s.no_having (groups_noted columns parameters query well)))
-    (failed_lines c.in_err-lines.field-0.0 (lines_left tables own values user all) (listed_by o.distinct o.list o.grouping call) c.from_residual.result c.from_residual.ensures.1 (c.in_err-lines.ensures parameters tables may well))
+    (sym (rows_listed tables call query (Base place) own s.over s.is_where all (all_stored tables columns parameters values user may.inputs bases content keys place table.0 own single.key s.key table.1 kinds stands c.requires.readable.keys c.requires.readable.not_null rows_are (g.met.S.Store.keyed store) may.meant.bases) s.plain_having (groups_noted columns parameters query well)))
+    (failed_lines c.in_err-lines.field-0.0 (lines_left tables own values user all) (listed_by o.distinct o.list o.grouping call) c.from_residual.result c.from_residual.ensures.1 (c.in_err-lines.ensures.lines parameters tables may well))
 
-pub returns : goal.returns
-returns g c = λ parameters tables may well.
+pub returns-clause-rows : goal.returns-clause-rows
+returns-clause-rows g c = λ parameters tables may well.
     let names = c.args.names.now in
     let store = c.args.store.now in
     let content = g.S.Store.content_now store in
@@ -67,5 +67,5 @@ returns g c = λ parameters tables may well.
     let o = out-BoundSpecification query in
     let all = rows_in (table_at content place) in
     subst (HasRows c.rows_of_lines-rows.result)
-    (sym (rows_listed tables call query (Base place) own s.over s.is_where all (all_stored tables columns parameters values user may.inputs bases content keys place table.0 own single.key s.key table.1 kinds stands c.requires.readable.keys c.requires.readable.not_null rows_are (g.met.S.Store.keyed store) may.meant.bases) s.no_having (groups_noted columns parameters query well)))
-    (listed_for c.in_ok-lines.lines (lines_left tables own values user all) (listed_by o.distinct o.list o.grouping call) c.rows_of_lines-rows.result (c.in_ok-lines.ensures parameters tables may well) c.rows_of_lines-rows.ensures)
+    (sym (rows_listed tables call query (Base place) own s.over s.is_where all (all_stored tables columns parameters values user may.inputs bases content keys place table.0 own single.key s.key table.1 kinds stands c.requires.readable.keys c.requires.readable.not_null rows_are (g.met.S.Store.keyed store) may.meant.bases) s.plain_having (groups_noted columns parameters query well)))
+    (listed_for c.in_ok-lines.lines (lines_left tables own values user all) (listed_by o.distinct o.list o.grouping call) c.rows_of_lines-rows.result (c.in_ok-lines.ensures.lines parameters tables may well) c.rows_of_lines-rows.ensures)
