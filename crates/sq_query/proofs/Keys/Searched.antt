@@ -201,6 +201,12 @@ module _ (own : Outcome (List Row)) (tables : TablePlace → Outcome (List Row))
 
 -- ---- what was read
 
+-- a base table that stands before the others is found first
+pub own_first : (own : BaseRows) (bases : List BaseRows) (views : List ViewRows) (place : ℕ) (found : List Row) → own.place ≡ place → lent own.rows.items ≡ found → rows_among (own ∷ bases) views (Base place) ≡ Ok found
+own_first own bases views place found at are =
+    ap (λ (b : Bool). and_then (well_formed (cond b (Some own) (find (λ t. nat_eq t.place place) bases))) (λ t. Ok (lent t.rows.items))) (eq-eqb own.place place at)
+    ∙ ap (λ (rs : List Row). let is : Outcome (List Row) = Ok rs in is) are
+
 -- a view that stands before the others is found, and they are behind it
 module _ (own : ViewRows) (bases : List BaseRows) (views : List ViewRows) (place : ℕ) (found : Outcome (List Row)) (at : own.place ≡ place) (are : view_outcome own.rows.items own.failure ≡ found) where
   pub view_first : rows_among bases (own ∷ views) (View place) ≡ found

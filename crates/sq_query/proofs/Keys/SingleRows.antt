@@ -9,7 +9,7 @@ use Rattle.sq_lex.specs.declared.name.Name.{Name}
 use Rattle.sq_value.specs.declared.domain.Kind.{Kind}
 use Rattle.sq_value.specs.declared.value.Value.{Value}
 use Rattle.sq_store.specs.Content.{Content, table_at}
-use Rattle.sq_store.specs.Keys.{Keys, are_keyed}
+use Rattle.sq_store.specs.Keys.{Keys, are_keyed, has_key, key_at, with_key}
 use Rattle.sq_store.specs.declared.table.Numbered.{Numbered}
 use Rattle.sq_meaning.specs.Environment.{Line, Row, outermost, within}
 use Rattle.sq_meaning.specs.Placed.{by_place}
@@ -19,7 +19,7 @@ use Rattle.sq_meaning.specs.Status.{Outcome, and_then, each, kept}
 use Rattle.sq_meaning.specs.Syntax.{expressions, present}
 use Rattle.sq_meaning.specs.Tables.{rows_in}
 use Rattle.sq_meaning.specs.Target.{clause_has_subquery, has_subquery}
-use Rattle.sq_meaning.specs.WellFormed.{Has, IsRowOf}
+use Rattle.sq_meaning.specs.WellFormed.{Has, HasValue, IsRowOf}
 use Rattle.sq_bound.specs.Condition.{Groups, PlacedSelect, cond_of, groups_if, groups_of, select_of}
 use Rattle.sq_bound.specs.Expression.{expr_of}
 use Rattle.sq_bound.specs.Fits.{keys_of_bases, not_nulls_hold}
@@ -27,12 +27,12 @@ use Rattle.sq_bound.specs.Groups.{AreGroupsIfAny}
 use Rattle.sq_bound.specs.Noted.{IsNoted}
 use Rattle.sq_bound.specs.Numbered.{ClauseWith, IsNumbered}
 use Rattle.sq_bound.specs.SetFunction.{call_of}
-use Rattle.sq_bound.specs.WellFormed.{IsSelect, TableKinds, base_kinds}
+use Rattle.sq_bound.specs.WellFormed.{IsSelect, IsViewQuery, TableKinds, base_kinds}
 use Rattle.sq_bound.specs.declared.condition.BoundCond.{BoundCond}
 use Rattle.sq_bound.specs.declared.condition.BoundSpecification.{BoundSpecification, out-BoundSpecification}
 use Rattle.sq_bound.specs.declared.condition.Grouping.{Grouping, out-Grouping}
 use Rattle.sq_bound.specs.declared.condition.TablePlace.{TablePlace}
-use Rattle.sq_bound.specs.declared.condition.TablePlace.TheVariants.{Base}
+use Rattle.sq_bound.specs.declared.condition.TablePlace.TheVariants.{Base, View}
 use Rattle.sq_bound.specs.declared.expression.BoundExpr.{BoundExpr}
 use Rattle.sq_bound.specs.declared.names.BaseTable.{BaseTable}
 use Rattle.sq_bound.proofs.ConditionLaws.{groups_of-out}
@@ -51,15 +51,21 @@ use Rattle.sq_expression.proofs.Views.{handed_on_as}
 use Rattle.sq_expression.specs.declared.frame.Lines.{Lines}
 use Rattle.sq_query.specs.Key.{IsKeyOn, StandsOn}
 use Rattle.sq_query.specs.Needed.{ReadsCond, ReadsSelect, clause_tables, cond_tables, inside_tables}
+use Rattle.sq_query.specs.MayRead.{MayRead}
 use Rattle.sq_query.specs.OnRow.{StandsOnRow}
 use Rattle.sq_query.specs.Row.{outside, truth_on_row}
-use Rattle.sq_query.specs.Search.{IsOver, IsWhere}
-use Rattle.sq_query.specs.SingleRow.{HasPlainHaving, line_if, lines_left, listed_by}
+use Rattle.sq_query.specs.Search.{IsOver, IsReadable, IsWhere}
+use Rattle.sq_query.specs.SingleRow.{HasPlainHaving, IsSingleRow, line_if, lines_left, listed_by}
 use Rattle.sq_query.specs.declared.key.KnownKey.{KnownKey}
-use Rattle.sq_query.proofs.Keys.Searched.{found_row, groups_in, line_on, lines_kept, lines_on, test_on, tree_of}
+use Rattle.sq_query.specs.declared.single_row.SingleRow.{SingleRow}
+use Rattle.sq_query.proofs.Keys.KeyNames.{element_at}
+use Rattle.sq_query.proofs.Keys.OnlyOne.{found_is}
+use Rattle.sq_query.proofs.Keys.Searched.{all_stored, found_row, groups_in, line_on, lines_kept, lines_on, only_read, test_on, tree_of, where_stands}
 use Rattle.sq_query.proofs.Needs.AnyTables.{clause_over, listed_over, scopes_over}
+use Rattle.sq_query.proofs.Needs.KindsOfTables.{KindsAreOf}
 use Rattle.sq_query.proofs.Needs.NoSubquery.{cond_plain, none_of_both}
 use Rattle.sq_query.proofs.Needs.SameTables.{over_rows, shown_of}
+use Rattle.sq_query.proofs.Targets.KnownConditions.{rows_fit}
 
 -- ---- the rows for the lines
 
@@ -121,7 +127,7 @@ listed_for lines left next r is h = subst (HasRows r) (sym (ap (λ (o : Outcome 
 -- ---- WHERE on the row
 
 -- the WHERE clause of a well-formed query specification stands on a row of its only table
-pub where_on_row : (columns : TableKinds) (parameters : List Kind) (q : BoundSpecification) (place : ℕ) (own : BoundCond) (row : Row) → IsWhere q own → IsSelect columns parameters [] q → StandsOn columns parameters (Base place) own
+where_on_row : (columns : TableKinds) (parameters : List Kind) (q : BoundSpecification) (place : ℕ) (own : BoundCond) (row : Row) → IsWhere q own → IsSelect columns parameters [] q → StandsOn columns parameters (Base place) own
     → Has (λ kinds. IsRowOf kinds row) (columns (Base place)) → StandsOnRow columns parameters row own
 where_on_row columns parameters q place own row is_where well stands fits = record {
   place = place;
@@ -144,7 +150,7 @@ where_on_row columns parameters q place own row is_where well stands fits = reco
 }
 
 -- its groups are noted as they are
-pub groups_noted : (columns : TableKinds) (parameters : List Kind) (q : BoundSpecification) → IsSelect columns parameters [] q → AreGroupsIfAny (out-BoundSpecification q).list (out-BoundSpecification q).grouping
+groups_noted : (columns : TableKinds) (parameters : List Kind) (q : BoundSpecification) → IsSelect columns parameters [] q → AreGroupsIfAny (out-BoundSpecification q).list (out-BoundSpecification q).grouping
 groups_noted columns parameters q well = (select_itself IsNoted q well.notes).groups
 
 -- it reads what the query specification reads
@@ -174,11 +180,58 @@ module _ (tables : TablePlace → Outcome (List Row)) (columns : TableKinds) (pa
       ∙ lines_kept tables columns parameters values caller given bases content keys place b own known k at kinds_are stands keys_are nulls rows_are keyed
       ∙ ap (λ (p : Option Numbered). kept test (map line_on (option_to_list p))) is
 
-  pub one_line : (r : Numbered) → found_there ≡ Some r → lines_left tables own values caller (rows_in (table_at content place)) ≡ and_then (is_true (truth_on_row tables values caller r.row own)) (line_if r.row)
+  one_line : (r : Numbered) → found_there ≡ Some r → lines_left tables own values caller (rows_in (table_at content place)) ≡ and_then (is_true (truth_on_row tables values caller r.row own)) (line_if r.row)
   one_line r is = lines_found (Some r) is
 
-  pub no_lines : found_there ≡ None → lines_left tables own values caller (rows_in (table_at content place)) ≡ Ok []
+  no_lines : found_there ≡ None → lines_left tables own values caller (rows_in (table_at content place)) ≡ Ok []
   no_lines is = lines_found None is
+
+-- ---- the query specification that names the row
+
+module _ (bases : List BaseTable) (views : List BoundSpecification) (columns : TableKinds) (content : Content) (keys : List Keys) (call : Context) (kinds_of_bases : KindsAreOf columns bases)
+    (kinds_of_views : (place : ℕ) (kinds : List Kind) → columns (View place) ≡ Ok kinds → IsViewQuery columns views place kinds) (keyed : are_keyed keys content ≡ true)
+    (q : BoundSpecification) (readable : IsReadable bases columns content keys q) (single : SingleRow) (s : IsSingleRow q content keys call.parameters.now call.user single)
+    (parameters : List Kind) (tables : TablePlace → Outcome (List Row)) (may : MayRead bases views columns content call.user call.parameters.now parameters tables) (well : IsSelect columns parameters [] q) where
+  abbrev place : ℕ
+  place = single.base
+
+  abbrev own : BoundCond
+  own = single.condition.now
+
+  abbrev left : Outcome (List Line)
+  left = lines_left tables own call.parameters.now call.user (rows_in (table_at content place))
+
+  table : (b : BaseTable) × (slice_get bases place ≡ Some b)
+  table = element_at bases place (readable.finds.0 place (only_read (λ t. HasValue (columns t)) q (Base place) s.over readable.finds.1))
+
+  kinds : columns (Base place) ≡ Ok (base_kinds table.0)
+  kinds = kinds_of_bases place table.0 table.1
+
+  stands : StandsOn columns parameters (Base place) own
+  stands = where_stands columns parameters q (Base place) own s.over s.is_where well
+
+  rows_are : AllByRecursion (λ (r : Numbered). IsRowOf (base_kinds table.0) r.row) (table_at content place).rows
+  rows_are = rows_fit bases views columns content call.user call.parameters.now kinds_of_bases kinds_of_views parameters tables may place s.key.table (base_kinds table.0) kinds
+
+  abbrev found : Option Numbered
+  found = with_key (table_at content place) (key_at keys place single.key.key) single.key.values
+
+  pub stands_on_found : (r : Numbered) → found ≡ Some r → StandsOnRow columns parameters r.row own
+  stands_on_found r is =
+      where_on_row columns parameters q place own r.row s.is_where well stands
+      (subst (Has (λ ks. IsRowOf ks r.row)) (sym kinds) (found_is (λ (n : Numbered). IsRowOf (base_kinds table.0) n.row) (has_key (key_at keys place single.key.key) single.key.values) (table_at content place).rows r rows_are is))
+
+  pub line_of_found : (r : Numbered) → found ≡ Some r → left ≡ and_then (is_true (truth_on_row tables call.parameters.now call.user r.row own)) (line_if r.row)
+  line_of_found = one_line tables columns parameters call.parameters.now call.user may.inputs bases content keys place table.0 own single.key s.key table.1 kinds stands readable.keys readable.not_null rows_are keyed
+
+  pub none_found : found ≡ None → left ≡ Ok []
+  none_found = no_lines tables columns parameters call.parameters.now call.user may.inputs bases content keys place table.0 own single.key s.key table.1 kinds stands readable.keys readable.not_null rows_are keyed
+
+  pub rows_of_left : rows (by_place tables) (select_of q) (outermost (inputs_of call.parameters.now) call.user) ≡ and_then left (listed_by (out-BoundSpecification q).distinct (out-BoundSpecification q).list (out-BoundSpecification q).grouping call)
+  rows_of_left =
+      rows_listed tables call q (Base place) own s.over s.is_where (rows_in (table_at content place))
+      (all_stored tables columns parameters call.parameters.now call.user may.inputs bases content keys place table.0 own single.key s.key table.1 kinds stands readable.keys readable.not_null rows_are keyed may.meant.bases)
+      s.plain_having (groups_noted columns parameters q well)
 
 -- where the lines end with a status, so do the rows
 failed : (e : Fault) (left : Outcome (List Line)) (next : List Line → Outcome (List Row)) → MeetsAs {A = Lines} lines_in (Err e) left → Meets {A = List Row} (Err e) (and_then left next)
