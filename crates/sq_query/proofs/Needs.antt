@@ -9,6 +9,7 @@ pub mod KindsOfTables
 pub mod KnownQueries
 pub mod MeantTables
 pub mod NeededViews
+pub mod NoSubquery
 pub mod ReadAs
 pub mod ReadRows
 pub mod ReadTables

@@ -13,6 +13,8 @@ use crate::lookup::Lookup;
 use crate::named::Sure;
 use crate::named_exprs::{Seen, is_one_row};
 use crate::needed::Needed;
+use crate::search::over_base;
+use crate::single_row::has_query_in_having;
 use crate::way::{How, KeyPlace, Way};
 use sq_bound::{
     BaseTable, BoundCond, BoundConj, BoundQuery, BoundSpecification, BoundTerm, Names, Predicate,
@@ -138,7 +140,7 @@ fn how_of_row(
     }
 }
 
-/// Adds the ways of the subqueries of a condition on the rows of a target. They are read by keys if one row at most is.
+/// Adds the ways of the subqueries of a condition on the rows of a base table. They are read by keys if one row at most is.
 fn add_on_row<N: Names>(
     alloc: Global,
     names: &N,
@@ -194,6 +196,46 @@ fn add_of_query_term<N: Names>(
 
 /// Adds the ways of a query specification outside every query.
 fn add_of_outermost<N: Names>(
+    alloc: Global,
+    names: &N,
+    query: &BoundSpecification,
+    ways: &mut Vec<Way>,
+) -> Result<(), AllocError>
+    requires { FindsSelect (N.base_tables names.now) (N.column_kinds names.now) query.now }
+{
+    let Some((base, condition)) = over_base(query) else {
+        return add_over_tables(alloc, names, query, ways);
+    };
+    let how = how_of_single(alloc, names, query, base, condition)?;
+    let How::Key(_) = how else {
+        return add_over_tables(alloc, names, query, ways);
+    };
+    ways.push(Way {
+        table: TablePlace::Base(base),
+        how,
+    })?;
+    add_on_row(alloc, names, condition, how, ways)
+}
+
+/// How the row of a base table is found that the WHERE clause of a query specification over it names by a key (`single_row`).
+fn how_of_single<N: Names>(
+    alloc: Global,
+    names: &N,
+    query: &BoundSpecification,
+    base: usize,
+    condition: &BoundCond,
+) -> Result<How, AllocError> {
+    let Some(table) = names.bases().get(base) else {
+        return Ok(How::Whole);
+    };
+    if has_query_in_having(alloc, query)? {
+        return Ok(How::Whole);
+    }
+    how_of_row(alloc, table.get(), base, condition, &[Lookup::Key])
+}
+
+/// Adds the ways of a query specification outside every query from the rows of the tables that it reads.
+fn add_over_tables<N: Names>(
     alloc: Global,
     names: &N,
     query: &BoundSpecification,

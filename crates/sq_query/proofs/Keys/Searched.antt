@@ -1,4 +1,4 @@
--- A query specification whose WHERE clause names a row of its only base table by a key has the rows that it has over that row alone.
+-- Where a query specification is over one table, of which WHERE keeps the same among some of its rows, it has the rows that it has over those alone.
 use Rattle.std.proofs.Common.{◌≡◌, ◌∙◌, ℕ, Bool, true, false, List, [], ◌∷◌, Option, Some, None, Result, cond, find, map, slice_get, refl, sym, ap, subst, Ok, Err}
 use Rattle.std.specs.Prelude.{IfOk, if◌then◌else◌, nat_eq, option_to_list}
 use Rattle.std.specs.List.{AllByRecursion}
@@ -44,13 +44,12 @@ use Rattle.sq_query.specs.Key.{IsKeyOn, StandsOn}
 use Rattle.sq_query.specs.Keyed.{IsKeyedBy, IsKeyedSelect}
 use Rattle.sq_query.specs.Needed.{IsNeeded, ReadsInside, ReadsSelect}
 use Rattle.sq_query.specs.Row.{outside}
-use Rattle.sq_query.specs.Search.{AreBeside, IsOver, IsOverBase, IsReadByKey, IsReadFor, IsReadWith, IsWhere, rows_by_key, with_rows}
+use Rattle.sq_query.specs.Search.{AreBeside, IsOver, IsOverBase, IsReadFor, IsReadWith, IsWhere, with_rows}
 use Rattle.sq_query.specs.Table.{AreOfStore, ReadsAsMeant, rows_among, rows_read}
 use Rattle.sq_query.specs.Target.{is_true_of}
 use Rattle.sq_query.specs.Union.{AreFitting}
 use Rattle.sq_query.specs.declared.key.KnownKey.{KnownKey}
 use Rattle.sq_query.specs.declared.needed.Needed.{Needed}
-use Rattle.sq_query.specs.declared.search.Search.{Search}
 use Rattle.sq_query.specs.declared.view.Tables.{Tables}
 use Rattle.sq_query.proofs.Keys.KeySearch.{decided, rows_kept}
 use Rattle.sq_query.proofs.Needs.NeededViews.{inside_weaker}
@@ -159,22 +158,8 @@ module _ (tables : TablePlace → Outcome (List Row)) (columns : TableKinds) (pa
       (rows_kept tables columns parameters values caller given bases content keys place b own known k at kinds_are stands keys_are nulls rows_are keyed ∙ sym (only_kept row_test has_it found_row))
       ∙ sym (kept_map line_on test_on (option_to_list found_row))
 
-  -- the found row is of the kinds of the table's columns
-  pub found_fits : AreRowsOf (base_kinds b) (rows_by_key content keys place known)
-  found_fits = by found_row refl
-    where
-      by : (o : Option Numbered) → found_row ≡ o → AreRowsOf (base_kinds b) (map (λ (r : Numbered). r.row) (option_to_list o))
-      by None e = tt
-      by (Some r) e = (found_is (λ (s : Numbered). IsRowOf (base_kinds b) s.row) has_it all_rows r rows_are e, tt)
-
   pub all_stored : AreOfStore content tables → tables (Base place) ≡ Ok (rows_in (table_at content place))
   all_stored stored = stored place ∙ ap (λ (o : Outcome Table). and_then o (λ t. Ok (rows_in t))) (there_within content place k.table)
-
-  pub same_by_key : (q : BoundSpecification) (few : TablePlace → Outcome (List Row)) → IsOverBase q place → IsWhere q own → AreOfStore content tables → few (Base place) ≡ Ok (rows_by_key content keys place known)
-      → ReadsInside (λ t. tables t ≡ few t) (select_of q) → rows (by_place tables) (select_of q) (outermost (inputs_of values) caller) ≡ rows (by_place few) (select_of q) (outermost (inputs_of values) caller)
-  same_by_key q few over is_where stored some others =
-      same_over_few tables few q (Base place) own over is_where values caller others (rows_in (table_at content place)) (rows_by_key content keys place known) (all_stored stored) some
-      (ap (kept test_on) (lines_on all_rows) ∙ lines_kept ∙ sym (ap (kept test_on) (lines_on (option_to_list found_row))))
 
 -- ---- tables of which one has other rows
 
@@ -217,30 +202,10 @@ module _ (own : Outcome (List Row)) (tables : TablePlace → Outcome (List Row))
 -- ---- what was read
 
 -- a base table that stands before the others is found first
-module _ (own : BaseRows) (bases : List BaseRows) (views : List ViewRows) (place : ℕ) (found : List Row) (at : own.place ≡ place) (are : lent own.rows.items ≡ found) where
-  pub own_first : rows_among (own ∷ bases) views (Base place) ≡ Ok found
-  own_first =
-      ap (λ (b : Bool). and_then (well_formed (cond b (Some own) (find (λ t. nat_eq t.place place) bases))) (λ t. Ok (lent t.rows.items))) (eq-eqb own.place place at)
-      ∙ ap (λ (rs : List Row). let is : Outcome (List Row) = Ok rs in is) are
-
-  others_behind : (tables : TablePlace → Outcome (List Row)) (t : TablePlace) → rows_among bases views t ≡ tables t → rows_among (own ∷ bases) views t ≡ with_rows (Base place) (Ok found) tables t
-  others_behind tables (View n) h = h
-  others_behind tables (Base n) h =
-      ap (λ (p : ℕ). and_then (well_formed (cond (nat_eq p n) (Some own) (find (λ t. nat_eq t.place n) bases))) (λ t. Ok (lent t.rows.items))) at ∙ by (nat_eq place n)
-    where
-      by : (b : Bool) → and_then (well_formed (cond b (Some own) (find (λ t. nat_eq t.place n) bases))) (λ t. Ok (lent t.rows.items)) ≡ (if b then Ok found else tables (Base n))
-      by true = ap (λ (rs : List Row). let is : Outcome (List Row) = Ok rs in is) are
-      by false = h
-
-pub read_by_key : (content : Content) (keys : List Keys) (search : Search) (tables : TablePlace → Outcome (List Row)) (own : BaseRows) (read : Tables) (r : Result Tables Fault) → own.place ≡ search.base
-    → lent own.rows.items ≡ rows_by_key content keys search.base search.key → ReadsAsMeant search.others (rows_read read) tables → IfOk r (λ all. all.bases.items ≡ own ∷ read.bases.items) → IfOk r (λ all. all.views.items ≡ read.views.items)
-    → IfOk r (IsReadByKey content keys search tables)
-read_by_key content keys search tables own read (Err e) at are as_meant bases views = tt
-read_by_key content keys search tables own read (Ok all) at are as_meant bases views =
-    let found = rows_by_key content keys search.base search.key in record {
-      own_is = (λ i. rows_among (bases i) (views i) (Base search.base)) ∙ own_first own read.bases.items read.views.items search.base found at are;
-      others_are = λ t here. (λ i. rows_among (bases i) (views i) t) ∙ others_behind own read.bases.items read.views.items search.base found at are tables t (as_meant t here);
-    }
+pub own_first : (own : BaseRows) (bases : List BaseRows) (views : List ViewRows) (place : ℕ) (found : List Row) → own.place ≡ place → lent own.rows.items ≡ found → rows_among (own ∷ bases) views (Base place) ≡ Ok found
+own_first own bases views place found at are =
+    ap (λ (b : Bool). and_then (well_formed (cond b (Some own) (find (λ t. nat_eq t.place place) bases))) (λ t. Ok (lent t.rows.items))) (eq-eqb own.place place at)
+    ∙ ap (λ (rs : List Row). let is : Outcome (List Row) = Ok rs in is) are
 
 -- a view that stands before the others is found, and they are behind it
 module _ (own : ViewRows) (bases : List BaseRows) (views : List ViewRows) (place : ℕ) (found : Outcome (List Row)) (at : own.place ≡ place) (are : view_outcome own.rows.items own.failure ≡ found) where

@@ -1,5 +1,5 @@
--- A query specification without HAVING whose WHERE clause names a row of its only base table by a key: its rows are those for that row, if WHERE is true of it, whatever tables its subqueries read.
-use Rattle.std.proofs.Common.{◌≡◌, ◌∙◌, ℕ, Bool, true, List, [], ◌∷◌, Option, Some, None, Result, map, slice_get, refl, sym, ap, subst, Ok, Err}
+-- A query specification whose WHERE clause names a row of its only base table by a key: its rows are those for that row, if WHERE is true of it, whatever tables its subqueries read. HAVING has none.
+use Rattle.std.proofs.Common.{◌≡◌, ◌∙◌, ℕ, Bool, true, false, List, [], ◌∷◌, Option, Some, None, Result, map, slice_get, refl, sym, ap, subst, Ok, Err}
 use Rattle.std.specs.Prelude.{IsErrAnd, Vec, if◌then◌else◌, option_to_list}
 use Rattle.std.specs.Option.{option_map}
 use Rattle.std.specs.List.{AllByRecursion}
@@ -9,66 +9,70 @@ use Rattle.sq_lex.specs.declared.name.Name.{Name}
 use Rattle.sq_value.specs.declared.domain.Kind.{Kind}
 use Rattle.sq_value.specs.declared.value.Value.{Value}
 use Rattle.sq_store.specs.Content.{Content, table_at}
-use Rattle.sq_store.specs.Keys.{Keys, are_keyed}
+use Rattle.sq_store.specs.Keys.{Keys, are_keyed, has_key, key_at, with_key}
 use Rattle.sq_store.specs.declared.table.Numbered.{Numbered}
 use Rattle.sq_meaning.specs.Environment.{Line, Row, outermost, within}
 use Rattle.sq_meaning.specs.Placed.{by_place}
-use Rattle.sq_meaning.specs.Query.{clause_truth, is_true, rows, truth}
+use Rattle.sq_meaning.specs.Query.{is_true, rows, truth}
 use Rattle.sq_meaning.specs.Rows.{firsts, product, same_row}
 use Rattle.sq_meaning.specs.Status.{Outcome, and_then, each, kept}
-use Rattle.sq_meaning.specs.Syntax.{absent, expressions, literal, present}
+use Rattle.sq_meaning.specs.Syntax.{expressions, present}
 use Rattle.sq_meaning.specs.Tables.{rows_in}
-use Rattle.sq_meaning.specs.WellFormed.{Has, IsRowOf}
-use Rattle.sq_meaning.proofs.OutcomeLaws.{kept_all}
-use Rattle.sq_bound.specs.Condition.{Groups, PlacedSelect, clause_of, cond_of, groups_if, groups_of, select_of}
+use Rattle.sq_meaning.specs.Target.{clause_has_subquery, has_subquery}
+use Rattle.sq_meaning.specs.WellFormed.{Has, HasValue, IsRowOf}
+use Rattle.sq_bound.specs.Condition.{Groups, PlacedSelect, cond_of, groups_if, groups_of, select_of}
 use Rattle.sq_bound.specs.Expression.{expr_of}
 use Rattle.sq_bound.specs.Fits.{keys_of_bases, not_nulls_hold}
 use Rattle.sq_bound.specs.Groups.{AreGroupsIfAny}
 use Rattle.sq_bound.specs.Noted.{IsNoted}
 use Rattle.sq_bound.specs.Numbered.{ClauseWith, IsNumbered}
 use Rattle.sq_bound.specs.SetFunction.{call_of}
-use Rattle.sq_bound.specs.WellFormed.{IsSelect, TableKinds, base_kinds}
+use Rattle.sq_bound.specs.WellFormed.{IsSelect, IsViewQuery, TableKinds, base_kinds}
 use Rattle.sq_bound.specs.declared.condition.BoundCond.{BoundCond}
 use Rattle.sq_bound.specs.declared.condition.BoundSpecification.{BoundSpecification, out-BoundSpecification}
 use Rattle.sq_bound.specs.declared.condition.Grouping.{Grouping, out-Grouping}
 use Rattle.sq_bound.specs.declared.condition.TablePlace.{TablePlace}
-use Rattle.sq_bound.specs.declared.condition.TablePlace.TheVariants.{Base}
+use Rattle.sq_bound.specs.declared.condition.TablePlace.TheVariants.{Base, View}
 use Rattle.sq_bound.specs.declared.expression.BoundExpr.{BoundExpr}
 use Rattle.sq_bound.specs.declared.names.BaseTable.{BaseTable}
 use Rattle.sq_bound.proofs.ConditionLaws.{groups_of-out}
 use Rattle.sq_bound.proofs.Nested.{select_held, select_itself}
-use Rattle.sq_condition.specs.Specification.{as_line, is_shown}
+use Rattle.sq_condition.specs.Specification.{as_line}
 use Rattle.sq_condition.proofs.Grouped.{groups_from_lines}
 use Rattle.sq_condition.proofs.Lone.{clause_alone}
 use Rattle.sq_condition.proofs.Phases.{from_lines, lines_shown}
 use Rattle.sq_expression.specs.Fault.{HasRows, Meets, MeetsAs, rows_in as list_of_rows}
-use Rattle.sq_expression.specs.Frame.{inputs_of, reading, table_rows}
-use Rattle.sq_expression.specs.Group.{seen_of_groups}
-use Rattle.sq_expression.specs.Lines.{line_env, lines_in}
-use Rattle.sq_expression.specs.Select.{row_seen, rows_left}
+use Rattle.sq_expression.specs.Frame.{inputs_of, table_rows}
+use Rattle.sq_expression.specs.Lines.{lines_in}
 use Rattle.sq_expression.specs.declared.context.Context.{Context}
 use Rattle.sq_expression.specs.declared.fault.Fault.{Fault}
 use Rattle.sq_expression.specs.declared.fault.Fault.TheVariants as fault
 use Rattle.sq_expression.proofs.Views.{handed_on_as}
 use Rattle.sq_expression.specs.declared.frame.Lines.{Lines}
 use Rattle.sq_query.specs.Key.{IsKeyOn, StandsOn}
-use Rattle.sq_query.specs.Needed.{ReadsClause, ReadsCond, ReadsSelect}
+use Rattle.sq_query.specs.Needed.{ReadsCond, ReadsSelect, clause_tables, cond_tables, inside_tables}
+use Rattle.sq_query.specs.MayRead.{MayRead}
 use Rattle.sq_query.specs.OnRow.{StandsOnRow}
 use Rattle.sq_query.specs.Row.{outside, truth_on_row}
-use Rattle.sq_query.specs.Search.{IsOver, IsWhere}
-use Rattle.sq_query.specs.SingleRow.{HasNoHaving, line_if, lines_left, listed_by}
+use Rattle.sq_query.specs.Search.{IsOver, IsReadable, IsWhere}
+use Rattle.sq_query.specs.SingleRow.{HasPlainHaving, IsSingleRow, line_if, lines_left, listed_by}
 use Rattle.sq_query.specs.declared.key.KnownKey.{KnownKey}
-use Rattle.sq_query.proofs.Keys.Searched.{found_row, groups_in, line_on, lines_kept, lines_on, test_on, tree_of}
-use Rattle.sq_query.proofs.Needs.AnyTables.{listed_over, scopes_over}
-use Rattle.sq_query.proofs.Needs.SameTables.{over_rows, same_clause, shown_of}
+use Rattle.sq_query.specs.declared.single_row.SingleRow.{SingleRow}
+use Rattle.sq_query.proofs.Keys.KeyNames.{element_at}
+use Rattle.sq_query.proofs.Keys.OnlyOne.{found_is}
+use Rattle.sq_query.proofs.Keys.Searched.{all_stored, found_row, groups_in, line_on, lines_kept, lines_on, only_read, test_on, tree_of, where_stands}
+use Rattle.sq_query.proofs.Needs.AnyTables.{clause_over, listed_over, scopes_over}
+use Rattle.sq_query.proofs.Needs.KindsOfTables.{KindsAreOf}
+use Rattle.sq_query.proofs.Needs.NoSubquery.{cond_plain, none_of_both}
+use Rattle.sq_query.proofs.Needs.SameTables.{over_rows, shown_of}
+use Rattle.sq_query.proofs.Targets.KnownConditions.{rows_fit}
 
 -- ---- the rows for the lines
 
--- without HAVING the clause of the groups is absent
-having_absent : (h : Option Grouping) → HasNoHaving h → (groups_if (option_map groups_of h)).having ≡ absent
-having_absent None lacks = refl
-having_absent (Some g) lacks =
-    ap (λ (gs : Groups). gs.having) (groups_of-out g) ∙ ap (clause_of (map call_of (out-Grouping g).set_functions)) lacks
+-- the clause of the groups has no subquery
+having_plain : (h : Option Grouping) → HasPlainHaving h → clause_has_subquery (groups_if (option_map groups_of h)).having ≡ false
+having_plain None plain = refl
+having_plain (Some g) plain = ap (λ (gs : Groups). clause_has_subquery gs.having) (groups_of-out g) ∙ plain (map call_of (out-Grouping g).set_functions)
 
 module _ (context : Context) (distinct : Bool) (list : List BoundExpr) where
   -- what goes on from the lines, for groups if there are any
@@ -77,21 +81,11 @@ module _ (context : Context) (distinct : Bool) (list : List BoundExpr) where
       let gs = groups_if (option_map groups_of h) in
       from_lines None context distinct (map (expr_of gs.functions) list) gs.columns gs.having (tt ∷ [])
 
-  abbrev last_of : Grouping → List (Line × List Value) → Outcome (List Row)
-  last_of g left = and_then (each (row_seen list None context) left) (λ rows. Ok (rows_left distinct rows))
-
-  -- every group is shown
-  all_shown : (g : Grouping) → HasNoHaving (Some g) → (groups : List (Line × List Value)) → kept (is_shown g None context) groups ≡ Ok groups
-  all_shown g lacks groups =
-      (λ i. kept (λ group. is_true (clause_truth (reading context) (clause_of (map literal group.1) (lacks i)) (line_env group.0 None context))) groups)
-      ∙ kept_all groups
-
-  pub listed_is : (h : Option Grouping) → HasNoHaving h → AreGroupsIfAny list h → (lines : List Line) → next_by h lines ≡ listed_by distinct list h context lines
-  listed_is None lacks fits lines = lines_shown None context distinct list (tt ∷ []) lines
-  listed_is (Some g) lacks fits lines =
+  pub listed_is : (h : Option Grouping) → AreGroupsIfAny list h → (lines : List Line) → next_by h lines ≡ listed_by distinct list h context lines
+  listed_is None fits lines = lines_shown None context distinct list (tt ∷ []) lines
+  listed_is (Some g) fits lines =
       ap (λ (gs : Groups). from_lines None context distinct (map (expr_of gs.functions) list) gs.columns gs.having (tt ∷ []) lines) (groups_of-out g)
       ∙ groups_from_lines None context distinct list g fits (tt ∷ []) lines
-      ∙ (λ i. and_then (seen_of_groups (out-Grouping g).columns (map call_of (out-Grouping g).set_functions) None context lines) (λ groups. and_then (all_shown g lacks groups i) (last_of g)))
 
 -- ---- over one table
 
@@ -99,9 +93,9 @@ module _ (tables : TablePlace → Outcome (List Row)) (context : Context) (q : B
   abbrev values : List Value
   values = context.parameters.now
 
-  rows_on : (all : List Row) → tables t ≡ Ok all → ReadsClause (λ u. tables u ≡ table_rows context u) (groups_in q).having
+  rows_on : (all : List Row) → tables t ≡ Ok all → clause_has_subquery (groups_in q).having ≡ false
       → rows (by_place tables) (select_of q) (outermost (inputs_of values) context.user) ≡ and_then (lines_left tables own values context.user all) (next_by context (out-BoundSpecification q).distinct (out-BoundSpecification q).list (out-BoundSpecification q).grouping)
-  rows_on all whole same =
+  rows_on all whole plain =
       let env = outermost (inputs_of values) context.user in
       let gs = groups_in q in
       let es = expressions (map (expr_of gs.functions) (out-BoundSpecification q).list) in
@@ -114,15 +108,15 @@ module _ (tables : TablePlace → Outcome (List Row)) (context : Context) (q : B
       ((λ i. kept (λ line. is_true (clause_alone tables (tt ∷ []) line env (Some own) i)) (product (all ∷ []))) ∙ ap (kept (λ line. is_true (truth (by_place tables) (cond_of [] own) (outside line values context.user)))) (flat_map_single as_line all))
       ∙ (λ i. and_then lines
       (λ left. and_then (scopes_over tables g es gs.columns gs.having (tt ∷ []) left env i)
-      (λ scopes. and_then (kept (λ scope. is_true (same_clause tables g gs.having same (within scope env) i)) scopes)
+      (λ scopes. and_then (kept (λ scope. is_true (clause_over tables g gs.having (within scope env) plain i)) scopes)
       (λ left. and_then (each (λ scope. listed_over tables g es (within scope env) i) left)
       (λ shown. Ok (if (out-BoundSpecification q).distinct then firsts same_row shown else shown))))))
 
-  pub rows_listed : (all : List Row) → tables t ≡ Ok all → HasNoHaving (out-BoundSpecification q).grouping → AreGroupsIfAny (out-BoundSpecification q).list (out-BoundSpecification q).grouping
+  pub rows_listed : (all : List Row) → tables t ≡ Ok all → HasPlainHaving (out-BoundSpecification q).grouping → AreGroupsIfAny (out-BoundSpecification q).list (out-BoundSpecification q).grouping
       → rows (by_place tables) (select_of q) (outermost (inputs_of values) context.user) ≡ and_then (lines_left tables own values context.user all) (listed_by (out-BoundSpecification q).distinct (out-BoundSpecification q).list (out-BoundSpecification q).grouping context)
-  rows_listed all whole lacks fits =
-      rows_on all whole (subst (ReadsClause (λ u. tables u ≡ table_rows context u)) (sym (having_absent (out-BoundSpecification q).grouping lacks)) tt)
-      ∙ (λ i. and_then (lines_left tables own values context.user all) (λ lines. listed_is context (out-BoundSpecification q).distinct (out-BoundSpecification q).list (out-BoundSpecification q).grouping lacks fits lines i))
+  rows_listed all whole plain fits =
+      rows_on all whole (having_plain (out-BoundSpecification q).grouping plain)
+      ∙ (λ i. and_then (lines_left tables own values context.user all) (λ lines. listed_is context (out-BoundSpecification q).distinct (out-BoundSpecification q).list (out-BoundSpecification q).grouping fits lines i))
 
 -- ---- the answer
 
@@ -133,7 +127,7 @@ listed_for lines left next r is h = subst (HasRows r) (sym (ap (λ (o : Outcome 
 -- ---- WHERE on the row
 
 -- the WHERE clause of a well-formed query specification stands on a row of its only table
-pub where_on_row : (columns : TableKinds) (parameters : List Kind) (q : BoundSpecification) (place : ℕ) (own : BoundCond) (row : Row) → IsWhere q own → IsSelect columns parameters [] q → StandsOn columns parameters (Base place) own
+where_on_row : (columns : TableKinds) (parameters : List Kind) (q : BoundSpecification) (place : ℕ) (own : BoundCond) (row : Row) → IsWhere q own → IsSelect columns parameters [] q → StandsOn columns parameters (Base place) own
     → Has (λ kinds. IsRowOf kinds row) (columns (Base place)) → StandsOnRow columns parameters row own
 where_on_row columns parameters q place own row is_where well stands fits = record {
   place = place;
@@ -156,12 +150,17 @@ where_on_row columns parameters q place own row is_where well stands fits = reco
 }
 
 -- its groups are noted as they are
-pub groups_noted : (columns : TableKinds) (parameters : List Kind) (q : BoundSpecification) → IsSelect columns parameters [] q → AreGroupsIfAny (out-BoundSpecification q).list (out-BoundSpecification q).grouping
+groups_noted : (columns : TableKinds) (parameters : List Kind) (q : BoundSpecification) → IsSelect columns parameters [] q → AreGroupsIfAny (out-BoundSpecification q).list (out-BoundSpecification q).grouping
 groups_noted columns parameters q well = (select_itself IsNoted q well.notes).groups
 
 -- it reads what the query specification reads
 pub where_read : (P : TablePlace → Type 0) (q : BoundSpecification) (t : TablePlace) (own : BoundCond) → IsOver q t → IsWhere q own → ReadsSelect P (select_of q) → ReadsCond P (cond_of [] own)
 where_read P q t own over is_where reads = (subst (ReadsSelect P) (tree_of q t own over is_where) reads).1
+
+-- where no subquery of a query specification reads a table, its WHERE clause has none
+pub where_plain : (q : BoundSpecification) (t : TablePlace) (own : BoundCond) → IsOver q t → IsWhere q own → inside_tables (select_of q) ≡ [] → has_subquery (cond_of [] own) ≡ false
+where_plain q t own over is_where none =
+    cond_plain [] own (none_of_both (cond_tables (cond_of [] own)) (clause_tables (groups_in q).having) (sym (ap inside_tables (tree_of q t own over is_where)) ∙ none)).0
 
 -- ---- the lines of the found row
 
@@ -181,11 +180,58 @@ module _ (tables : TablePlace → Outcome (List Row)) (columns : TableKinds) (pa
       ∙ lines_kept tables columns parameters values caller given bases content keys place b own known k at kinds_are stands keys_are nulls rows_are keyed
       ∙ ap (λ (p : Option Numbered). kept test (map line_on (option_to_list p))) is
 
-  pub one_line : (r : Numbered) → found_there ≡ Some r → lines_left tables own values caller (rows_in (table_at content place)) ≡ and_then (is_true (truth_on_row tables values caller r.row own)) (line_if r.row)
+  one_line : (r : Numbered) → found_there ≡ Some r → lines_left tables own values caller (rows_in (table_at content place)) ≡ and_then (is_true (truth_on_row tables values caller r.row own)) (line_if r.row)
   one_line r is = lines_found (Some r) is
 
-  pub no_lines : found_there ≡ None → lines_left tables own values caller (rows_in (table_at content place)) ≡ Ok []
+  no_lines : found_there ≡ None → lines_left tables own values caller (rows_in (table_at content place)) ≡ Ok []
   no_lines is = lines_found None is
+
+-- ---- the query specification that names the row
+
+module _ (bases : List BaseTable) (views : List BoundSpecification) (columns : TableKinds) (content : Content) (keys : List Keys) (call : Context) (kinds_of_bases : KindsAreOf columns bases)
+    (kinds_of_views : (place : ℕ) (kinds : List Kind) → columns (View place) ≡ Ok kinds → IsViewQuery columns views place kinds) (keyed : are_keyed keys content ≡ true)
+    (q : BoundSpecification) (readable : IsReadable bases columns content keys q) (single : SingleRow) (s : IsSingleRow q content keys call.parameters.now call.user single)
+    (parameters : List Kind) (tables : TablePlace → Outcome (List Row)) (may : MayRead bases views columns content call.user call.parameters.now parameters tables) (well : IsSelect columns parameters [] q) where
+  abbrev place : ℕ
+  place = single.base
+
+  abbrev own : BoundCond
+  own = single.condition.now
+
+  abbrev left : Outcome (List Line)
+  left = lines_left tables own call.parameters.now call.user (rows_in (table_at content place))
+
+  table : (b : BaseTable) × (slice_get bases place ≡ Some b)
+  table = element_at bases place (readable.finds.0 place (only_read (λ t. HasValue (columns t)) q (Base place) s.over readable.finds.1))
+
+  kinds : columns (Base place) ≡ Ok (base_kinds table.0)
+  kinds = kinds_of_bases place table.0 table.1
+
+  stands : StandsOn columns parameters (Base place) own
+  stands = where_stands columns parameters q (Base place) own s.over s.is_where well
+
+  rows_are : AllByRecursion (λ (r : Numbered). IsRowOf (base_kinds table.0) r.row) (table_at content place).rows
+  rows_are = rows_fit bases views columns content call.user call.parameters.now kinds_of_bases kinds_of_views parameters tables may place s.key.table (base_kinds table.0) kinds
+
+  abbrev found : Option Numbered
+  found = with_key (table_at content place) (key_at keys place single.key.key) single.key.values
+
+  pub stands_on_found : (r : Numbered) → found ≡ Some r → StandsOnRow columns parameters r.row own
+  stands_on_found r is =
+      where_on_row columns parameters q place own r.row s.is_where well stands
+      (subst (Has (λ ks. IsRowOf ks r.row)) (sym kinds) (found_is (λ (n : Numbered). IsRowOf (base_kinds table.0) n.row) (has_key (key_at keys place single.key.key) single.key.values) (table_at content place).rows r rows_are is))
+
+  pub line_of_found : (r : Numbered) → found ≡ Some r → left ≡ and_then (is_true (truth_on_row tables call.parameters.now call.user r.row own)) (line_if r.row)
+  line_of_found = one_line tables columns parameters call.parameters.now call.user may.inputs bases content keys place table.0 own single.key s.key table.1 kinds stands readable.keys readable.not_null rows_are keyed
+
+  pub none_found : found ≡ None → left ≡ Ok []
+  none_found = no_lines tables columns parameters call.parameters.now call.user may.inputs bases content keys place table.0 own single.key s.key table.1 kinds stands readable.keys readable.not_null rows_are keyed
+
+  pub rows_of_left : rows (by_place tables) (select_of q) (outermost (inputs_of call.parameters.now) call.user) ≡ and_then left (listed_by (out-BoundSpecification q).distinct (out-BoundSpecification q).list (out-BoundSpecification q).grouping call)
+  rows_of_left =
+      rows_listed tables call q (Base place) own s.over s.is_where (rows_in (table_at content place))
+      (all_stored tables columns parameters call.parameters.now call.user may.inputs bases content keys place table.0 own single.key s.key table.1 kinds stands readable.keys readable.not_null rows_are keyed may.meant.bases)
+      s.plain_having (groups_noted columns parameters q well)
 
 -- where the lines end with a status, so do the rows
 failed : (e : Fault) (left : Outcome (List Line)) (next : List Line → Outcome (List Row)) → MeetsAs {A = Lines} lines_in (Err e) left → Meets {A = List Row} (Err e) (and_then left next)

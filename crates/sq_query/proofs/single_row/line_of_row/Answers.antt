@@ -1,4 +1,4 @@
--- Left open for line_of_row: its result; answered by WholeLines.
+-- Left open for line_of_row: the clause line; answered by WholeLines.
 use Rattle.std.proofs.Common.{Bool, List, [], ◌∷◌, ◌++◌, ◌∙◌, Ok, sym}
 use Rattle.std.specs.Prelude.{if◌then◌else◌}
 use Rattle.sq_meaning.specs.Environment.{Line}
@@ -8,8 +8,8 @@ use Rattle.sq_expression.proofs.WholeLines.{lines_none, whole_none}
 use Rattle.sq_query.specs.Row.{truth_on_row}
 use Rattle.sq_query.proofs.single_row.line_of_row.Goals as goal
 
-pub returns : goal.returns
-returns g c = λ parameters tables may stands.
+pub returns-clause-line : goal.returns-clause-line
+returns-clause-line g c = λ parameters tables may stands.
     let row = c.args.row.now in
     let truth = truth_on_row tables c.args.call.now.parameters.now c.args.call.now.user row c.args.condition.now in
     let none = lines_none c.new-lines.result c.new-lines.ensures.rows in
