@@ -1,5 +1,5 @@
 -- A query specification over one base table whose WHERE clause names a row by a key (ISO/IEC 9075:1992, 7.4 to 7.9; own rule).
-use Rattle.std.specs.Prelude.{◌≡◌, ⊤, Bool, if◌then◌else◌, List, [], ◌∷◌, map, Option, None, Some, Ok}
+use Rattle.std.specs.Prelude.{⊤, Bool, if◌then◌else◌, List, [], ◌∷◌, map, Option, None, Some, Ok}
 use Rattle.sq_lex.specs.declared.name.Name.{Name}
 use Rattle.sq_value.specs.declared.value.Value.{Value}
 use Rattle.sq_store.specs.Content.{Content}

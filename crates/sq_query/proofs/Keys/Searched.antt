@@ -53,7 +53,6 @@ use Rattle.sq_query.specs.declared.needed.Needed.{Needed}
 use Rattle.sq_query.specs.declared.view.Tables.{Tables}
 use Rattle.sq_query.proofs.Keys.KeySearch.{decided, rows_kept}
 use Rattle.sq_query.proofs.Needs.NeededViews.{inside_weaker}
-use Rattle.sq_query.proofs.Keys.OnlyOne.{found_is}
 use Rattle.sq_query.proofs.Needs.SameTables.{same_over, wanted_of}
 use Rattle.sq_query.proofs.Targets.WalkedRows.{there_within}
 

@@ -1,5 +1,5 @@
 -- Left open: the result, and that the loop keeps its invariant; answered by laws of sq_expression and std.
-use Rattle.std.proofs.Common.{ℕ, Bool, None, drop, length, map, ap, sym, ◌∙◌, arith}
+use Rattle.std.proofs.Common.{ℕ, None, drop, length, map, ap, sym, ◌∙◌, arith}
 use Rattle.std.proofs.lemmas.Iterator.Adapters.{YieldsList-from_vec}
 use Rattle.std.proofs.lemmas.Iterator.Consumers.{YieldsList-turn, YieldsList-end}
 use Rattle.std.proofs.lemmas.List.{length_push}
