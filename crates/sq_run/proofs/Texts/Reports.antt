@@ -132,8 +132,7 @@ module _ (texts : List SchemaText) (modules : List ModuleText) (row_numbers : �
       = base_found texts exact.accepted name.user name.name v.table
       (subst (λ ts. table_number ts (shown_name ts v).user (shown_name ts v).name ≡ Some v.table) is.tables h.0) in
       let shown : table_at s.state.tables v.table ≡ shown_table p x (table_of tables_there v)
-      = ap (λ c. table_at c v.table) (sym is.agrees.same.tables) ∙ ap (λ z. unwrap_or (option_map (table_at x.tables) z) empty) (sym place) in
-      (
+      = ap (λ c. table_at c v.table) (sym is.agrees.same.tables) ∙ ap (λ z. unwrap_or (option_map (table_at x.tables) z) empty) (sym place) in (
         h.2 ∙ ap (λ ts. table_lines (table_of ts v) (table_at s.state.tables v.table)) is.tables ∙ ap (table_lines (table_of tables_there v)) shown,
         subst (λ z. IsSession z x) (sym h.1) is,
       ))
