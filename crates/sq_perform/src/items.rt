@@ -30,7 +30,8 @@ pub(crate) fn action_of<S: Store>(
     session: &Session<S>,
     item: &ScriptItem,
 ) -> Result<Action, ItemFault>
-    ensures action { IfOk result (λ action. item_of session.now.procedures session.now.tables action ≡ item_of_script item.now) }
+    ensures action { IfOk result
+        (λ action. item_of session.now.procedures session.now.tables action ≡ item_of_script item.now) }
     ensures prepared { IfOk result (IsPrepared session.now) }
     ensures taken { IfOk result (λ _. IsTaken session.now item.now) }
     ensures refused { IfErr result (IsItemFault (item_fault session.now item.now)) }
