@@ -1,6 +1,6 @@
 //! The catalog: the tables, views and privileges that are defined, and what their names mean (ISO/IEC 9075:1992, 4.9 and 4.12).
 
-ghost use Rattle.std.specs.Prelude.{◌≡◌, ◌<◌, List, [], true, IfSome, IsSome, OnOk, is_none, length, nat_eq, nat_le};
+ghost use Rattle.std.specs.Prelude.{◌≡◌, ◌<◌, List, [], true, IfSome, IsSome, OnOk, is_none, length, nat_eq, nat_le, slice_get};
 ghost use Rattle.std.specs.Map.{keys_of};
 ghost use Rattle.std.specs.Option.{option_map};
 ghost use Rattle.sq_store.specs.Keys.{keys_of as keys_given};
@@ -204,6 +204,14 @@ impl Catalog {
         ensures { result ≡ table_number self.now.tables user name }
     {
         self.bases.get_index_of(&FullName { user, name })
+    }
+
+    /// The owner and name of the base table at this place.
+    pub fn base_name(&self, place: usize) -> Option<FullName>
+        ensures { result ≡ slice_get self.now.tables place }
+    {
+        let (name, _) = self.bases.get_index(place)?;
+        Some(*name)
     }
 
     /// The table or view of this name, and where it stands.

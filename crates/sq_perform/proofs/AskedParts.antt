@@ -56,7 +56,7 @@ asked_more s one two a b lines first second =
         shallow = shallow_joined MAX_DEPTH first.tree second.tree first.spells.shallow second.spells.shallow;
       };
       taken = All-append (IsTaken s) first.tree.items second.tree.items first.taken second.taken;
-      are_items = map-append (item_of s.procedures) a b ∙ (λ i. first.are_items i ++ second.are_items i)
+      are_items = map-append (item_of s.procedures s.tables) a b ∙ (λ i. first.are_items i ++ second.are_items i)
           ∙ sym (map-append item_of_script first.tree.items second.tree.items);
     }
 

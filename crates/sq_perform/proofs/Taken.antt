@@ -7,7 +7,7 @@ use Rattle.std.proofs.lemmas.Bool.{and_parts}
 use Rattle.std.proofs.lemmas.Option.{slice_get_read}
 use Rattle.std.specs.Cmp.Lexicographic.{pointwise, same_text}
 use Rattle.std.specs.Option.{option_map}
-use Rattle.std.specs.Prelude.{nat_eq, unwrap_or}
+use Rattle.std.specs.Prelude.{nat_eq, slice_get, unwrap_or}
 use Rattle.sq_lex.specs.declared.lexeme.Lexeme.TheVariants as lexeme
 use Rattle.sq_lex.specs.declared.symbol.Symbol.TheVariants as symbol
 use Rattle.sq_lex.specs.declared.name.Name.{Name}
@@ -23,17 +23,19 @@ use Rattle.sq_meaning.specs.Report.{Bytes}
 use Rattle.sq_meaning.specs.Run.{RunItem, item_of_script}
 use Rattle.sq_meaning.specs.Script.{argument_values}
 use Rattle.sq_binding.proofs.Schemas.Names.{position_at}
-use Rattle.sq_catalog.specs.Catalog.{table_number}
+use Rattle.sq_catalog.specs.Catalog.{is_table, table_number}
+use Rattle.sq_catalog.specs.declared.catalog.FullName.{FullName}
 use Rattle.sq_module.specs.declared.program.ProcedureName.{ProcedureName}
 use Rattle.sq_session.specs.Kind.{Procedure, fits_at}
 use Rattle.sq_session.specs.Session.{Session, is_procedure, name_at, name_of as procedure_name, procedure_number}
 use Rattle.sq_perform.specs.Fault.{IsItemFault, IsOfItem, IsPlacedIfAny, IsRefusalIfAny, IsScriptRefusal, IsUntaken, ItemFault, TextFault}
-use Rattle.sq_perform.specs.Action.{item_of, name_of}
+use Rattle.sq_perform.specs.Action.{item_of, name_of, shown_name}
 use Rattle.sq_perform.specs.Asked.{AreActions}
 use Rattle.sq_perform.specs.Steps.{IsPrepared}
 use Rattle.sq_perform.specs.declared.action.Action.{Action}
-use Rattle.sq_perform.specs.declared.action.Action.TheVariants.{Call}
+use Rattle.sq_perform.specs.declared.action.Action.TheVariants.{Call, Show}
 use Rattle.sq_perform.specs.declared.action.CallAction.{CallAction}
+use Rattle.sq_perform.specs.declared.action.ShowAction.{ShowAction}
 use Rattle.sq_perform.specs.Items.{IsTaken, call_fault, item_fault, table_fault}
 use Rattle.sq_perform.specs.Refused.{IsFirstItem, IsRefusedScript}
 use Rattle.sq_perform.specs.Read.{refusal_of}
@@ -84,11 +86,45 @@ call_prepared procedures «module» name c found =
     subst (λ (n : ProcedureName). procedure_number procedures n.«module» n.name ≡ Some c.procedure) (sym (call_named procedures «module» name c found)) found
 
 -- it is what an item with that name and its values asks for
-pub call_asked : (procedures : List Procedure) («module» name : Name) (values : List Value) (c : CallAction) → procedure_number procedures «module» name ≡ Some c.procedure
-    → c.values ≡ values → item_of procedures (Call c) ≡ RunItem.call (record { in_module = «module»; procedure = name; values = values })
-call_asked procedures «module» name values c found same =
+pub call_asked : (procedures : List Procedure) (tables : List FullName) («module» name : Name) (values : List Value) (c : CallAction) → procedure_number procedures «module» name ≡ Some c.procedure
+    → c.values ≡ values → item_of procedures tables (Call c) ≡ RunItem.call (record { in_module = «module»; procedure = name; values = values })
+call_asked procedures tables «module» name values c found same =
     let named = call_named procedures «module» name c found in
     λ i. RunItem.call (record { in_module = (named i).«module»; procedure = (named i).name; values = same i })
+
+-- ---- one table
+
+-- a base table has the name by which it is found
+place_named : (tables : List FullName) (user name : Name) (place : ℕ) → table_number tables user name ≡ Some place
+    → slice_get tables place ≡ Some (record { user = user; name = name })
+place_named tables user name place found =
+    let there = position_at (is_table user name) tables place found in
+    let parts = and_parts (pointwise nat_eq user (there.0).user) (pointwise nat_eq name (there.0).name) there.2 in
+    let first = sym (same_text user (there.0).user (sym parts.0)) in
+    let second = sym (same_text name (there.0).name (sym parts.1)) in
+    there.1 ∙ (λ i. Some (record { user = first i; name = second i }))
+
+-- so a request for it has that name,
+show_named : (tables : List FullName) (user name : Name) (x : ShowAction) → table_number tables user name ≡ Some x.table
+    → shown_name tables x ≡ record { user = user; name = name }
+show_named tables user name x found =
+    ap (λ o. unwrap_or o (record { user = []; name = [] })) (place_named tables user name x.table found)
+
+-- and is for the table of its name;
+pub show_prepared : (s : Session) (user name : Name) (x : ShowAction) → table_number s.tables user name ≡ Some x.table → IsPrepared s (Show x)
+show_prepared s user name x found =
+    subst (λ (n : FullName). table_number s.tables n.user n.name ≡ Some x.table) (sym (show_named s.tables user name x found)) found
+
+-- it is what an item with that name asks for
+pub show_asked : (procedures : List Procedure) (tables : List FullName) (user name : Name) (x : ShowAction) → table_number tables user name ≡ Some x.table
+    → item_of procedures tables (Show x) ≡ RunItem.show (record { user = user; name = name })
+show_asked procedures tables user name x found =
+    let named = show_named tables user name x found in
+    λ i. RunItem.show (record { user = (named i).user; name = (named i).name })
+
+-- a table that can be shown is there
+pub shown_there : (s : Session) (x : ShowAction) → IsPrepared s (Show x) → slice_get s.tables x.table ≡ Some (shown_name s.tables x)
+shown_there s x is = place_named s.tables (shown_name s.tables x).user (shown_name s.tables x).name x.table is
 
 -- ---- all items
 
@@ -100,10 +136,10 @@ pub taken_more : (s : Session) (items : List ScriptItem) (i : ℕ) (x : ScriptIt
 taken_more s items i x lt e before here =
     subst (All (IsTaken s)) (sym (item_at items i x lt e)) (All-append (IsTaken s) (take i items) (x ∷ []) before (All-cons (IsTaken s) x [] here (All-nil (IsTaken s))))
 
-pub actions_more : (procedures : List Procedure) (items : List ScriptItem) (i : ℕ) (x : ScriptItem) (actions : List Action) (a : Action) → i < length items → x ≡ get_or items i x
-    → AreActions procedures (take i items) actions → item_of procedures a ≡ item_of_script x → AreActions procedures (take (i + 1) items) (actions ++ a ∷ [])
-actions_more procedures items i x actions a lt e are same =
-    map-append (item_of procedures) actions (a ∷ []) ∙ ap₂ (λ these one. these ++ one ∷ []) are same ∙ sym (map-append item_of_script (take i items) (x ∷ []))
+pub actions_more : (s : Session) (items : List ScriptItem) (i : ℕ) (x : ScriptItem) (actions : List Action) (a : Action) → i < length items → x ≡ get_or items i x
+    → AreActions s (take i items) actions → item_of s.procedures s.tables a ≡ item_of_script x → AreActions s (take (i + 1) items) (actions ++ a ∷ [])
+actions_more s items i x actions a lt e are same =
+    map-append (item_of s.procedures s.tables) actions (a ∷ []) ∙ ap₂ (λ these one. these ++ one ∷ []) are same ∙ sym (map-append item_of_script (take i items) (x ∷ []))
     ∙ ap (map item_of_script) (sym (item_at items i x lt e))
 
 pub prepared_more : (s : Session) (actions : List Action) (a : Action) → All (IsPrepared s) actions → IsPrepared s a → All (IsPrepared s) (actions ++ a ∷ [])

@@ -1,9 +1,11 @@
 -- What a script asks a session for.
-use Rattle.std.specs.Prelude.{[], List, unwrap_or}
+use Rattle.std.specs.Prelude.{[], List, slice_get, unwrap_or}
 use Rattle.sq_value.specs.declared.value.Value.{Value}
 use Rattle.sq_meaning.specs.Environment.{TableName}
 use Rattle.sq_meaning.specs.Machine.{Call as MachineCall}
 use Rattle.sq_meaning.specs.Run.{RunItem}
+use Rattle.sq_catalog.specs.Exact.{name_in}
+use Rattle.sq_catalog.specs.declared.catalog.FullName.{FullName}
 use Rattle.sq_module.specs.declared.program.ProcedureName.{ProcedureName}
 use Rattle.sq_session.specs.Kind.{Procedure}
 use Rattle.sq_session.specs.Session.{name_at}
@@ -23,11 +25,15 @@ named_call p values = record { in_module = p.«module»; procedure = p.name; val
 abbrev pub call_of : List Procedure → CallAction → MachineCall
 call_of procedures c = named_call (name_of procedures c) c.values
 
--- The table, as the report names it.
-abbrev pub table_of : ShowAction → TableName
-table_of s = record { user = s.user; name = s.name }
+-- the name of the base table that is shown, of a session's base tables; it is among them where the session takes the request
+abbrev pub shown_name : List FullName → ShowAction → FullName
+shown_name tables x = unwrap_or (slice_get tables x.table) (record { user = []; name = [] })
 
--- The item of the script that an action performs.
-abbrev pub item_of : List Procedure → Action → RunItem
-item_of procedures (Call c) = RunItem.call (call_of procedures c)
-item_of procedures (Show s) = RunItem.show (table_of s)
+-- The table, as the report names it.
+abbrev pub table_of : List FullName → ShowAction → TableName
+table_of tables x = name_in (shown_name tables x)
+
+-- The item of the script that an action performs, where a session has these procedures and base tables.
+abbrev pub item_of : List Procedure → List FullName → Action → RunItem
+item_of procedures tables (Call c) = RunItem.call (call_of procedures c)
+item_of procedures tables (Show x) = RunItem.show (table_of tables x)

@@ -66,4 +66,4 @@ pub record Run (row_numbers : ℕ) (schemas modules : List Bytes) (script : Byte
   pub is_opened : IsOpened row_numbers schema_trees module_trees start
   pub taken : All (IsTaken start) script_tree.items
   pub actions : List Action
-  pub are_items : map (item_of start.procedures) actions ≡ map item_of_script script_tree.items
+  pub are_items : map (item_of start.procedures start.tables) actions ≡ map item_of_script script_tree.items

@@ -10,7 +10,7 @@ use Rattle.sq_session.specs.Session.{Session, procedure_number}
 use Rattle.sq_session.specs.Step.{MayCall}
 use Rattle.sq_session.specs.declared.reply.Output.{Output}
 use Rattle.sq_session.specs.declared.reply.Reply.{Reply}
-use Rattle.sq_perform.specs.Action.{call_of, name_of, table_of}
+use Rattle.sq_perform.specs.Action.{call_of, name_of, shown_name, table_of}
 use Rattle.sq_perform.specs.declared.action.Action.{Action}
 use Rattle.sq_perform.specs.declared.action.Action.TheVariants.{Call, Show}
 use Rattle.sq_perform.specs.declared.action.CallAction.{CallAction}
@@ -28,7 +28,8 @@ IsPrepared s (Call c) =
     (procedure_number s.procedures (name_of s.procedures c).«module» (name_of s.procedures c).name
     ≡ Some c.procedure)
     × (fits_at s.procedures c.procedure c.values ≡ true)
-IsPrepared s (Show x) = table_number s.tables x.user x.name ≡ Some x.table
+IsPrepared s (Show x) =
+    table_number s.tables (shown_name s.tables x).user (shown_name s.tables x).name ≡ Some x.table
 
 -- What a session may answer to a call of the procedure of that name, and the session behind it. The machine's step is to take its place.
 pub record Answered (s : Session) (c : CallAction) (reply : Reply) (t : Session) : Type 0 where
@@ -44,7 +45,7 @@ abbrev pub Step : Action → Session → Bytes → Session → Type 0
 Step (Call c) s lines t =
     (reply : Reply) × Answered s c reply t × (lines ≡ call_line (call_of s.procedures c) (told reply))
 Step (Show x) s lines t =
-    IsPrepared s (Show x) × (t ≡ s) × (lines ≡ table_lines (table_of x) (table_at s.state.tables x.table))
+    IsPrepared s (Show x) × (t ≡ s) × (lines ≡ table_lines (table_of s.tables x) (table_at s.state.tables x.table))
 
 -- all lines of these items, from one session to another
 abbrev pub Steps : List Action → Session → Bytes → Session → Type 0

@@ -1,11 +1,12 @@
 //! What a script asks for.
 ghost use Rattle.std.specs.Prelude.{◌≡◌, true};
 ghost use Rattle.sq_session.specs.Kind.{fits_at};
-ghost use Rattle.sq_perform.specs.Action.{name_of};
+ghost use Rattle.sq_perform.specs.Action.{name_of, shown_name};
+ghost use Rattle.sq_perform.specs.Steps.{IsPrepared};
+ghost use Rattle.sq_perform.specs.declared.action.Action.TheVariants.{Show};
 
 use sq_items::Items;
-use sq_lex::Name;
-use sq_session::{ProcedureName, Session};
+use sq_session::{FullName, ProcedureName, Session};
 use sq_store::Store;
 use sq_value::Value;
 
@@ -36,10 +37,22 @@ impl CallAction {
     }
 }
 
-/// A request to show the base table at the place `table`.
+/// A request to show a base table. `table` is its place in the session, which has its name.
 #[derive(Clone, Copy, Debug)]
 pub struct ShowAction {
-    pub user: Name,
-    pub name: Name,
     pub table: usize,
+}
+
+impl ShowAction {
+    /// The owner and name of the table that is shown.
+    #[tactic(auto, using(crate::proofs::Taken::shown_there))]
+    pub fn name<S: Store>(&self, session: &Session<S>) -> FullName
+        requires { IsPrepared session.now (Show self.now) }
+        ensures { result ≡ shown_name session.now.tables self.now }
+    {
+        match session.table_name(self.table) {
+            Some(name) => name,
+            None => unreachable!(),
+        }
+    }
 }

@@ -30,7 +30,8 @@ pub(crate) fn action_of<S: Store>(
     session: &Session<S>,
     item: &ScriptItem,
 ) -> Result<Action, ItemFault>
-    ensures action { IfOk result (λ action. item_of session.now.procedures action ≡ item_of_script item.now) }
+    ensures action { IfOk result
+        (λ action. item_of session.now.procedures session.now.tables action ≡ item_of_script item.now) }
     ensures prepared { IfOk result (IsPrepared session.now) }
     ensures taken { IfOk result (λ _. IsTaken session.now item.now) }
     ensures refused { IfErr result (IsItemFault (item_fault session.now item.now)) }
@@ -55,7 +56,7 @@ fn find_call<S: Store>(
     arguments: &Arguments,
 ) -> Result<Action, ItemFault>
     ensures action { IfOk result
-        (λ action. item_of session.now.procedures action
+        (λ action. item_of session.now.procedures session.now.tables action
         ≡ item_of_script (script.Call «module» name arguments.now)) }
     ensures prepared { IfOk result (IsPrepared session.now) }
     ensures taken { IfOk result (λ _. IsTaken session.now (script.Call «module» name arguments.now)) }
@@ -75,13 +76,14 @@ fn find_call<S: Store>(
 /// An item TABLE with its table looked up.
 fn find_table<S: Store>(session: &Session<S>, user: Name, name: Name) -> Result<Action, ItemFault>
     ensures action { IfOk result
-        (λ action. item_of session.now.procedures action ≡ item_of_script (script.Table user name)) }
+        (λ action. item_of session.now.procedures session.now.tables action
+        ≡ item_of_script (script.Table user name)) }
     ensures prepared { IfOk result (IsPrepared session.now) }
     ensures taken { IfOk result (λ _. IsTaken session.now (script.Table user name)) }
     ensures refused { IfErr result (IsItemFault (item_fault session.now (script.Table user name))) }
 {
     match session.table(user, name) {
-        Some(table) => Ok(Action::Show(ShowAction { user, name, table })),
+        Some(table) => Ok(Action::Show(ShowAction { table })),
         None => Err(ItemFault::Refused(RefusalName::UnknownTable)),
     }
 }

@@ -310,7 +310,7 @@ fn actions_in<S: Store>(
     tree: &ScriptText,
 ) -> Result<Vec<Action>, TextFault>
     requires { SpellsTree script_tokens script_depth script.now tree.now }
-    ensures actions { IfOk result (λ actions. AreActions session.now.procedures tree.now.items actions.items) }
+    ensures actions { IfOk result (λ actions. AreActions session.now tree.now.items actions.items) }
     ensures prepared { IfOk result (λ actions. All (IsPrepared session.now) actions.items) }
     ensures taken { IfOk result (λ _. All (IsTaken session.now) tree.now.items) }
     ensures refused { IfErr result (IsUntaken session.now script.now) }

@@ -1,13 +1,13 @@
 //! The lines of the report.
-ghost use Rattle.std.specs.Prelude.{◌≡◌, ◌++◌, codes, decimal, map, true, OnOk, Some};
+ghost use Rattle.std.specs.Prelude.{◌≡◌, ◌++◌, codes, decimal, map, true, OnOk};
 ghost use Rattle.std.specs.List.{flat_map};
 ghost use Rattle.sq_value.specs.Spelling.{written};
 ghost use Rattle.sq_store.specs.Content.{table_at};
-ghost use Rattle.sq_catalog.specs.Catalog.{table_number};
 ghost use Rattle.sq_meaning.specs.Report as report;
 ghost use Rattle.sq_session.specs.Kind.{fits_at};
 ghost use Rattle.sq_perform.specs.Action.{call_of, table_of};
-ghost use Rattle.sq_perform.specs.Steps.{told, told_output};
+ghost use Rattle.sq_perform.specs.Steps.{IsPrepared, told, told_output};
+ghost use Rattle.sq_perform.specs.declared.action.Action.TheVariants.{Show};
 
 use crate::action::{CallAction, ShowAction};
 use sq_lex::Name;
@@ -117,21 +117,24 @@ pub fn write_table<S: Store>(
     shown: &ShowAction,
     lines: &mut Vec<u8>,
 ) -> Result<(), AllocError>
-    requires { table_number session.now.tables shown.now.user shown.now.name ≡ Some shown.now.table }
-    ensures { OnOk result (lines.new.items ≡ lines.old.items ++ report.table_lines (table_of shown.now)
+    requires { IsPrepared session.now (Show shown.now) }
+    ensures { OnOk result (lines.new.items ≡ lines.old.items
+        ++ report.table_lines (table_of session.now.tables shown.now)
         (table_at session.now.state.tables shown.now.table)) }
 {
+    let name = shown.name(session);
     let rows = rows_shown(session, shown);
-    write_heading(shown.user, shown.name, rows.len(), lines)?;
+    write_heading(name.user, name.name, rows.len(), lines)?;
     write_rows(alloc, rows, lines)
 }
 
 /// The rows of the base table that is shown.
 fn rows_shown<'s, S: Store>(session: &'s Session<S>, shown: &ShowAction) -> TableRows<'s, S>
-    requires { table_number session.now.tables shown.now.user shown.now.name ≡ Some shown.now.table }
+    requires { IsPrepared session.now (Show shown.now) }
     ensures { result ≡ (table_at session.now.state.tables shown.now.table).rows }
 {
-    match session.rows(shown.user, shown.name) {
+    let name = shown.name(session);
+    match session.rows(name.user, name.name) {
         Some(rows) => rows,
         None => unreachable!(),
     }

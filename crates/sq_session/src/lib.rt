@@ -37,5 +37,6 @@ pub use retrieved::RetrievedRow;
 pub use rows::TableRows;
 pub use session::Session;
 pub use sq_binder::Fault;
+pub use sq_catalog::FullName;
 pub use sq_module::{ModuleRefusal, ProcedureName, SessionFault};
 pub use walk::WalkingCursor;

@@ -1,6 +1,6 @@
 //! A session: the modules, the tables, and the cursors.
 
-ghost use Rattle.std.specs.Prelude.{◌≡◌, false, true, length, replicate, IfErr, IfOk, IsOk, MatchResult, None, OnErr};
+ghost use Rattle.std.specs.Prelude.{◌≡◌, false, true, length, replicate, slice_get, IfErr, IfOk, IsOk, MatchResult, None, OnErr};
 ghost use Rattle.sq_meaning.specs.ModuleRefusal.{first_module_refusal};
 ghost use Rattle.sq_module.specs.FirstRefusal.{IsFaultFor};
 ghost use Rattle.sq_module.specs.Refusal.{IsOfSomeModule};
@@ -28,7 +28,7 @@ use crate::parameter::all_fit;
 use crate::reply::Reply;
 use crate::rows::TableRows;
 use sq_binder::Fault;
-use sq_catalog::Catalog;
+use sq_catalog::{Catalog, FullName};
 use sq_lex::Name;
 use sq_module::{ProcedureName, Program, SessionFault, admit};
 use sq_store::{Meter, Store};
@@ -248,6 +248,13 @@ impl<S: Store> Session<S> {
         ensures { result ≡ table_number self.now.tables user name }
     {
         self.catalog.base(user, name)
+    }
+
+    /// The owner and name of the base table at this place.
+    pub fn table_name(&self, table: usize) -> Option<FullName>
+        ensures { result ≡ slice_get self.now.tables table }
+    {
+        self.catalog.base_name(table)
     }
 
     /// The rows of the base table of this owner and name as they are now, with their numbers; `None` if there is no

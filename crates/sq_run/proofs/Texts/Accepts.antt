@@ -17,7 +17,7 @@ use Rattle.sq_run.specs.Answers.{Answers}
 
 module _ (row_numbers : ℕ) (schemas modules : List Bytes) (script : Bytes) where
   as_many : (r : Run row_numbers schemas modules script) → length r.actions ≡ length (asked_by row_numbers schemas modules script r).items
-  as_many r = sym (length-map r.actions (item_of r.start.procedures)) ∙ ap (λ l. length l) r.are_items
+  as_many r = sym (length-map r.actions (item_of r.start.procedures r.start.tables)) ∙ ap (λ l. length l) r.are_items
 
   module _ (old new : Option Bytes) where
     done : session_stop.WroteAll row_numbers schemas modules script old new → Answers (answered schemas modules script row_numbers) old new (Ok tt)

@@ -10,6 +10,8 @@ use Rattle.sq_meaning.specs.Report.{Bytes}
 use Rattle.sq_meaning.specs.Run.{RunItem, after, after_item, program_of}
 use Rattle.sq_bound.specs.Known.{KnownTables}
 use Rattle.sq_binding.proofs.Schemas.Names.{position_at}
+use Rattle.sq_catalog.specs.Catalog.{declared_tables}
+use Rattle.sq_catalog.specs.declared.catalog.FullName.{FullName}
 use Rattle.sq_module.specs.declared.program.Program.{Program}
 use Rattle.sq_session.specs.Kind.{Procedure, kind_at}
 use Rattle.sq_session.specs.Schemas.{Schemas}
@@ -27,7 +29,7 @@ use Rattle.sq_run.proofs.Texts.Answered.{asked_by, task_answered}
 use Rattle.sq_run.proofs.Steps.CallIsStep.{call_is_step, numbered_faults}
 use Rattle.sq_run.proofs.Steps.Exact.{IsBoundExactly, IsOpenedFrom}
 use Rattle.sq_run.proofs.Texts.Headline as headline
-use Rattle.sq_run.proofs.Texts.Reports.{Action, IsSession, procedures_there, step_is}
+use Rattle.sq_run.proofs.Texts.Reports.{Action, IsSession, procedures_there, step_is, tables_there}
 
 call_same : (a b : Call) → RunItem.call a ≡ RunItem.call b → a ≡ b
 call_same a b e = cc
@@ -42,7 +44,7 @@ module _ (texts : List SchemaText) (modules : List ModuleText) (row_numbers : �
 
   -- what an action asks of such a session
   abbrev asked : Action → RunItem
-  asked = item_of (procedures_there texts modules row_numbers known schemas program o exact)
+  asked = item_of (procedures_there texts modules row_numbers known schemas program o exact) (tables_there texts modules row_numbers known schemas program o exact)
 
   abbrev Answers : by_name.State → Call → Type 0
   Answers x c = is_syntax_error (replied p x c).status ≡ is_faulty p c
@@ -83,7 +85,9 @@ module _ (row_numbers : ℕ) (schemas modules : List Bytes) (script : Bytes) whe
     task_answers : (bytes : Bytes) (last : Session) → Steps r.actions r.start bytes last → FaultsAnswer42000 (asked_by row_numbers schemas modules script r)
     unfolding FaultsAnswer42000
     task_answers bytes last h = λ count c at.
-        let are_items = ap (λ (named : List Procedure). map (item_of named) r.actions) (sym r.is_opened.written.are) ∙ r.are_items in
+        let are_items =
+        ap (λ (named : List Procedure). map (item_of named (declared_tables r.schema_trees)) r.actions) (sym r.is_opened.written.are)
+        ∙ ap (λ (tables : List FullName). map (item_of r.start.procedures tables) r.actions) (sym r.is_opened.tables) ∙ r.are_items in
         subst
         (λ items. is_syntax_error (replied machine (after machine (first_state machine) (take count items)) c).status ≡ is_faulty machine c) are_items
         (all_answer r.schema_trees r.module_trees row_numbers r.is_opened.known r.start.schemas

@@ -6,6 +6,8 @@ use Rattle.std.specs.Io.KnownBytes.{Appends}
 use Rattle.sq_tree.specs.declared.«module».ModuleText.{ModuleText}
 use Rattle.sq_tree.specs.declared.schema.SchemaText.{SchemaText}
 use Rattle.sq_store.specs.Content.{no_rows}
+use Rattle.sq_catalog.specs.Catalog.{declared_tables}
+use Rattle.sq_catalog.specs.declared.catalog.FullName.{FullName}
 use Rattle.sq_meaning.specs.Machine as by_name
 use Rattle.sq_meaning.specs.Machine.{first_state}
 use Rattle.sq_meaning.specs.Report.{Bytes, item_lines, report}
@@ -73,16 +75,21 @@ module _ (row_numbers : ℕ) (schemas modules : List Bytes) (script : Bytes) (r 
   abbrev pub lines : List RunItem → Bytes
   lines some = report machine (first_state machine) some
 
-  report_is : (actions : List Action) (some : List RunItem) → map (item_of r.start.procedures) actions ≡ some → (bytes : Bytes) (last : Session)
+  -- what an action asks of the session
+  abbrev asked : Action → RunItem
+  asked = item_of r.start.procedures r.start.tables
+
+  report_is : (actions : List Action) (some : List RunItem) → map asked actions ≡ some → (bytes : Bytes) (last : Session)
       → Steps actions r.start bytes last → bytes ≡ lines some
   report_is actions some are bytes last h =
       steps_are r.schema_trees r.module_trees row_numbers r.is_opened.known r.start.schemas (program row_numbers r.schema_trees r.module_trees r.start r.is_opened)
       (opened_from row_numbers r.schema_trees r.module_trees r.start r.is_opened) (exact row_numbers r.schema_trees r.module_trees r.start r.is_opened)
       actions r.start (first_state machine) (starts row_numbers r.schema_trees r.module_trees r.start r.is_opened) bytes last h
-      ∙ ap (λ (named : List Procedure). lines (map (item_of named) actions)) (sym r.is_opened.written.are) ∙ ap lines are
+      ∙ ap (λ (named : List Procedure). lines (map (item_of named (declared_tables r.schema_trees)) actions)) (sym r.is_opened.written.are)
+      ∙ ap (λ (tables : List FullName). lines (map (item_of r.start.procedures tables) actions)) (sym r.is_opened.tables) ∙ ap lines are
 
-  first_items : (k : ℕ) → map (item_of r.start.procedures) (take k r.actions) ≡ take k items
-  first_items k = sym (mapped_before (item_of r.start.procedures) k r.actions) ∙ ap (take k) r.are_items
+  first_items : (k : ℕ) → map asked (take k r.actions) ≡ take k items
+  first_items k = sym (mapped_before asked k r.actions) ∙ ap (take k) r.are_items
 
   -- What is written is the machine's report.
   pub run_reports : Reported r.actions r.start old new → Appends old new (lines items)

@@ -29,7 +29,7 @@ use Rattle.sq_session.specs.Session.{Session, procedures_of}
 use Rattle.sq_session.specs.Step.{MayCall}
 use Rattle.sq_session.specs.declared.reply.Reply.{Reply}
 use Rattle.sq_perform.proofs.Actions.{by_action}
-use Rattle.sq_perform.specs.Action.{call_of, item_of, name_of, table_of}
+use Rattle.sq_perform.specs.Action.{call_of, item_of, name_of, shown_name, table_of}
 use Rattle.sq_perform.specs.Steps.{Step, Steps, told}
 use Rattle.sq_perform.specs.declared.action.Action.TheVariants.{Call}
 use Rattle.sq_run.proofs.Schemas.Created.{declared_definitions_are, declared_tables_are}
@@ -45,7 +45,7 @@ abbrev source_of : {A B : Type 0} → (A → B) → Type 0
 source_of {A} {B} f = A
 
 abbrev pub Action : Type 0
-Action = source_of (item_of [])
+Action = source_of (item_of [] [])
 
 -- ---- the place of a base table
 
@@ -95,9 +95,13 @@ module _ (texts : List SchemaText) (modules : List ModuleText) (row_numbers : �
   abbrev pub procedures_there : List Procedure
   procedures_there = procedures_of program.cursors.items program.procedures.entries
 
+  -- and its base tables
+  abbrev pub tables_there : List FullName
+  tables_there = declared_tables texts
+
   -- an item's lines, and the session behind it, where these procedures give calls their names
   abbrev IsStepAs : List Procedure → Action → by_name.State → Bytes → Session → Type 0
-  IsStepAs named a x lines t = (lines ≡ item_lines p x (item_of named a)) × IsSession t (after_item p x (item_of named a))
+  IsStepAs named a x lines t = (lines ≡ item_lines p x (item_of named tables_there a)) × IsSession t (after_item p x (item_of named tables_there a))
 
   -- the lines of an item, and the session behind it
   abbrev pub IsStep : Action → Type 0
@@ -123,17 +127,21 @@ module _ (texts : List SchemaText) (modules : List ModuleText) (row_numbers : �
       ) in
       subst (λ named. IsStepAs named (Call c) x lines t) is.procedures done)
       (λ v s x is lines t h.
-      let place : base_place (elements_of texts) (table_of v) ≡ Some v.table
-      = base_found texts exact.accepted v.user v.name v.table (subst (λ ts. table_number ts v.user v.name ≡ Some v.table) is.tables h.0) in
-      let shown : table_at s.state.tables v.table ≡ shown_table p x (table_of v)
-      = ap (λ c. table_at c v.table) (sym is.agrees.same.tables) ∙ ap (λ z. unwrap_or (option_map (table_at x.tables) z) empty) (sym place) in
-      (h.2 ∙ ap (table_lines (table_of v)) shown, subst (λ z. IsSession z x) (sym h.1) is))
+      let name = shown_name tables_there v in
+      let place : base_place (elements_of texts) (table_of tables_there v) ≡ Some v.table
+      = base_found texts exact.accepted name.user name.name v.table
+      (subst (λ ts. table_number ts (shown_name ts v).user (shown_name ts v).name ≡ Some v.table) is.tables h.0) in
+      let shown : table_at s.state.tables v.table ≡ shown_table p x (table_of tables_there v)
+      = ap (λ c. table_at c v.table) (sym is.agrees.same.tables) ∙ ap (λ z. unwrap_or (option_map (table_at x.tables) z) empty) (sym place) in (
+        h.2 ∙ ap (λ ts. table_lines (table_of ts v) (table_at s.state.tables v.table)) is.tables ∙ ap (table_lines (table_of tables_there v)) shown,
+        subst (λ z. IsSession z x) (sym h.1) is,
+      ))
 
   -- The lines of all items are the machine's report.
   pub steps_are : (actions : List Action) (s : Session) (x : by_name.State) → IsSession s x → (bytes : Bytes) (t : Session) → Steps actions s bytes t
-      → bytes ≡ report p x (map (item_of procedures_there) actions)
+      → bytes ≡ report p x (map (item_of procedures_there tables_there) actions)
   steps_are [] s x is bytes t h = h.0
   steps_are (a ∷ rest) s x is bytes t h =
       let one = step_is a s x is h.0 h.2 h.3 in
-      let others = steps_are rest h.2 (after_item p x (item_of procedures_there a)) one.1 h.1 t h.4 in
+      let others = steps_are rest h.2 (after_item p x (item_of procedures_there tables_there a)) one.1 h.1 t h.4 in
       h.5 ∙ (λ i. one.0 i ++ others i)

@@ -8,7 +8,7 @@ use Rattle.sq_perform.proofs.items.find_call.Goals as goal
 pub returns-clause-action : goal.returns-clause-action
 returns-clause-action g c =
     let call : CallAction = record { procedure = c.in-Some.procedure; values = c.in_ok-values.values } in
-    call_asked c.args.session.now.procedures c.args.«module» c.args.name (argument_values c.args.arguments.now) call
+    call_asked c.args.session.now.procedures c.args.session.now.tables c.args.«module» c.args.name (argument_values c.args.arguments.now) call
     (sym c.procedure.ensures ∙ c.in-Some.is) c.in_ok-values.ensures
 
 pub returns-clause-prepared : goal.returns-clause-prepared

@@ -17,7 +17,7 @@ loop-place-preserved g c =
     let is = c.index-items-place.is in
     rw c.in_ok-push-in-Ok.ensures.items
     (record {
-      are = actions_more c.args.session.now.procedures items c.loop-place.place c.index-items-place.result c.loop-place.actions.items c.in-Ok.action lt is before.are c.in-Ok.ensures.action;
+      are = actions_more c.args.session.now items c.loop-place.place c.index-items-place.result c.loop-place.actions.items c.in-Ok.action lt is before.are c.in-Ok.ensures.action;
       prepared = prepared_more c.args.session.now c.loop-place.actions.items c.in-Ok.action before.prepared c.in-Ok.ensures.prepared;
       taken = taken_more c.args.session.now items c.loop-place.place c.index-items-place.result lt is before.taken c.in-Ok.ensures.taken;
     })

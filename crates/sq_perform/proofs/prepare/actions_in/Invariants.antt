@@ -6,7 +6,7 @@ use Rattle.sq_perform.proofs.prepare.actions_in.Given as goal
 
 abbrev pub invariant-loop-place : goal.invariant-loop-place
 invariant-loop-place g l = record {
-  are : AreActions l.session.procedures (take l.place l.items) l.actions.items;
+  are : AreActions l.session (take l.place l.items) l.actions.items;
   prepared : All (IsPrepared l.session) l.actions.items;
   taken : All (IsTaken l.session) (take l.place l.items);
 }
