@@ -25,7 +25,7 @@ use Rattle.sq_bound.specs.declared.statement.ChangeTarget.TheVariants as target
 use Rattle.sq_query.specs.Key.{AreFirstTests, AreKeyTests, IsEquality}
 use Rattle.sq_query.specs.Needed.{inside_tables}
 use Rattle.sq_query.specs.Row.{outside}
-use Rattle.sq_query.specs.Search.{IsOverBase, IsWhere}
+use Rattle.sq_query.specs.Specification.{IsOverBase, IsWhere}
 use Rattle.sq_query.specs.Target.{conditions_of}
 
 -- there is a value, and it is not null

@@ -34,7 +34,7 @@ use Rattle.sq_expression.specs.declared.table.BaseRows.{BaseRows}
 use Rattle.sq_query.specs.Inner.{IsInStore}
 use Rattle.sq_query.specs.Items.{IsAlone, items_of, over}
 use Rattle.sq_query.specs.Named.{IsColumnOf}
-use Rattle.sq_query.specs.Search.{IsWhere}
+use Rattle.sq_query.specs.Specification.{IsWhere}
 use Rattle.sq_query.specs.Several.{rows_by_values}
 use Rattle.sq_query.specs.Sought.{IsKnownIn}
 use Rattle.sq_query.specs.Union.{AreFitting}

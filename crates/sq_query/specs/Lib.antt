@@ -13,11 +13,11 @@ pub mod Needed
 pub mod OnRow
 pub mod Order
 pub mod Row
-pub mod Search
 pub mod Several
 pub mod Shown
 pub mod SingleRow
 pub mod Sought
+pub mod Specification
 pub mod Table
 pub mod Target
 pub mod Union

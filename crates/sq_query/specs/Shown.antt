@@ -24,7 +24,7 @@ use Rattle.sq_bound.specs.declared.expression.BoundExpr.{BoundExpr}
 use Rattle.sq_bound.specs.declared.expression.SetFunctionCall.{SetFunctionCall}
 use Rattle.sq_bound.specs.declared.expression.SetFunctionCall.TheVariants.{CountRows, Over}
 use Rattle.sq_expression.specs.Fault.{IsRight}
-use Rattle.sq_query.specs.Search.{IsOver, with_rows}
+use Rattle.sq_query.specs.Specification.{IsOver, with_rows}
 use Rattle.sq_query.specs.Table.{rows_of_view}
 
 -- the column of its only table that an expression is

@@ -20,7 +20,7 @@ use Rattle.sq_expression.specs.Select.{row_shown, rows_left}
 use Rattle.sq_expression.specs.declared.context.Context.{Context}
 use Rattle.sq_query.specs.Key.{IsKeyOn}
 use Rattle.sq_query.specs.Row.{outside}
-use Rattle.sq_query.specs.Search.{IsOverBase, IsWhere}
+use Rattle.sq_query.specs.Specification.{IsOverBase, IsWhere}
 use Rattle.sq_query.specs.declared.single_row.SingleRow.{SingleRow}
 
 -- the HAVING clause of a query specification that is grouped so, if at all, has no subquery

@@ -26,7 +26,7 @@ use Rattle.sq_query.specs.Items.{IsNamed, IsOnce, items_of, over}
 use Rattle.sq_query.specs.MayRead.{MayRead}
 use Rattle.sq_query.specs.Named.{AreTrustedIn, IsFalseOn}
 use Rattle.sq_query.specs.Needed.{IsNeeded}
-use Rattle.sq_query.specs.Search.{IsWhere}
+use Rattle.sq_query.specs.Specification.{IsWhere}
 use Rattle.sq_query.specs.Shown.{AreRight, IsPath, shown_of}
 use Rattle.sq_query.specs.Sought.{nothing_around}
 use Rattle.sq_query.specs.Union.{AreFitting}

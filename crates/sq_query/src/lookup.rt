@@ -7,7 +7,7 @@ ghost use Rattle.sq_query.specs.Valued.{HasRowsWithOne};
 use crate::asked::Asked;
 use crate::named::{Sure, values_by_condition};
 use crate::named_keys::{key_by_tests, keys_by_tests};
-use crate::search::base_by_key;
+use crate::specification::base_by_key;
 use crate::several::base_by_values;
 use crate::sought::Sought;
 use crate::valued::{rows_by_index, rows_by_walk};

@@ -4,7 +4,7 @@
 ghost use Rattle.std.specs.Prelude.{◌≡◌, ◌++◌, [], IfErr, IfOk};
 ghost use Rattle.sq_expression.specs.Fault.{IsAnswered};
 ghost use Rattle.sq_query.specs.Known.{ServesOutside};
-ghost use Rattle.sq_query.specs.Search.{HasTables, IsReadable};
+ghost use Rattle.sq_query.specs.Specification.{HasTables, IsReadable};
 ghost use Rattle.sq_query.specs.Sought.{nothing_around};
 
 use crate::around::{Around, Standing};

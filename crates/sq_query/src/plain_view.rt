@@ -10,11 +10,11 @@ ghost use Rattle.sq_bound.specs.Quiet.{is_quiet_cond};
 ghost use Rattle.sq_bound.specs.WellFormed.{BasesAreThere};
 ghost use Rattle.sq_bound.specs.declared.condition.BoundSpecification.{out-BoundSpecification};
 ghost use Rattle.sq_bound.specs.declared.condition.TablePlace.TheVariants as at_place;
-ghost use Rattle.sq_query.specs.Search.{IsOver};
+ghost use Rattle.sq_query.specs.Specification.{IsOver};
 ghost use Rattle.sq_query.specs.Shown.{AreShown, Asks, IsPath, IsPlainOver, Shows, is_grouped_by, is_quiet_beside, is_sure_call, is_sure_grouping, is_unwritten, stays_in_range};
 
 use crate::needed::view_at;
-use crate::search::only_table;
+use crate::specification::only_table;
 use sq_bound::{
     BoundCond, BoundExpr, BoundSpecification, Grouping, Names, Place, SetFunctionCall, TablePlace,
     is_quiet_cond, own_column,

@@ -25,14 +25,14 @@ ghost use Rattle.sq_query.specs.Needed.{FindsCond, clause_tables, inside_tables}
 ghost use Rattle.sq_query.specs.Inner.{HasKeys};
 ghost use Rattle.sq_query.specs.OnRow.{StandsOnRow};
 ghost use Rattle.sq_query.specs.Row.{truth_on_row};
-ghost use Rattle.sq_query.specs.Search.{HasItsRows, IsReadable, IsStored};
+ghost use Rattle.sq_query.specs.Specification.{HasItsRows, IsReadable, IsStored};
 ghost use Rattle.sq_query.specs.SingleRow.{HasPlainHaving, IsSingleRow, line_if, lines_left, listed_by};
 
 use crate::key::KnownKey;
 use crate::named_keys::key_of_condition;
 use crate::needed::Needed;
 use crate::row::truth_with_tables;
-use crate::search::over_base;
+use crate::specification::over_base;
 use crate::target::is_true;
 use sq_bound::{BoundCond, BoundExpr, BoundSpecification, Grouping, Names};
 use sq_condition::{Memo, truth};

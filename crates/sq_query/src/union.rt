@@ -10,10 +10,10 @@ ghost use Rattle.sq_bound.specs.Joined.{specifications_of, term_specifications};
 ghost use Rattle.sq_bound.specs.WellFormed.{kinds_of_results};
 ghost use Rattle.sq_expression.specs.Fault.{Meets, HasRows};
 ghost use Rattle.sq_query.specs.Order.{HasQueryRows, HasTermRows};
-ghost use Rattle.sq_query.specs.Search.{AreReadable};
+ghost use Rattle.sq_query.specs.Specification.{AreReadable};
 ghost use Rattle.sq_query.specs.Union.{MayBeBrought, IsBringable, AreBringable, IsJoinedTo, WereJoined, all_stay, rows_behind, stays};
 
-use crate::search::rows_of_specification;
+use crate::specification::rows_of_specification;
 use sq_bound::{BoundQuery, BoundTerm, BoundUnion, Names, ResultColumn};
 use sq_expression::{Context, Fault, distinct_rows, number_value};
 use sq_store::{Meter, Store};

@@ -12,7 +12,7 @@ ghost use Rattle.sq_query.specs.Asked.{IsFalseUnder};
 ghost use Rattle.sq_query.specs.Items.{IsNamed, items_of};
 ghost use Rattle.sq_query.specs.Named.{IsFalseOf};
 ghost use Rattle.sq_query.specs.Needed.{FindsSelect, IsNeeded, ReadsInside};
-ghost use Rattle.sq_query.specs.Search.{IsReadable, IsWhere};
+ghost use Rattle.sq_query.specs.Specification.{IsReadable, IsWhere};
 ghost use Rattle.sq_query.specs.Shown.{IsPath};
 ghost use Rattle.sq_query.specs.ViewItems.{IsShownItem, IsViewAlone, ServeViews, is_shown};
 ghost use Rattle.sq_query.specs.declared.named.Sure.TheVariants.{Noted};

@@ -13,7 +13,7 @@ use crate::lookup::Lookup;
 use crate::named::Sure;
 use crate::named_exprs::{Seen, is_one_row};
 use crate::needed::Needed;
-use crate::search::over_base;
+use crate::specification::over_base;
 use crate::single_row::has_query_in_having;
 use crate::way::{How, KeyPlace, Way};
 use sq_bound::{

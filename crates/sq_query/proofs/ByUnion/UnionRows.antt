@@ -40,7 +40,7 @@ use Rattle.sq_expression.specs.Frame.{inputs_of}
 use Rattle.sq_query.specs.MayRead.{MayRead}
 use Rattle.sq_query.specs.Needed.{FindsQuery, ReadsSelect}
 use Rattle.sq_query.specs.Order.{HasQueryRows, HasTermRows}
-use Rattle.sq_query.specs.Search.{AreReadable}
+use Rattle.sq_query.specs.Specification.{AreReadable}
 use Rattle.sq_query.specs.Union.{AreBringable, AreBrought, AreFitting, IsJoinedTo, WereJoined, joined_rows, rows_behind, rows_left}
 use Rattle.sq_expression.specs.declared.fault.Fault.{Fault}
 use Rattle.sq_expression.specs.declared.fault.Fault.TheVariants as fault

@@ -19,7 +19,7 @@ use Rattle.sq_expression.specs.declared.table.ViewRows.{ViewRows}
 use Rattle.sq_query.specs.Items.{is_found, is_left, over, rows_or}
 use Rattle.sq_query.specs.Sought.{found_of}
 use Rattle.sq_query.specs.Needed.{AreKnown, IsNeeded, ReadsSelect}
-use Rattle.sq_query.specs.Search.{IsReadFor}
+use Rattle.sq_query.specs.Specification.{IsReadFor}
 use Rattle.sq_query.specs.Table.{ReadsAsMeant, rows_among, rows_read}
 use Rattle.sq_query.specs.Union.{AreFitting}
 use Rattle.sq_query.specs.ViewItems.{is_hidden, is_shown, shown_or, showing}

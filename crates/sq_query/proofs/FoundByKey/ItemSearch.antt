@@ -25,7 +25,7 @@ use Rattle.sq_query.specs.Asked.{IsFalseThrough}
 use Rattle.sq_query.specs.Items.{IsAlone, IsNamed, IsReadOf, items_of}
 use Rattle.sq_query.specs.Named.{AreKeysBy, AreTrustedIn, IsColumnOf, IsFalseOn, IsKeyBy}
 use Rattle.sq_query.specs.Row.{HasValueOn}
-use Rattle.sq_query.specs.Search.{IsWhere, rows_by_key}
+use Rattle.sq_query.specs.Specification.{IsWhere, rows_by_key}
 use Rattle.sq_query.specs.Several.{rows_by_values}
 use Rattle.sq_query.specs.Sought.{IsValueBehind}
 use Rattle.sq_query.specs.Valued.{HasRowsWithOne, rows_with_one}

@@ -34,7 +34,7 @@ use Rattle.sq_query.specs.Inner.{IsInStore, IsLineBeneath, ReadsAround, ServesCo
 use Rattle.sq_query.specs.Items.{AreMore, Grows, IsReadOf, items_of, over}
 use Rattle.sq_query.specs.Sought.{IsLineAmong, IsRowAmong}
 use Rattle.sq_query.specs.Needed.{Adds, IsNeeded, ReadsClause, inside_tables}
-use Rattle.sq_query.specs.Search.{IsWhere}
+use Rattle.sq_query.specs.Specification.{IsWhere}
 use Rattle.sq_query.specs.Union.{AreFitting}
 use Rattle.sq_query.specs.declared.around.Around.{Around}
 use Rattle.sq_query.specs.declared.around.Standing.{Standing}

@@ -18,7 +18,7 @@ use Rattle.sq_bound.proofs.ConditionLaws.{select_of-out}
 use Rattle.sq_bound.proofs.Nested.{select_itself}
 use Rattle.sq_query.specs.Items.{items_of}
 use Rattle.sq_query.specs.Named.{AreTrusted, AreTrustedIn, IsTrusted, StandsOnLines}
-use Rattle.sq_query.specs.Search.{IsWhere}
+use Rattle.sq_query.specs.Specification.{IsWhere}
 use Rattle.sq_query.specs.Union.{AreFitting}
 use Rattle.sq_query.specs.declared.named.Sure.TheVariants.{Noted}
 use Rattle.sq_query.proofs.FoundByKey.ItemRows.{where_in}

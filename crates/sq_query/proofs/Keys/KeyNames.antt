@@ -134,14 +134,6 @@ shortest_names keys own key (Some k) h is =
     subst (λ (n : ℕ). (n < length keys) × (names_key (slice_index_or keys n []) (out-BoundCond own).terms ≡ true)) same
     (slice_get_within keys k h.0 h.1, ap (λ (columns : List ℕ). names_key columns (out-BoundCond own).terms) (get_or_from_slice_get keys k h.0 [] h.1) ∙ h.2)
 
--- the shortest of one key alone is this one
-pub only_named : (columns : List ℕ) (own : BoundCond) (key : ℕ) (found : Option ℕ) → IsShortestKey (columns ∷ []) own found → found ≡ Some key → names_key columns (out-BoundCond own).terms ≡ true
-only_named columns own key found h is = by key (shortest_names (columns ∷ []) own key found h is)
-  where
-    by : (k : ℕ) → (k < 1) × (names_key (slice_index_or (columns ∷ []) k []) (out-BoundCond own).terms ≡ true) → names_key columns (out-BoundCond own).terms ≡ true
-    by zero p = p.1
-    by (suc k) p = let below : suc k < 1 = p.0 in absurd (omega (arith, below))
-
 pub shortest_known : (place : ℕ) (own : BoundCond) (content : Content) (keys : List Keys) (parameters : List Value) (user : Name) (key : ℕ) (r : Result (Option KnownKey) Fault)
     → IfOk r (λ found. IfSome found (λ known. (known.key ≡ key) × IsKeyOn place own content keys parameters user known)) → IfOk r (λ found. IfSome found (IsKeyOn place own content keys parameters user))
 shortest_known place own content keys parameters user key (Err e) h = tt

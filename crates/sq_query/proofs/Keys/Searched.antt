@@ -44,7 +44,7 @@ use Rattle.sq_query.specs.Key.{IsKeyOn, StandsOn}
 use Rattle.sq_query.specs.Keyed.{IsKeyedBy, IsKeyedSelect}
 use Rattle.sq_query.specs.Needed.{IsNeeded, ReadsInside, ReadsSelect}
 use Rattle.sq_query.specs.Row.{outside}
-use Rattle.sq_query.specs.Search.{AreBeside, IsOver, IsOverBase, IsReadFor, IsReadWith, IsWhere, with_rows}
+use Rattle.sq_query.specs.Specification.{AreBeside, IsOver, IsOverBase, IsReadFor, IsReadWith, IsWhere, with_rows}
 use Rattle.sq_query.specs.Table.{AreOfStore, ReadsAsMeant, rows_among, rows_read}
 use Rattle.sq_query.specs.Target.{is_true_of}
 use Rattle.sq_query.specs.Union.{AreFitting}
@@ -75,49 +75,10 @@ only_read P q t over reads =
     let from : AllByRecursion P (out-BoundSpecification q).from.tables = (subst (ReadsSelect P) (select_of-out q) reads).0 in
     (subst (AllByRecursion P) over from).0
 
--- the tables of the subqueries of a query specification are read
-pub inside_read : (P : TablePlace → Type 0) (q : PlacedSelect) → ReadsSelect P q → ReadsInside P q
-inside_read P (select distinct list from filter by having) reads = (reads.1, reads.2)
-
-both_read : (P : TablePlace → Type 0) (q : BoundSpecification) (t : TablePlace) (own : BoundCond) → IsOver q t → IsWhere q own → P t → ReadsInside P (select_of q) → ReadsSelect P (select_of q)
-both_read P q t own over is_where first inside =
-    let tree = tree_of q t own over is_where in
-    let others = subst (ReadsInside P) tree inside in
-    subst (ReadsSelect P) (sym tree) ((first, tt), others.0, others.1)
-
 -- the WHERE clause of a query specification may stand on the rows of its only table
 pub where_stands : (columns : TableKinds) (parameters : List Kind) (q : BoundSpecification) (t : TablePlace) (own : BoundCond) → IsOver q t → IsWhere q own → IsSelect columns parameters [] q → StandsOn columns parameters t own
 where_stands columns parameters q t own over is_where well rows_of =
     (subst (WellFormedSelect (by_place rows_of) (kinds_by_place columns parameters) (IsDeclaredAt parameters) []) (tree_of q t own over is_where) (well.stands rows_of)).2
-
--- ---- over other rows of its table, of which WHERE keeps the same
-
-module _ (tables few : TablePlace → Outcome (List Row)) (q : BoundSpecification) (t : TablePlace) (own : BoundCond) (over : IsOver q t) (is_where : IsWhere q own) (values : List Value) (caller : Name)
-    (others : ReadsInside (λ u. tables u ≡ few u) (select_of q)) where
-  abbrev env : Env (Unit {0})
-  env = outermost (inputs_of values) caller
-
-  abbrev list : SelectList (Placed TablePlace)
-  list = expressions (map (expr_of (groups_in q).functions) (out-BoundSpecification q).list)
-
-  -- WHERE on a line
-  abbrev pub line_test : Line → Outcome Bool
-  line_test line = is_true (truth (by_place tables) (cond_of [] own) (outside line values caller))
-
-  abbrev wanted : Line → Outcome Bool
-  wanted = wanted_of tables few (out-BoundSpecification q).distinct list t (present (cond_of [] own)) (groups_in q).columns (groups_in q).having env tables
-
-  wanted_on : (found : List Row) → kept wanted (product (found ∷ [])) ≡ kept line_test (map as_line found)
-  wanted_on found = (λ i. kept (λ line. is_true (clause_alone tables (tt ∷ []) line env (Some own) i)) (product (found ∷ []))) ∙ ap (kept line_test) (flat_map_single as_line found)
-
-  pub same_over_few : (all found : List Row) → tables t ≡ Ok all → few t ≡ Ok found → kept line_test (map as_line all) ≡ kept line_test (map as_line found)
-      → rows (by_place tables) (select_of q) env ≡ rows (by_place few) (select_of q) env
-  same_over_few all found whole some same =
-      let tree = tree_of q t own over is_where in
-      let inside = subst (ReadsInside (λ u. tables u ≡ few u)) tree others in
-      subst (λ (s : PlacedSelect). rows (by_place tables) s env ≡ rows (by_place few) s env) (sym tree)
-      (same_over tables few (out-BoundSpecification q).distinct list t (present (cond_of [] own)) (groups_in q).columns (groups_in q).having env all found whole some inside.0 inside.1
-      (wanted_on all ∙ same ∙ sym (wanted_on found)))
 
 -- ---- one row instead of all
 
@@ -166,38 +127,6 @@ pub with_own : (t : TablePlace) (own : Outcome (List Row)) (tables : TablePlace 
 with_own (Base n) own tables = ap (λ (b : Bool). if b then own else tables (Base n)) (eq-eqb n n refl)
 with_own (View n) own tables = ap (λ (b : Bool). if b then own else tables (View n)) (eq-eqb n n refl)
 
-module _ (own : Outcome (List Row)) (tables : TablePlace → Outcome (List Row)) where
-  with_other : (t u : TablePlace) → (t ≡ u → ⊥) → tables u ≡ with_rows t own tables u
-  with_other (Base m) (View n) apart = refl
-  with_other (View m) (Base n) apart = refl
-  with_other (Base m) (Base n) apart = by (nat_eq m n) refl
-    where
-      by : (b : Bool) → nat_eq m n ≡ b → tables (Base n) ≡ (if b then own else tables (Base n))
-      by false e = refl
-      by true e = absurd (apart (ap (λ (p : ℕ). Base p) (eqb-true m n e)))
-  with_other (View m) (View n) apart = by (nat_eq m n) refl
-    where
-      by : (b : Bool) → nat_eq m n ≡ b → tables (View n) ≡ (if b then own else tables (View n))
-      by false e = refl
-      by true e = absurd (apart (ap (λ (p : ℕ). View p) (eqb-true m n e)))
-
-  pub with_others : (t : TablePlace) (needed : Needed) → (IsNeeded needed t → ⊥) → (u : TablePlace) → IsNeeded needed u → tables u ≡ with_rows t own tables u
-  with_others t needed apart u here = with_other t u (λ same. apart (subst (IsNeeded needed) (sym same) here))
-
-  pub with_fitting : (columns : TableKinds) (t : TablePlace) → Fits AreRowsOf (columns t) own → AreFitting columns tables → AreFitting columns (with_rows t own tables)
-  with_fitting columns (Base m) of_kinds fits (View n) = fits (View n)
-  with_fitting columns (View m) of_kinds fits (Base n) = fits (Base n)
-  with_fitting columns (Base m) of_kinds fits (Base n) = by (nat_eq m n) refl
-    where
-      by : (b : Bool) → nat_eq m n ≡ b → Fits AreRowsOf (columns (Base n)) (if b then own else tables (Base n))
-      by false e = fits (Base n)
-      by true e = subst (λ (p : ℕ). Fits AreRowsOf (columns (Base p)) own) (eqb-true m n e) of_kinds
-  with_fitting columns (View m) of_kinds fits (View n) = by (nat_eq m n) refl
-    where
-      by : (b : Bool) → nat_eq m n ≡ b → Fits AreRowsOf (columns (View n)) (if b then own else tables (View n))
-      by false e = fits (View n)
-      by true e = subst (λ (p : ℕ). Fits AreRowsOf (columns (View p)) own) (eqb-true m n e) of_kinds
-
 -- ---- what was read
 
 -- a base table that stands before the others is found first
@@ -220,32 +149,9 @@ module _ (own : ViewRows) (bases : List BaseRows) (views : List ViewRows) (place
       by true = are
       by false = h
 
-pub read_with_view : (view : ℕ) (found : Outcome (List Row)) (others : Needed) (tables : TablePlace → Outcome (List Row)) (own : ViewRows) (read : Tables) (r : Result Tables Fault) → own.place ≡ view → view_outcome own.rows.items own.failure ≡ found
-    → ReadsAsMeant others (rows_read read) tables → IfOk r (λ all. all.bases.items ≡ read.bases.items) → IfOk r (λ all. all.views.items ≡ own ∷ read.views.items) → IfOk r (IsReadWith (View view) found others tables)
-read_with_view view found others tables own read (Err e) at are as_meant bases views = tt
-read_with_view view found others tables own read (Ok all) at are as_meant bases views = record {
-  own_is = (λ i. rows_among (bases i) (views i) (View view)) ∙ view_first own read.bases.items read.views.items view found at are;
-  others_are = λ t here. (λ i. rows_among (bases i) (views i) t) ∙ behind_view own read.bases.items read.views.items view found at are tables t (as_meant t here);
-}
-
 -- a refusal of memory is an answer
 pub answered_memory : (e : Fault) → e ≡ fault.NoMemory → IsAnswered {A = Tables} (Err e)
 answered_memory e is = subst (λ (f : Fault). IsAnswered {A = Tables} (Err f)) (sym is) tt
-
--- over other rows of its only table, where it has the same rows
-pub read_of_search : (columns : TableKinds) (tables : TablePlace → Outcome (List Row)) (q : BoundSpecification) (values : List Value) (caller : Name) (t : TablePlace) (found : Outcome (List Row)) (own : BoundCond) (others : Needed) (r : Result Tables Fault)
-    → IsOver q t → IsWhere q own → AreBeside q t others → AreFitting columns tables → Fits AreRowsOf (columns t) found
-    → (ReadsInside (λ u. tables u ≡ with_rows t found tables u) (select_of q)
-    → rows (by_place tables) (select_of q) (outermost (inputs_of values) caller) ≡ rows (by_place (with_rows t found tables)) (select_of q) (outermost (inputs_of values) caller))
-    → IfOk r (IsReadWith t found others tables) → IfOk r (IsReadFor columns tables q values caller)
-read_of_search columns tables q values caller t found own others (Err e) over is_where beside fitting fits same read = tt
-read_of_search columns tables q values caller t found own others (Ok all) over is_where beside fitting fits same read =
-    let few = with_rows t found tables in record {
-      rows_of = few;
-      fitting = with_fitting found tables columns t fits fitting;
-      read = both_read (λ u. rows_read all u ≡ few u) q t own over is_where (read.own_is ∙ sym (with_own t found tables)) (inside_weaker (IsNeeded others) (λ u. rows_read all u ≡ few u) read.others_are (select_of q) beside.reads);
-      same = sym (same (inside_weaker (IsNeeded others) (λ u. tables u ≡ few u) (with_others found tables t others beside.apart) (select_of q) beside.reads));
-    }
 
 -- ---- one that names a row by a key whose values are known
 

@@ -54,7 +54,7 @@ use Rattle.sq_query.specs.Needed.{ReadsCond, ReadsSelect, clause_tables, cond_ta
 use Rattle.sq_query.specs.MayRead.{MayRead}
 use Rattle.sq_query.specs.OnRow.{StandsOnRow}
 use Rattle.sq_query.specs.Row.{outside, truth_on_row}
-use Rattle.sq_query.specs.Search.{IsOver, IsReadable, IsWhere}
+use Rattle.sq_query.specs.Specification.{IsOver, IsReadable, IsWhere}
 use Rattle.sq_query.specs.SingleRow.{HasPlainHaving, IsSingleRow, line_if, lines_left, listed_by}
 use Rattle.sq_query.specs.declared.key.KnownKey.{KnownKey}
 use Rattle.sq_query.specs.declared.single_row.SingleRow.{SingleRow}

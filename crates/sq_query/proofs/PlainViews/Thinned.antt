@@ -23,7 +23,7 @@ use Rattle.sq_bound.specs.NotNull.{is_not_null}
 use Rattle.sq_bound.specs.WellFormed.{base_kinds}
 use Rattle.sq_bound.specs.declared.names.BaseColumn.{BaseColumn}
 use Rattle.sq_bound.specs.declared.names.BaseTable.{BaseTable}
-use Rattle.sq_query.specs.Search.{rows_by_key}
+use Rattle.sq_query.specs.Specification.{rows_by_key}
 use Rattle.sq_query.specs.Several.{rows_by_values}
 use Rattle.sq_query.specs.Valued.{may_have_one, rows_with_one}
 use Rattle.sq_query.specs.declared.key.KnownKey.{KnownKey}

@@ -16,7 +16,7 @@ use Rattle.sq_bound.specs.WellFormed.{TableKinds, before_view, kinds_of_select}
 use Rattle.sq_bound.specs.declared.condition.BoundSpecification.{BoundSpecification}
 use Rattle.sq_bound.specs.declared.condition.TablePlace.{TablePlace}
 use Rattle.sq_bound.specs.declared.condition.TablePlace.TheVariants.{Base, View}
-use Rattle.sq_query.specs.Search.{with_rows}
+use Rattle.sq_query.specs.Specification.{with_rows}
 use Rattle.sq_query.specs.Shown.{AreRight, AreShown, Asks, IsPath, IsPlainView, first_of, shown_of}
 use Rattle.sq_query.specs.Table.{AreMeant, rows_of_view}
 use Rattle.sq_query.specs.Union.{AreFitting}

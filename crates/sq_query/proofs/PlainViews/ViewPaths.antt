@@ -15,7 +15,7 @@ use Rattle.sq_expression.specs.Fault.{IsRight}
 use Rattle.sq_expression.specs.Frame.{view_outcome}
 use Rattle.sq_expression.specs.declared.fault.Fault.{Fault}
 use Rattle.sq_expression.specs.declared.table.ViewRows.{ViewRows}
-use Rattle.sq_query.specs.Search.{IsOver, with_rows}
+use Rattle.sq_query.specs.Specification.{IsOver, with_rows}
 use Rattle.sq_query.specs.Shown.{AreRight, AreShown, Asks, AsksAt, IsPath, IsPlainOver, IsPlainView, first_of, shown_of}
 use Rattle.sq_query.specs.Table.{IsViewAt, rows_of_view}
 use Rattle.sq_query.proofs.Keys.KnownKeys.{same_some}
@@ -155,11 +155,3 @@ module _ (own : List Row) (tables : TablePlace → Outcome (List Row)) (user : N
       let v = path.0 in
       let same = ap (λ (o : Option BoundSpecification). and_then (well_formed o) (rows_of_view (few_of views) user)) v.is_query in
       subst (IsShownOf r) (sym same) (shows v.query v.is_query v.plain (subst (λ (o : Outcome (List Row)). IsRight o) same right.0))
-
--- the same of rows that are told otherwise
-pub shown_alike : (tables : TablePlace → Outcome (List Row)) (user : Name) (columns : TableKinds) (queries : List BoundSpecification) (view : ℕ) (own found : List Row) (place base : ℕ) (P : Outcome (List Row) → Type 0) → place ≡ base → own ≡ found
-    → ((views : List ℕ) → IsPath columns queries (view ∷ views) place → AreRight own tables user queries place (view ∷ views) → P (shown_of own tables user queries place (view ∷ views)))
-    → (views : List ℕ) → IsPath columns queries (view ∷ views) base → AreRight found tables user queries base (view ∷ views) → P (shown_of found tables user queries base (view ∷ views))
-shown_alike tables user columns queries view own found place base P at are shows =
-    subst (λ (n : ℕ). (views : List ℕ) → IsPath columns queries (view ∷ views) n → AreRight found tables user queries n (view ∷ views) → P (shown_of found tables user queries n (view ∷ views))) at
-    (subst (λ (rows : List Row). (views : List ℕ) → IsPath columns queries (view ∷ views) place → AreRight rows tables user queries place (view ∷ views) → P (shown_of rows tables user queries place (view ∷ views))) are shows)

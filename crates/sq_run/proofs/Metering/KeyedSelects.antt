@@ -58,7 +58,7 @@ use Rattle.sq_module.specs.declared.program.Program.{Program}
 use Rattle.sq_expression.specs.Frame.{inputs_of}
 use Rattle.sq_query.specs.Keyed.{IsKeyedSelect}
 use Rattle.sq_query.specs.Needed.{clause_tables, cond_tables, conds_tables, inside_tables}
-use Rattle.sq_query.specs.Search.{IsOverBase}
+use Rattle.sq_query.specs.Specification.{IsOverBase}
 use Rattle.sq_query.proofs.Keys.KeyNames.{base_keys}
 use Rattle.sq_query.proofs.Keys.Searched.{where_stands}
 use Rattle.sq_session.specs.Parameter.{started_values}

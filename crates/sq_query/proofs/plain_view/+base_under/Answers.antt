@@ -1,7 +1,7 @@
 -- Left open for base_under: what the call of base_under asks for, and its result; answered by ViewPaths.
 use Rattle.std.proofs.Common.{rules, [], arith, ◌<◌, subst}
 use Rattle.sq_bound.specs.declared.condition.TablePlace.TheVariants.{Base, View}
-use Rattle.sq_query.specs.Search.{IsOver}
+use Rattle.sq_query.specs.Specification.{IsOver}
 use Rattle.sq_query.specs.Shown.{IsPlainOver}
 use Rattle.sq_query.proofs.PlainViews.ViewPaths.{path_more, plain_view, under_earlier, under_known}
 use Rattle.sq_query.proofs.plain_view.+base_under.Goals as goal

@@ -1,7 +1,7 @@
 -- Left open for column_under: what the call of column_under asks for, and its result; answered by ViewPaths.
 use Rattle.std.proofs.Common.{rules, [], ◌∷◌, arith, ◌<◌, refl, subst}
 use Rattle.sq_bound.specs.declared.condition.TablePlace.TheVariants.{Base, View}
-use Rattle.sq_query.specs.Search.{IsOver}
+use Rattle.sq_query.specs.Specification.{IsOver}
 use Rattle.sq_query.specs.Shown.{IsPlainOver}
 use Rattle.sq_query.proofs.PlainViews.ViewPaths.{column_more, plain_view, shows_at, under_earlier, under_known}
 use Rattle.sq_query.proofs.plain_view.+column_under.Goals as goal

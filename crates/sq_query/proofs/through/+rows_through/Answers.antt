@@ -4,7 +4,7 @@ use Rattle.sq_meaning.specs.Environment.{Row}
 use Rattle.sq_meaning.specs.Status.{Outcome}
 use Rattle.sq_bound.specs.declared.condition.TablePlace.TheVariants.{Base, View}
 use Rattle.sq_expression.specs.Frame.{lent}
-use Rattle.sq_query.specs.Search.{IsOver}
+use Rattle.sq_query.specs.Specification.{IsOver}
 use Rattle.sq_query.specs.Shown.{AreRight, IsPath, shown_of}
 use Rattle.sq_query.specs.Table.{rows_among}
 use Rattle.sq_query.proofs.Keys.KeyTests.{if_some}

@@ -2,7 +2,7 @@
 use Rattle.std.proofs.Common.{ap, arith, rules, sym, ◌∙◌}
 use Rattle.std.specs.Prelude.{option_copied}
 use Rattle.sq_bound.specs.declared.query.BoundTerm.TheVariants.{Bracketed}
-use Rattle.sq_query.specs.Search.{IsReadable}
+use Rattle.sq_query.specs.Specification.{IsReadable}
 use Rattle.sq_query.specs.Union.{rows_behind}
 use Rattle.sq_query.proofs.ByUnion.QuerySizes.{bracketed_smaller, first_smaller, union_smaller}
 use Rattle.sq_query.proofs.Needs.ReadRows.{fitting}
