@@ -4,7 +4,6 @@ use Rattle.std.specs.Prelude.{⊤, ◌≡◌, ◌&&◌, ℕ, nat_eq, nat_lt, Boo
 use Rattle.std.specs.List.{AllZip, list_all, list_any}
 use Rattle.std.specs.Option.{option_and_then}
 use Rattle.sq_lex.specs.declared.name.Name.{Name}
-use Rattle.sq_value.specs.declared.value.Value.{Value}
 use Rattle.sq_tree.specs.declared.expr.SetFunction.{SetFunction}
 use Rattle.sq_tree.specs.declared.expr.SetFunction.TheVariants.{Count, Sum, Avg, Min, Max}
 use Rattle.sq_meaning.specs.Environment.{Row}

@@ -89,7 +89,9 @@ fn how_of_item<N: Names>(
     let TablePlace::Base(base) = tables[seen.item] else {
         return Ok(How::Whole);
     };
-    if elsewhere.contains(TablePlace::Base(base)) || !is_once(TablePlace::Base(base), seen.item, tables) {
+    if elsewhere.contains(TablePlace::Base(base))
+        || !is_once(TablePlace::Base(base), seen.item, tables)
+    {
         return Ok(How::Whole);
     }
     match names.bases().get(base) {

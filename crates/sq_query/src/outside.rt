@@ -37,7 +37,9 @@ pub(crate) fn tables_of_items<'a, N: Names, S: Store>(
     let found = rows_looked_up(query, store, call, meter)?;
     let shown = views_named(names, query, found.as_slice(), store, call, meter)?;
     let others = Needed::of_specification(call.alloc, query)?;
-    let left = others.without(found.as_slice()).without_views(shown.as_slice());
+    let left = others
+        .without(found.as_slice())
+        .without_views(shown.as_slice());
     let tables = tables_of(names, Ok(left), store, call, meter)?;
     with_views(shown, with_bases(found, tables)?)
 }

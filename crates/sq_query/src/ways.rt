@@ -6,15 +6,15 @@ ghost use Rattle.std.specs.List.{AllByRecursion};
 ghost use Rattle.sq_bound.specs.Joined.{specifications_of, term_specifications};
 ghost use Rattle.sq_query.specs.Needed.{FindsSelect};
 
-use crate::elsewhere::{beside_term, beside_test, with_around, with_lines_of, with_subqueries};
 use crate::asked::itself;
+use crate::elsewhere::{beside_term, beside_test, with_around, with_lines_of, with_subqueries};
 use crate::item_hows::{how_of_base, hows_of_items, hows_with_views};
 use crate::lookup::Lookup;
 use crate::named::Sure;
 use crate::named_exprs::{Seen, is_one_row};
 use crate::needed::Needed;
-use crate::specification::over_base;
 use crate::single_row::has_query_in_having;
+use crate::specification::over_base;
 use crate::way::{How, KeyPlace, Way};
 use sq_bound::{
     BaseTable, BoundCond, BoundConj, BoundQuery, BoundSpecification, BoundTerm, Names, Predicate,

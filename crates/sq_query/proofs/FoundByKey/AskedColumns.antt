@@ -1,7 +1,6 @@
 -- The columns by which a base table is asked for the rows of an item: its own, or those that a plain view shows (ISO/IEC 9075:1992, 7.4 and 11.19).
 use Rattle.std.proofs.Common.{◌≡◌, ◌+◌, ℕ, zero, suc, List, ◌∷◌, [], ◌++◌, inl, inr, length, slice_get, Option, Some, None, Result, Vec, Global, Bor, arith, refl, sym, subst, Ok, Err}
 use Rattle.std.specs.Prelude.{IfOk, IfSome}
-use Rattle.std.specs.List.{AllZip}
 use Rattle.sq_value.specs.declared.value.Value.{Value}
 use Rattle.sq_store.specs.Content.{Content}
 use Rattle.sq_store.specs.Keys.{Keys, key_at}
@@ -34,10 +33,13 @@ through_shown through F own shown (Ok (Some values)) at h = (shown, at, h)
 -- what names rows by some columns names them by others, if each stands for another
 pub named_weaker : (F G : ℕ → List Value → Type 0) → ((n : ℕ) (vs : List Value) → F n vs → G n vs) → (content : Content) (keys : List Keys) (own : BaseRows) → IsNamed F content keys own → IsNamed G content keys own
 named_weaker F G so content keys own (inl (known, h)) =
-    inl (known, record {
-      named = record { key = h.named.key; named = zip_weaker (IsOneOf F) (IsOneOf G) (λ n v f. so n (v ∷ []) f) (key_at keys own.place known.key) known.values h.named.named };
-      are = h.are;
-    })
+    inl (
+      known,
+      record {
+        named = record { key = h.named.key; named = zip_weaker (IsOneOf F) (IsOneOf G) (λ n v f. so n (v ∷ []) f) (key_at keys own.place known.key) known.values h.named.named };
+        are = h.are;
+      },
+    )
 named_weaker F G so content keys own (inr (inl (known, h))) =
     inr (inl (known, record { named = record { key = h.named.key; named = (h.named.named.0, h.named.named.1, so h.named.named.0 known.values.items h.named.named.2) }; are = h.are }))
 named_weaker F G so content keys own (inr (inr (n, vs, h))) = inr (inr (n, vs, record { named = so n vs h.named; are = h.are }))

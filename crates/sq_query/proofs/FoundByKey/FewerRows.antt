@@ -1,6 +1,6 @@
 -- Of the base table of one item of FROM rows may be left out: a query specification has the same rows over those that are left, if WHERE is
 -- false on each line with one that is not (ISO/IEC 9075:1992, 7.4 to 7.6).
-use Rattle.std.proofs.Common.{◌≡◌, ◌∙◌, ◌<◌, ℕ, Bool, true, false, true≢false, List, ◌∷◌, cond, length, map, nat_eq, slice_get, Option, Some, None, refl, sym, ap, subst, Ok, Err}
+use Rattle.std.proofs.Common.{◌≡◌, ◌∙◌, ◌<◌, ℕ, Bool, true, false, List, ◌∷◌, cond, length, nat_eq, slice_get, Option, Some, None, refl, sym, ap, subst, Ok, Err}
 use Rattle.std.specs.Prelude.{IfSome, filter, if◌then◌else◌}
 use Rattle.std.specs.List.{AllByRecursion, AllZip, Contains}
 use Rattle.std.proofs.lemmas.Bool.{eqb-true}
@@ -9,10 +9,9 @@ use Rattle.sq_value.specs.declared.domain.Kind.{Kind}
 use Rattle.sq_value.specs.declared.value.Value.{Value}
 use Rattle.sq_store.specs.Content.{Content, table_at}
 use Rattle.sq_store.specs.declared.table.Table.{Table}
-use Rattle.sq_meaning.specs.Environment.{Env, Line, Row, Scope, alone, within}
+use Rattle.sq_meaning.specs.Environment.{Env, Line, Row, Scope}
 use Rattle.sq_meaning.specs.Placed.{by_place}
 use Rattle.sq_meaning.specs.Query.{clause_truth, is_true, rows}
-use Rattle.sq_meaning.specs.Rows.{product}
 use Rattle.sq_meaning.specs.Status.{Outcome, and_then}
 use Rattle.sq_meaning.specs.Tables.{rows_in}
 use Rattle.sq_meaning.specs.WellFormed.{AreRowsOf, Answers, Fits, Has, HasValue, IsDeclaredAt, IsRowOf, WellFormedSelect, WellFormedTable, kinds_by_place}
@@ -20,12 +19,11 @@ use Rattle.sq_meaning.proofs.AnswerLaws.{all_true, all_weaker, fits_there}
 use Rattle.sq_bound.specs.Condition.{select_of}
 use Rattle.sq_bound.specs.Fits.{has_its_values, not_nulls_hold}
 use Rattle.sq_bound.specs.WellFormed.{BasesAreThere, Levels, TableKinds}
-use Rattle.sq_bound.specs.declared.condition.BoundSpecification.{BoundSpecification, out-BoundSpecification}
+use Rattle.sq_bound.specs.declared.condition.BoundSpecification.{BoundSpecification}
 use Rattle.sq_bound.specs.declared.condition.TablePlace.{TablePlace}
 use Rattle.sq_bound.specs.declared.condition.TablePlace.TheVariants.{Base, View}
 use Rattle.sq_bound.specs.declared.names.BaseTable.{BaseTable}
 use Rattle.sq_bound.proofs.ConditionLaws.{select_of-out}
-use Rattle.sq_condition.proofs.Lone.{clause_alone}
 use Rattle.sq_expression.specs.Frame.{inputs_of, lent}
 use Rattle.sq_expression.specs.declared.table.BaseRows.{BaseRows}
 use Rattle.sq_expression.proofs.Kept.{ok_same}
@@ -36,7 +34,7 @@ use Rattle.sq_query.specs.Sought.{IsRowAmong, found_of}
 use Rattle.sq_query.specs.Table.{stored_rows}
 use Rattle.sq_query.specs.Union.{AreFitting}
 use Rattle.sq_query.specs.declared.needed.Needed.{Needed}
-use Rattle.sq_query.proofs.FoundByKey.ItemRows.{all_if, all_stay, contained, fewer_fit, found_none, one_of_all, only_item, row_lacks, rows_mapped, same_over_lines, where_in}
+use Rattle.sq_query.proofs.FoundByKey.ItemRows.{all_if, all_stay, contained, fewer_fit, found_none, one_of_all, rows_mapped, where_in}
 use Rattle.sq_query.proofs.FoundByKey.OneTable as one
 use Rattle.sq_query.proofs.Keys.KeyColumns.{rows_have_values}
 use Rattle.sq_query.proofs.Keys.KeyNames.{element_at}

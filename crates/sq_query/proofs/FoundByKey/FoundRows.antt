@@ -20,25 +20,21 @@ use Rattle.sq_meaning.specs.Query.{clause_truth, is_true, rows}
 use Rattle.sq_meaning.specs.Status.{Outcome, and_then, not_well_formed, well_formed}
 use Rattle.sq_meaning.specs.Sure.{IsSureOutcome}
 use Rattle.sq_meaning.specs.Tables.{rows_in}
-use Rattle.sq_meaning.specs.WellFormed.{Has, IsDeclaredAt, IsRowOf, WellFormedClause, WellFormedSelect, kinds_by_place, of_lines}
-use Rattle.sq_meaning.proofs.AnswerLaws.{all_weaker}
+use Rattle.sq_meaning.specs.WellFormed.{Has, IsDeclaredAt, IsRowOf, WellFormedSelect, kinds_by_place}
 use Rattle.sq_bound.specs.Condition.{clause_of, cond_of, select_of}
 use Rattle.sq_bound.specs.Fits.{has_its_values, keys_of_bases, not_nulls_hold}
-use Rattle.sq_bound.specs.Noted.{AreNotedTests, HasNotes, IsNoted, IsNotedTest, SelectIsNoted, may_fail}
+use Rattle.sq_bound.specs.Noted.{SelectIsNoted, may_fail}
 use Rattle.sq_bound.specs.WellFormed.{BasesAreThere, Levels, TableKinds}
-use Rattle.sq_bound.specs.declared.condition.BoundCond.{BoundCond, out-BoundCond}
-use Rattle.sq_bound.specs.declared.condition.BoundConj.{out-BoundConj}
-use Rattle.sq_bound.specs.declared.condition.BoundSpecification.{BoundSpecification, out-BoundSpecification}
+use Rattle.sq_bound.specs.declared.condition.BoundCond.{BoundCond}
+use Rattle.sq_bound.specs.declared.condition.BoundSpecification.{BoundSpecification}
 use Rattle.sq_bound.specs.declared.condition.TablePlace.{TablePlace}
 use Rattle.sq_bound.specs.declared.condition.TablePlace.TheVariants.{Base, View}
 use Rattle.sq_bound.specs.declared.names.BaseTable.{BaseTable}
-use Rattle.sq_bound.proofs.ConditionLaws.{select_of-out}
-use Rattle.sq_bound.proofs.Nested.{select_itself}
 use Rattle.sq_expression.specs.Frame.{inputs_of, lent, scopes_beyond}
 use Rattle.sq_expression.specs.declared.table.BaseRows.{BaseRows}
 use Rattle.sq_query.specs.Around.{AreRowsAround, IsAround, IsStanding, beneath}
 use Rattle.sq_query.specs.Items.{IsByKey, IsNamed, IsNoneNeeded, IsReadOf, is_empty_item, items_of, over, rows_or}
-use Rattle.sq_query.specs.Named.{AreTrusted, AreTrustedIn, HasOther, IsFalseOn, IsOneOf, IsTrusted, StandsOnLines}
+use Rattle.sq_query.specs.Named.{AreTrustedIn, HasOther, IsFalseOn, IsOneOf, StandsOnLines}
 use Rattle.sq_query.specs.Needed.{IsNeeded, ReadsInside}
 use Rattle.sq_query.specs.Several.{has_one_of}
 use Rattle.sq_query.specs.Sought.{IsRowAmong, found_of}
@@ -54,7 +50,6 @@ use Rattle.sq_query.proofs.FoundByKey.FewerRows as few
 use Rattle.sq_query.proofs.FoundByKey.ItemRows.{filter_mapped, filter_nothing, filter_one, no_line_among, where_in, zip_at, zip_weaker}
 use Rattle.sq_query.proofs.Keys.KeyColumns.{key_not_null, key_value}
 use Rattle.sq_query.proofs.Keys.KeyLacked.{lacked}
-use Rattle.sq_query.proofs.Keys.KeyTests.{if_some}
 use Rattle.sq_query.proofs.Keys.KeysSearch.{none_same, only_one}
 use Rattle.sq_query.proofs.Keys.OnlyOne.{at_most_one, distinct_at}
 use Rattle.sq_query.proofs.FoundByKey.WhereOnLines.{where_on_lines, where_trusted}

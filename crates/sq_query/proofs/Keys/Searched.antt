@@ -1,10 +1,9 @@
 -- Where a query specification is over one table, of which WHERE keeps the same among some of its rows, it has the rows that it has over those alone.
-use Rattle.std.proofs.Common.{◌≡◌, ◌∙◌, ℕ, Bool, true, false, List, [], ◌∷◌, Option, Some, None, Result, cond, find, map, slice_get, refl, sym, ap, subst, Ok, Err}
-use Rattle.std.specs.Prelude.{IfOk, if◌then◌else◌, nat_eq, option_to_list}
+use Rattle.std.proofs.Common.{◌≡◌, ◌∙◌, ℕ, Bool, true, false, List, [], ◌∷◌, Option, Some, None, cond, find, map, slice_get, refl, sym, ap, subst, Ok, Err}
+use Rattle.std.specs.Prelude.{if◌then◌else◌, nat_eq, option_to_list}
 use Rattle.std.specs.List.{AllByRecursion}
 use Rattle.std.specs.Option.{option_map}
-use Rattle.std.proofs.lemmas.Bool.{eq-eqb, eqb-true}
-use Rattle.std.proofs.lemmas.List.Concat.{flat_map_single}
+use Rattle.std.proofs.lemmas.Bool.{eq-eqb}
 use Rattle.std.proofs.lemmas.Simd.{map-map}
 use Rattle.sq_lex.specs.declared.name.Name.{Name}
 use Rattle.sq_value.specs.declared.domain.Kind.{Kind}
@@ -13,17 +12,15 @@ use Rattle.sq_store.specs.Content.{Content, table_at}
 use Rattle.sq_store.specs.Keys.{Keys, are_keyed, has_key, key_at, keys_at, with_key}
 use Rattle.sq_store.specs.declared.table.Numbered.{Numbered}
 use Rattle.sq_store.specs.declared.table.Table.{Table}
-use Rattle.sq_meaning.specs.Environment.{Env, Line, Row, outermost}
-use Rattle.sq_meaning.specs.Placed.{Placed, by_place}
-use Rattle.sq_meaning.specs.Query.{is_true, rows, truth}
-use Rattle.sq_meaning.specs.Rows.{product}
+use Rattle.sq_meaning.specs.Environment.{Line, Row}
+use Rattle.sq_meaning.specs.Placed.{by_place}
+use Rattle.sq_meaning.specs.Query.{is_true, truth}
 use Rattle.sq_meaning.specs.Status.{Outcome, and_then, kept, well_formed}
-use Rattle.sq_meaning.specs.Syntax.{SelectList, expressions, present, select}
+use Rattle.sq_meaning.specs.Syntax.{present}
 use Rattle.sq_meaning.specs.Tables.{rows_in}
-use Rattle.sq_meaning.specs.WellFormed.{AreRowsOf, Fits, IsDeclaredAt, IsRowOf, WellFormedSelect, kinds_by_place}
+use Rattle.sq_meaning.specs.WellFormed.{IsDeclaredAt, IsRowOf, WellFormedSelect, kinds_by_place}
 use Rattle.sq_meaning.proofs.OutcomeLaws.{kept_map}
 use Rattle.sq_bound.specs.Condition.{Groups, PlacedSelect, clause_of, cond_of, groups_if, groups_of, select_by, select_of}
-use Rattle.sq_bound.specs.Expression.{expr_of}
 use Rattle.sq_bound.specs.Fits.{keys_of_bases, not_nulls_hold}
 use Rattle.sq_bound.specs.WellFormed.{IsSelect, TableKinds, base_kinds}
 use Rattle.sq_bound.specs.declared.condition.BoundCond.{BoundCond}
@@ -33,27 +30,22 @@ use Rattle.sq_bound.specs.declared.condition.TablePlace.TheVariants.{Base, View}
 use Rattle.sq_bound.specs.declared.names.BaseTable.{BaseTable}
 use Rattle.sq_bound.proofs.ConditionLaws.{select_of-out}
 use Rattle.sq_condition.specs.Specification.{as_line}
-use Rattle.sq_condition.proofs.Lone.{clause_alone}
 use Rattle.sq_expression.specs.Fault.{IsAnswered}
-use Rattle.sq_expression.specs.Frame.{inputs_of, lent, view_outcome}
+use Rattle.sq_expression.specs.Frame.{lent, view_outcome}
 use Rattle.sq_expression.specs.declared.fault.Fault.{Fault}
 use Rattle.sq_expression.specs.declared.fault.Fault.TheVariants as fault
 use Rattle.sq_expression.specs.declared.table.BaseRows.{BaseRows}
 use Rattle.sq_expression.specs.declared.table.ViewRows.{ViewRows}
 use Rattle.sq_query.specs.Key.{IsKeyOn, StandsOn}
 use Rattle.sq_query.specs.Keyed.{IsKeyedBy, IsKeyedSelect}
-use Rattle.sq_query.specs.Needed.{IsNeeded, ReadsInside, ReadsSelect}
+use Rattle.sq_query.specs.Needed.{ReadsSelect}
 use Rattle.sq_query.specs.Row.{outside}
-use Rattle.sq_query.specs.Specification.{AreBeside, IsOver, IsOverBase, IsReadFor, IsReadWith, IsWhere, with_rows}
-use Rattle.sq_query.specs.Table.{AreOfStore, ReadsAsMeant, rows_among, rows_read}
+use Rattle.sq_query.specs.Specification.{IsOver, IsOverBase, IsWhere, with_rows}
+use Rattle.sq_query.specs.Table.{AreOfStore, rows_among}
 use Rattle.sq_query.specs.Target.{is_true_of}
-use Rattle.sq_query.specs.Union.{AreFitting}
 use Rattle.sq_query.specs.declared.key.KnownKey.{KnownKey}
-use Rattle.sq_query.specs.declared.needed.Needed.{Needed}
 use Rattle.sq_query.specs.declared.view.Tables.{Tables}
 use Rattle.sq_query.proofs.Keys.KeySearch.{decided, rows_kept}
-use Rattle.sq_query.proofs.Needs.NeededViews.{inside_weaker}
-use Rattle.sq_query.proofs.Needs.SameTables.{same_over, wanted_of}
 use Rattle.sq_query.proofs.Targets.WalkedRows.{there_within}
 
 -- ---- the tree of such a query specification

@@ -1,15 +1,15 @@
 -- Over what plain views in FROM show of the rows that WHERE names a query specification outside every query has the rows that it has over all rows
 -- of the views (ISO/IEC 9075:1992, 7.4 to 7.6 and 11.19).
-use Rattle.std.proofs.Common.{◌≡◌, ◌∙◌, ◌<◌, ◌⊎◌, inl, inr, ℕ, Bool, true, false, List, [], ◌∷◌, cond, filter, find, get_or, length, map, nat_eq, slice_get, Option, Some, None, Result, refl, sym, ap, subst, Ok, Err}
-use Rattle.std.specs.Prelude.{IfOk, IfSome, if◌then◌else◌, option_to_list, ◌++◌}
-use Rattle.std.specs.List.{AllByRecursion, AllZip, list_any}
-use Rattle.std.proofs.lemmas.Bool.{eq-eqb, eqb-true}
+use Rattle.std.proofs.Common.{◌≡◌, ◌∙◌, ◌<◌, inl, inr, ℕ, Bool, true, false, List, [], ◌∷◌, cond, filter, find, get_or, length, nat_eq, slice_get, Option, Some, None, refl, sym, ap, subst, Ok}
+use Rattle.std.specs.Prelude.{IfSome, if◌then◌else◌, option_to_list, ◌++◌}
+use Rattle.std.specs.List.{AllByRecursion, AllZip}
+use Rattle.std.proofs.lemmas.Bool.{eqb-true}
 use Rattle.sq_lex.specs.declared.name.Name.{Name}
 use Rattle.sq_value.specs.declared.domain.Kind.{Kind}
 use Rattle.sq_value.specs.declared.value.Value.{Value}
 use Rattle.sq_value.proofs.Truths.{neither_left, neither_right}
 use Rattle.sq_store.specs.Content.{Content, table_at}
-use Rattle.sq_store.specs.Keys.{Keys, are_keyed, key_at, keys_at}
+use Rattle.sq_store.specs.Keys.{Keys, are_keyed, key_at}
 use Rattle.sq_store.specs.declared.table.Numbered.{Numbered}
 use Rattle.sq_meaning.specs.Environment.{Line, Row, outermost}
 use Rattle.sq_meaning.specs.Placed.{by_place}
@@ -34,16 +34,14 @@ use Rattle.sq_expression.specs.declared.table.BaseRows.{BaseRows}
 use Rattle.sq_expression.specs.declared.table.ViewRows.{ViewRows}
 use Rattle.sq_query.specs.Around.{beneath}
 use Rattle.sq_query.specs.Asked.{IsFalseUnder}
-use Rattle.sq_query.specs.Items.{HasKeyRows, HasKeysRows, HasValueRows, IsNamed, items_of, over, rows_or}
+use Rattle.sq_query.specs.Items.{IsNamed, items_of, over}
 use Rattle.sq_query.specs.MayRead.{MayRead}
 use Rattle.sq_query.specs.Named.{AreTrustedIn, HasOther, IsFalseOn, IsOneOf}
 use Rattle.sq_query.specs.Needed.{IsNeeded, ReadsInside, ReadsSelect}
 use Rattle.sq_query.specs.Shown.{AreShown}
-use Rattle.sq_query.specs.Sought.{IsRowAmong, found_of, nothing_around}
+use Rattle.sq_query.specs.Sought.{IsRowAmong, nothing_around}
 use Rattle.sq_query.specs.Union.{AreFitting}
-use Rattle.sq_query.specs.ViewItems.{AreServed, IsShownItem, ServeViews, is_shown, shown_or, showing}
-use Rattle.sq_query.specs.declared.key.KnownKey.{KnownKey}
-use Rattle.sq_query.specs.declared.key.KnownKeys.{KnownKeys}
+use Rattle.sq_query.specs.ViewItems.{AreServed, IsShownItem, is_shown, shown_or, showing}
 use Rattle.sq_query.specs.declared.named.Sure.TheVariants.{Noted}
 use Rattle.sq_query.specs.declared.needed.Needed.{Needed}
 use Rattle.sq_query.proofs.FoundByKey.FewerRows.{among_found, kinds_of}

@@ -1,5 +1,5 @@
 -- Left open for columns_under: that the loop keeps its invariant; answered by AskedColumns.
-use Rattle.std.proofs.Common.{◌∙◌, ◌+◌, ℕ, List, Option, ◌∷◌, [], ◌++◌, ap, arith, length, subst, sym, Some, ◌≡◌, slice_get}
+use Rattle.std.proofs.Common.{◌∙◌, ◌+◌, ◌∷◌, [], ap, length, subst, sym}
 use Rattle.std.specs.Prelude.{IfSome}
 use Rattle.sq_query.specs.Asked.{AreUnder}
 use Rattle.sq_query.specs.Shown.{AreShown}

@@ -1,5 +1,5 @@
 -- Left open for rows_under: the clause found; answered by AskedColumns.
-use Rattle.std.proofs.Common.{ℕ, List, Option, ◌∷◌, subst, sym}
+use Rattle.std.proofs.Common.{◌∷◌, subst, sym}
 use Rattle.sq_query.specs.Asked.{AreUnder}
 use Rattle.sq_query.specs.Named.{IsFalseOf}
 use Rattle.sq_query.specs.declared.named.Sure.TheVariants.{Noted}

@@ -1,8 +1,5 @@
 -- Left open for shown_item: what its calls ask for, and the clause shown; answered by ViewItems and others.
 use Rattle.std.proofs.Common.{◌≡◌, ◌∙◌, ◌<◌, ℕ, length, List, Option, Some, ◌∷◌, [], ap, subst, sym}
-use Rattle.sq_value.specs.declared.value.Value.{Value}
-use Rattle.sq_meaning.specs.Environment.{Row}
-use Rattle.sq_meaning.specs.Status.{Outcome}
 use Rattle.sq_meaning.specs.WellFormed.{HasValue}
 use Rattle.sq_bound.specs.Condition.{cond_of}
 use Rattle.sq_bound.specs.declared.condition.TablePlace.{TablePlace}
