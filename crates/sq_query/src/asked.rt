@@ -80,7 +80,8 @@ pub(crate) fn columns_under<N: Names>(
 ) -> Result<Vec<Option<usize>>, AllocError>
     requires there { BasesAreThere (N.base_tables names.now) (N.column_kinds names.now) }
     requires known { HasValue (N.column_kinds names.now (at_place.View view)) }
-    ensures { (views : List ℕ) (base : ℕ) → IsPath (N.column_kinds names.now) (N.view_queries names.now) (view ∷ views) base
+    ensures { (views : List ℕ) (base : ℕ)
+        → IsPath (N.column_kinds names.now) (N.view_queries names.now) (view ∷ views) base
         → IfOk result (λ columns. AreUnder (N.view_queries names.now) (view ∷ views) columns.items) }
 {
     let count = view_at(names, view).query.list.as_slice().len();
@@ -95,7 +96,8 @@ pub(crate) fn columns_under<N: Names>(
 fn own_under<N: Names>(names: &N, view: usize, column: usize) -> Option<usize>
     requires there { BasesAreThere (N.base_tables names.now) (N.column_kinds names.now) }
     requires known { HasValue (N.column_kinds names.now (at_place.View view)) }
-    ensures { (views : List ℕ) (base : ℕ) → IsPath (N.column_kinds names.now) (N.view_queries names.now) (view ∷ views) base
+    ensures { (views : List ℕ) (base : ℕ)
+        → IsPath (N.column_kinds names.now) (N.view_queries names.now) (view ∷ views) base
         → IfSome result (λ own. AreShown (N.view_queries names.now) (view ∷ views) (own ∷ []) (column ∷ [])) }
 {
     match column_under(names, view, column) {

@@ -66,7 +66,8 @@ pub(crate) fn keys_of_condition<S: Store>(
 ) -> Result<Option<KnownKeys>, Fault>
     requires there { base < length (S.content_now store.now) }
     ensures known { IfOk result
-        (λ found. IfSome found (AreKeysOn base condition.now (S.content_now store.now) (S.key_columns store.now)
+        (λ found. IfSome found
+        (AreKeysOn base condition.now (S.content_now store.now) (S.key_columns store.now)
         call.now.parameters.now call.now.user)) }
     ensures memory { IfErr result (λ fault. fault ≡ Fault.NoMemory) }
 {

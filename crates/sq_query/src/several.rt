@@ -104,7 +104,8 @@ pub(crate) fn without_numbers<'a>(
     alloc: Global,
     numbered: &[(u64, &'a Row)],
 ) -> Result<Vec<&'a Row>, AllocError>
-    ensures { IfOk result (λ rows. rows.items ≡ map (λ (found : ℕ × Bor (List AnyValue)). found.1) numbered.now) }
+    ensures { IfOk result
+        (λ rows. rows.items ≡ map (λ (found : ℕ × Bor (List AnyValue)). found.1) numbered.now) }
 {
     let mut rows = Vec::new(alloc);
     for found in numbered {

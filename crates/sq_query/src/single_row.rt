@@ -183,7 +183,8 @@ fn line_of_row<'a, N: Names, S: Store>(
         call.now.parameters.now parameters tables
         → StandsOnRow (N.column_kinds names.now) parameters row.now condition.now
         → MeetsAs lines_in result (and_then (meaning.is_true
-        (truth_on_row tables call.now.parameters.now call.now.user row.now condition.now)) (line_if row.now)) }
+        (truth_on_row tables call.now.parameters.now call.now.user row.now condition.now))
+        (line_if row.now)) }
     ensures read { has_subquery (cond_of [] condition.now) ≡ false → meter.new ≡ meter.old }
 {
     let truth = truth_with_tables(names, condition, row, true, store, call, meter);

@@ -43,7 +43,8 @@ pub(crate) fn views_named<N: Names, S: Store>(
     requires { IsReadable (N.base_tables names.now) (N.column_kinds names.now) (S.content_now store.now)
         (S.key_columns store.now) query.now }
     ensures answered { IsAnswered result }
-    ensures shown { IfOk result (λ shown. ServeViews query.now (N.base_tables names.now) (N.column_kinds names.now)
+    ensures shown { IfOk result
+        (λ shown. ServeViews query.now (N.base_tables names.now) (N.column_kinds names.now)
         (N.view_queries names.now) (S.content_now store.now) call.now.user call.now.parameters.now found.now
         shown.items) }
 {
@@ -84,12 +85,14 @@ fn shown_items<N: Names, S: Store>(
     call: &Context<'_>,
     meter: &mut Meter,
 ) -> Result<Vec<ViewRows>, Fault>
-    requires readable { IsReadable (N.base_tables names.now) (N.column_kinds names.now) (S.content_now store.now)
+    requires readable { IsReadable (N.base_tables names.now) (N.column_kinds names.now)
+        (S.content_now store.now)
         (S.key_columns store.now) query.now }
     requires where_clause { IsWhere query.now condition.now }
     requires inside { ReadsInside (IsNeeded inner.now) (select_of query.now) }
     ensures answered { IsAnswered result }
-    ensures shown { IfOk result (λ shown. ServeViews query.now (N.base_tables names.now) (N.column_kinds names.now)
+    ensures shown { IfOk result
+        (λ shown. ServeViews query.now (N.base_tables names.now) (N.column_kinds names.now)
         (N.view_queries names.now) (S.content_now store.now) call.now.user call.now.parameters.now found.now
         shown.items) }
 {

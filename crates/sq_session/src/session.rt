@@ -296,7 +296,8 @@ impl<S: Store> Session<S> {
             result.program.now.procedures.entries }
         ensures tables { self.now.tables ≡ result.catalog.now.tables }
         ensures schemas { self.now.schemas ≡ schemas_of result.catalog.now }
-        ensures state { self.now.state ≡ state_of (S.content_now result.store.now) (S.committed result.store.now)
+        ensures state { self.now.state
+            ≡ state_of (S.content_now result.store.now) (S.committed result.store.now)
             (S.key_columns result.store.now) (S.row_numbers result.store.now) result.cursors.now }
         ensures whole { SessionIsWhole (column_kinds result.catalog.now) result.catalog.now.bases
             result.program.now self.now.state }
