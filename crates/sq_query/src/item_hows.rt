@@ -7,13 +7,13 @@ ghost use Rattle.sq_bound.specs.declared.condition.TablePlace.TheVariants as at_
 ghost use Rattle.sq_query.specs.Items.{items_of};
 ghost use Rattle.sq_query.specs.Needed.{FindsSelect};
 
-use crate::asked::{Asked, columns_under, itself};
+use crate::asked::{Asked, itself};
 use crate::items::is_once;
 use crate::lookup::{Lookup, add_compared};
 use crate::named::Sure;
 use crate::named_exprs::{Seen, is_named_by_some, key_of_several, named_key};
 use crate::needed::Needed;
-use crate::plain_view::base_under;
+use crate::plain_view::{Underneath, base_under};
 use crate::view_items::is_view_alone;
 use crate::way::{ColumnPlace, How, KeyPlace};
 use sq_bound::{BaseTable, BoundCond, BoundSpecification, Names, Reference, TablePlace};
@@ -222,28 +222,31 @@ fn how_of_view<N: Names>(
     requires there { BasesAreThere (N.base_tables names.now) (N.column_kinds names.now) }
     requires known { HasValue (N.column_kinds names.now (at_place.View view)) }
 {
-    let Some(base) = base_under(names, view) else {
+    let Some(under) = base_under(alloc, names, view)? else {
         return Ok(How::Whole);
     };
-    let Some(table) = names.bases().get(base) else {
-        return Ok(How::Whole);
+    let how = match names.bases().get(under.base) {
+        Some(table) => how_under(alloc, table.get(), &under, condition, seen),
+        None => Ok(How::Whole),
     };
-    let columns = columns_under(alloc, names, view)?;
-    let asked = Asked {
-        base,
-        through: Some(columns.as_slice()),
-    };
-    let how = how_of_base(
-        alloc,
-        table.get(),
-        &asked,
-        condition,
-        seen,
-        Sure::Noted,
-        &[Lookup::Key, Lookup::Keys, Lookup::Index, Lookup::Walk],
-    );
-    drop(columns);
+    drop(under);
     how
+}
+
+/// How the rows of the base table under a plain view are found that a condition on the rows of the view names.
+fn how_under(
+    alloc: Global,
+    table: &BaseTable,
+    under: &Underneath,
+    condition: &BoundCond,
+    seen: &Seen<'_>,
+) -> Result<How, AllocError> {
+    let asked = Asked {
+        base: under.base,
+        through: Some(under.columns.as_slice()),
+    };
+    let lookups = [Lookup::Key, Lookup::Keys, Lookup::Index, Lookup::Walk];
+    how_of_base(alloc, table, &asked, condition, seen, Sure::Noted, &lookups)
 }
 
 // ---- columns of which the store has an index

@@ -2,27 +2,24 @@
 //! show of these alone.
 
 ghost use Rattle.std.specs.Prelude.{◌≡◌, ◌<◌, ◌++◌, ◌∷◌, ℕ, List, IfErr, IfOk, IfSome, length, option_to_list, true};
-ghost use Rattle.sq_meaning.specs.WellFormed.{HasValue};
 ghost use Rattle.sq_bound.specs.Condition.{select_of};
 ghost use Rattle.sq_bound.specs.Fits.{keys_of_bases};
-ghost use Rattle.sq_bound.specs.WellFormed.{BasesAreThere};
-ghost use Rattle.sq_bound.specs.declared.condition.TablePlace.TheVariants as at_place;
+ghost use Rattle.sq_bound.specs.declared.condition.BoundSpecification.{BoundSpecification as AnySpecification};
 ghost use Rattle.sq_expression.specs.Fault.{IsAnswered};
-ghost use Rattle.sq_query.specs.Asked.{IsFalseUnder};
+ghost use Rattle.sq_query.specs.Asked.{AreUnder, IsFalseUnder};
 ghost use Rattle.sq_query.specs.Items.{IsNamed, items_of};
 ghost use Rattle.sq_query.specs.Named.{IsFalseOf};
 ghost use Rattle.sq_query.specs.Needed.{FindsSelect, IsNeeded, ReadsInside};
 ghost use Rattle.sq_query.specs.Specification.{IsReadable, IsWhere};
-ghost use Rattle.sq_query.specs.Shown.{IsPath};
 ghost use Rattle.sq_query.specs.ViewItems.{IsShownItem, IsViewAlone, ServeViews, is_shown};
 ghost use Rattle.sq_query.specs.declared.named.Sure.TheVariants.{Noted};
 
 use crate::around::{Around, Standing};
-use crate::asked::{Asked, columns_under};
+use crate::asked::Asked;
 use crate::items::is_once;
 use crate::lookup::{Lookup, rows_named};
 use crate::needed::Needed;
-use crate::plain_view::base_under;
+use crate::plain_view::{Underneath, base_under};
 use crate::sought::Sought;
 use crate::through::rows_through;
 use sq_bound::{BoundCond, BoundSpecification, Names, TablePlace};
@@ -158,7 +155,7 @@ fn shown_item<'q, N: Names, S: Store>(
     if !is_view_alone(view, item, query, inner, shown) {
         return Ok(None);
     }
-    let Some(base) = base_under(names, view) else {
+    let Some(under) = base_under(call.alloc, names, view)? else {
         return Ok(None);
     };
     let sought = Sought {
@@ -170,7 +167,9 @@ fn shown_item<'q, N: Names, S: Store>(
             lines: None,
         },
     };
-    match rows_under(names, view, base, condition, &sought, store, call, meter)? {
+    let own = rows_under(&under, condition, &sought, store, call, meter);
+    drop(under);
+    match own? {
         Some(own) => {
             let rows = rows_through(names, view, &own, call);
             drop(own);
@@ -204,33 +203,26 @@ pub(crate) fn is_shown(view: usize, shown: &[ViewRows]) -> bool
 }
 
 /// The rows of the base table under a plain view in an item that a condition names.
-fn rows_under<'a, N: Names, S: Store>(
-    names: &N,
-    view: usize,
-    base: usize,
+fn rows_under<'a, S: Store>(
+    under: &Underneath,
     condition: &BoundCond,
     sought: &Sought<'_>,
     store: &'a S,
     call: &Context<'_>,
     meter: &mut Meter,
 ) -> Result<Option<BaseRows<'a>>, Fault>
-    requires there { BasesAreThere (N.base_tables names.now) (N.column_kinds names.now) }
-    requires known { HasValue (N.column_kinds names.now (at_place.View view)) }
-    requires base { base < length (S.content_now store.now) }
-    ensures found { (views : List ℕ)
-        → IsPath (N.column_kinds names.now) (N.view_queries names.now) (view ∷ views) base
-        → IfOk result (λ found. IfSome found (λ own. (own.place ≡ base) × IsNamed (IsFalseUnder
-        (N.view_queries names.now) (view ∷ views) (IsFalseOf sought.now Noted call.now.parameters.now
-        call.now.user condition.now)) (S.content_now store.now) (S.key_columns store.now) own)) }
+    requires { under.now.base < length (S.content_now store.now) }
+    ensures found { (queries : List AnySpecification) (views : List ℕ)
+        → AreUnder queries views under.now.columns.items
+        → IfOk result (λ found. IfSome found (λ own. (own.place ≡ under.now.base) × IsNamed (IsFalseUnder
+        queries views (IsFalseOf sought.now Noted call.now.parameters.now call.now.user condition.now))
+        (S.content_now store.now) (S.key_columns store.now) own)) }
     ensures memory { IfErr result (λ fault. fault ≡ Fault.NoMemory) }
 {
-    let columns = columns_under(call.alloc, names, view)?;
     let asked = Asked {
-        base,
-        through: Some(columns.as_slice()),
+        base: under.base,
+        through: Some(under.columns.as_slice()),
     };
     let lookups = [Lookup::Key, Lookup::Keys, Lookup::Index, Lookup::Walk];
-    let own = rows_named(&asked, condition, sought, &lookups, store, call, meter);
-    drop(columns);
-    own
+    rows_named(&asked, condition, sought, &lookups, store, call, meter)
 }

@@ -7,7 +7,8 @@ use Rattle.sq_store.specs.Keys.{Keys, key_at}
 use Rattle.sq_bound.specs.declared.condition.BoundSpecification.{BoundSpecification}
 use Rattle.sq_expression.specs.declared.fault.Fault.{Fault}
 use Rattle.sq_expression.specs.declared.table.BaseRows.{BaseRows}
-use Rattle.sq_query.specs.Asked.{AreUnder, IsFalseThrough, IsFalseUnder, IsShownBy}
+use Rattle.sq_query.specs.Asked.{AreUnder, IsFalseThrough, IsFalseUnder, IsShownBy, IsThrough}
+use Rattle.sq_query.specs.Shown.{Asks}
 use Rattle.sq_query.specs.Items.{IsNamed}
 use Rattle.sq_query.specs.Named.{IsOneOf}
 use Rattle.sq_query.specs.declared.asked.Asked.{Asked}
@@ -67,3 +68,7 @@ columns_more Shows (c ∷ columns) o h more own (suc n) e = columns_more (λ x m
 pub one_longer : {A : Type 0} (xs : List A) (x : A) → length (xs ++ x ∷ []) ≡ length xs + 1
 one_longer [] x = refl
 one_longer (y ∷ xs) x = omega (arith, one_longer xs x)
+
+pub through_so : (q : BoundSpecification) (through : Through) (between column : ℕ) (o : Option ℕ) → Asks q between column → IfSome o (λ own. IsShownBy through own between) → IfSome o (λ own. IsThrough q through own column)
+through_so q through between column None asks h = tt
+through_so q through between column (Some own) asks h = (between, asks, h)

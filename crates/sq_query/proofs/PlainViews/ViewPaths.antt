@@ -1,7 +1,8 @@
 -- The views of a path, each found by its place (ISO/IEC 9075:1992, 11.19).
-use Rattle.std.proofs.Common.{◌≡◌, ◌∙◌, ℕ, ◌<◌, List, [], ◌∷◌, Option, Some, None, Result, ◌++◌, ap, refl, sym, subst}
+use Rattle.std.proofs.Common.{◌≡◌, ◌∙◌, ℕ, ◌<◌, List, [], ◌∷◌, Option, Some, None, Result, Bor, Ok, Err, ◌++◌, ap, refl, sym, subst}
 use Rattle.std.specs.Prelude.{IfOk, IfSome, slice_get}
 use Rattle.std.specs.List.{AllZip}
+use Rattle.std.specs.declared.alloc.AllocError.{AllocError}
 use Rattle.sq_lex.specs.declared.name.Name.{Name}
 use Rattle.sq_meaning.specs.Environment.{Row}
 use Rattle.sq_meaning.specs.Status.{Outcome, and_then, well_formed}
@@ -16,6 +17,8 @@ use Rattle.sq_expression.specs.Frame.{view_outcome}
 use Rattle.sq_expression.specs.declared.fault.Fault.{Fault}
 use Rattle.sq_expression.specs.declared.table.ViewRows.{ViewRows}
 use Rattle.sq_query.specs.Specification.{IsOver, with_rows}
+use Rattle.sq_query.specs.Asked.{AreAsked, AreThrough, IsThrough, IsUnderneath}
+use Rattle.sq_query.specs.declared.plain_view.Underneath.{Underneath}
 use Rattle.sq_query.specs.Shown.{AreRight, AreShown, Asks, AsksAt, IsPath, IsPlainOver, IsPlainView, first_of, shown_of}
 use Rattle.sq_query.specs.Table.{IsViewAt, rows_of_view}
 use Rattle.sq_query.proofs.Keys.KnownKeys.{same_some}
@@ -54,12 +57,6 @@ under_earlier columns view under q well over = stands_before columns view (View 
 pub plain_view : (columns : TableKinds) (queries : List BoundSpecification) (view : ℕ) (t : TablePlace) (v : BoundView) → slice_get queries view ≡ Some v.query → IsViewAt columns view v → IsPlainOver v.query t → IsPlainView columns queries view t
 plain_view columns queries view t v among is plain = record { query = v.query; is_query = among; well = is.0; kinds_are = is.1; plain = plain }
 
--- one view more
-pub path_more : (columns : TableKinds) (queries : List BoundSpecification) (view under : ℕ) (o : Option ℕ) → IsPlainView columns queries view (View under) → IfSome o (λ base. (views : List ℕ) × IsPath columns queries (under ∷ views) base)
-    → IfSome o (λ base. (views : List ℕ) × IsPath columns queries (view ∷ views) base)
-path_more columns queries view under None v path = tt
-path_more columns queries view under (Some base) v path = (under ∷ path.0, (v, path.1))
-
 module _ (columns : TableKinds) (queries : List BoundSpecification) (view base : ℕ) (q : BoundSpecification) (among : slice_get queries view ≡ Some q) where
   over_same : (t : TablePlace) → (v : IsPlainView columns queries view t) → IsOver q t
   over_same t v = subst (λ (s : BoundSpecification). IsOver s t) (same_some v.query q (slice_get queries view) v.is_query among) v.plain.over
@@ -73,29 +70,6 @@ module _ (columns : TableKinds) (queries : List BoundSpecification) (view base :
   pub no_view_next : ((under : ℕ) → IsOver q (View under) → ⊥) → (views : List ℕ) → IsPath columns queries (view ∷ views) base → views ≡ []
   no_view_next none [] path = refl
   no_view_next none (v ∷ views) path = absurd (none v (over_same (View v) path.0))
-
--- a view has one path
-module _ (columns : TableKinds) (queries : List BoundSpecification) where
-  over_other : (view : ℕ) (t u : TablePlace) (v : IsPlainView columns queries view t) (w : IsPlainView columns queries view u) → IsOver v.query u
-  over_other view t u v w = subst (λ (s : BoundSpecification). IsOver s u) (same_some w.query v.query (slice_get queries view) w.is_query v.is_query) w.plain.over
-
-  pub same_path : (view : ℕ) (views others : List ℕ) (base other : ℕ) → IsPath columns queries (view ∷ views) base → IsPath columns queries (view ∷ others) other → (views ≡ others) × (base ≡ other)
-  same_path view [] [] base other p o = (refl, over_bases p.0.query base other p.0.plain.over (over_other view (Base base) (Base other) p.0 o.0))
-  same_path view [] (n ∷ others) base other p o = absurd (over_either p.0.query base n p.0.plain.over (over_other view (Base base) (View n) p.0 o.0))
-  same_path view (m ∷ views) [] base other p o = absurd (over_either p.0.query other m (over_other view (View m) (Base other) p.0 o.0) p.0.plain.over)
-  same_path view (m ∷ views) (n ∷ others) base other p o =
-      let next : m ≡ n = over_views p.0.query m n p.0.plain.over (over_other view (View m) (View n) p.0 o.0) in
-      let rest = same_path m views others base other p.1 (subst (λ (k : ℕ). IsPath columns queries (k ∷ others) other) (sym next) o.1) in
-      ((λ i. next i ∷ rest.0 i), rest.1)
-
--- ---- one column through views
-
--- one view more
-pub column_more : (columns : TableKinds) (queries : List BoundSpecification) (view under between column : ℕ) (o : Option (ℕ × ℕ)) → IsPlainView columns queries view (View under) → AsksAt queries view (between ∷ []) (column ∷ [])
-    → IfSome o (λ found. (views : List ℕ) × IsPath columns queries (under ∷ views) found.0 × AreShown queries (under ∷ views) (found.1 ∷ []) (between ∷ []))
-    → IfSome o (λ found. (views : List ℕ) × IsPath columns queries (view ∷ views) found.0 × AreShown queries (view ∷ views) (found.1 ∷ []) (column ∷ []))
-column_more columns queries view under between column None v at below = tt
-column_more columns queries view under between column (Some found) v at below = (under ∷ below.0, (v, below.1), (between ∷ [], below.2, at))
 
 -- ---- columns that are shown
 
@@ -137,6 +111,33 @@ module _ (queries : List BoundSpecification) where
   shown_each views [] (n ∷ ns) each = absurd each
   shown_each views (c ∷ cs) [] each = absurd each
   shown_each views (c ∷ cs) (n ∷ ns) each = shown_more views c n cs ns each.0 (shown_each views cs ns each.1)
+
+-- ---- what is under a view
+
+module _ (columns : TableKinds) (queries : List BoundSpecification) (view : ℕ) (v : BoundView) (among : slice_get queries view ≡ Some v.query) (is : IsViewAt columns view v) where
+  -- a base table
+  pub base_beneath : (base : ℕ) (through : Option (Bor (List (Option ℕ)))) (u : Underneath) → IsPlainOver v.query (Base base) → u.base ≡ base → through ≡ None → AreThrough v.query through u.columns.items → IsUnderneath columns queries view u
+  base_beneath base through u plain at none are = record {
+    views = [];
+    path = (plain_view columns queries view (Base u.base) v among is (subst (λ (n : ℕ). IsPlainOver v.query (Base n)) (sym at) plain), tt);
+    are = λ own column here.
+        let h = subst (λ (t : Option (Bor (List (Option ℕ)))). IsThrough v.query t own column) none (are own column here) in
+        (h.0 ∷ [], ap (λ (n : ℕ). n ∷ []) h.2, shows_at queries view v.query among [] (h.0 ∷ []) (column ∷ []) (h.1, tt));
+  }
+
+  -- another view
+  view_beneath : (under : ℕ) (next u : Underneath) → IsPlainOver v.query (View under) → IsUnderneath columns queries under next → u.base ≡ next.base → AreAsked v.query next.columns.items u.columns.items → IsUnderneath columns queries view u
+  view_beneath under next u plain below at are = record {
+    views = under ∷ below.views;
+    path = (plain_view columns queries view (View under) v among is plain, subst (IsPath columns queries (under ∷ below.views)) (sym at) below.path);
+    are = λ own column here. let h = are own column here in (h.0 ∷ [], below.are own h.0 h.2, shows_at queries view v.query among [] (h.0 ∷ []) (column ∷ []) (h.1, tt));
+  }
+
+  pub beneath_so : (under : ℕ) (next : Underneath) (r : Result (Option Underneath) AllocError) → IsPlainOver v.query (View under) → IsUnderneath columns queries under next
+      → IfOk r (λ found. IfSome found (λ u. (u.base ≡ next.base) × AreAsked v.query next.columns.items u.columns.items)) → IfOk r (λ found. IfSome found (IsUnderneath columns queries view))
+  beneath_so under next (Err e) plain below h = tt
+  beneath_so under next (Ok None) plain below h = tt
+  beneath_so under next (Ok (Some u)) plain below h = view_beneath under next u plain below h.0 h.1
 
 -- ---- rows that are shown
 
