@@ -1,9 +1,12 @@
 -- What is written at the end of a line.
-use Rattle.std.proofs.Common.{◌≡◌, ℕ, ◌/◌, List, ◌++◌, pos, sym, ap, ◌∙◌, append_assoc}
+use Rattle.std.proofs.Common.{◌≡◌, ℕ, ◌/◌, List, ◌++◌, length, pos, sym, ap, ◌∙◌, append_assoc}
 use Rattle.std.proofs.Math.Nat.{div-one}
 use Rattle.std.proofs.lemmas.List.{append-nil}
 use Rattle.std.specs.Fmt.{decimal, sign_text}
+use Rattle.std.specs.List.{flat_map}
 use Rattle.std.specs.Prelude.{codes, int_lt, unsigned_abs}
+use Rattle.sq_store.specs.declared.table.Numbered.{Numbered}
+use Rattle.sq_meaning.specs.Report.{row_line}
 use Rattle.sq_value.specs.Number.{Number}
 use Rattle.sq_value.specs.Spelling.{written}
 
@@ -23,4 +26,12 @@ pub line_written : (start named stated shown all first second status outputs : L
 line_written start named stated shown all first second status outputs names states shows ends =
     ends
     ∙ ap (λ (w : List ℕ). w ++ codes "\n") (shows ∙ ap (λ (w : List ℕ). w ++ outputs) (states ∙ ap (λ (w : List ℕ). w ++ status) names))
+    ∙ simp append_assoc
+
+-- the parts of a table's lines
+pub table_written : (start headed all user name : List ℕ) (count : ℕ) (rows : List Numbered) → headed ≡ start ++ codes "TABLE " ++ user ++ codes "." ++ name ++ codes " " ++ decimal count ++ codes "\n" → all ≡ headed ++ flat_map row_line rows → count ≡ length rows
+    → all ≡ start ++ (codes "TABLE " ++ user ++ codes "." ++ name ++ codes " " ++ decimal (length rows) ++ codes "\n" ++ flat_map row_line rows)
+table_written start headed all user name count rows heads shows counts =
+    shows
+    ∙ ap (λ (w : List ℕ). w ++ flat_map row_line rows) (heads ∙ ap (λ n. start ++ codes "TABLE " ++ user ++ codes "." ++ name ++ codes " " ++ decimal n ++ codes "\n") counts)
     ∙ simp append_assoc
