@@ -31,7 +31,7 @@ pub use fault::{Failure, Fault};
 pub use frame::{Frame, Group, Lines, line_frame, value_at, value_in_line};
 pub use group::{add_group_if, group_lines};
 pub use index::Index;
-pub use select::{distinct_rows, shown_groups, shown_lines};
+pub use select::{distinct_rows, row_of_line, shown_groups, shown_lines};
 pub use set_function::key_of;
 pub use table::{BaseRows, ViewRows, no_rows_at, rows_at};
 pub use value_key::ValueKey;

@@ -57,7 +57,8 @@ fn rows_of_lines(
     Ok(rows)
 }
 
-fn row_of_line(
+/// The row of a select list on a line.
+pub fn row_of_line(
     list: &[BoundExpr],
     line: &[&Row],
     outer: Option<&Frame<'_>>,

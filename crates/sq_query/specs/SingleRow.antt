@@ -1,5 +1,6 @@
 -- A query specification over one base table whose WHERE clause names a row by a key (ISO/IEC 9075:1992, 7.4 to 7.9; own rule).
 use Rattle.std.specs.Prelude.{⊤, Bool, if◌then◌else◌, List, [], ◌∷◌, map, Option, None, Some, Ok}
+use Rattle.std.specs.Borrow.{Bor}
 use Rattle.sq_lex.specs.declared.name.Name.{Name}
 use Rattle.sq_value.specs.declared.value.Value.{Value}
 use Rattle.sq_store.specs.Content.{Content}
@@ -42,6 +43,11 @@ abbrev pub lines_left : (TablePlace → Outcome (List Row)) → BoundCond → Li
 lines_left tables own values user found =
     kept (λ line. is_true (truth (by_place tables) (cond_of [] own) (outside line values user)))
     (map as_line found)
+
+-- a row as the only line, if there is one
+abbrev pub lines_of_row : Option (Bor Row) → List Line
+lines_of_row None = []
+lines_of_row (Some row) = (row.now ∷ []) ∷ []
 
 -- the line of a row, if it is kept
 abbrev pub line_if : Row → Bool → Outcome (List Line)

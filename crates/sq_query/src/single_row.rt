@@ -1,7 +1,7 @@
 //! A query specification over one base table whose WHERE clause names a row by a key. The row is found first, and WHERE is evaluated on it
 //! alone. So its subqueries may read the table, too.
 
-ghost use Rattle.std.specs.Prelude.{◌≡◌, ◌≤◌, ◌+◌, List, [], false, map, Some, IfErr, IfOk, IfSome, IsSome};
+ghost use Rattle.std.specs.Prelude.{◌≡◌, ◌≤◌, ◌+◌, ◌∷◌, Bool, List, [], false, map, None, Ok, Some, IfErr, IfOk, IfSome, IsSome};
 ghost use Rattle.sq_value.specs.declared.domain.Kind.{Kind};
 ghost use Rattle.sq_value.specs.declared.value.Value.{Value as AnyValue};
 ghost use Rattle.sq_store.specs.Content.{table_at};
@@ -26,7 +26,7 @@ ghost use Rattle.sq_query.specs.Inner.{HasKeys};
 ghost use Rattle.sq_query.specs.OnRow.{StandsOnRow};
 ghost use Rattle.sq_query.specs.Row.{truth_on_row};
 ghost use Rattle.sq_query.specs.Specification.{HasItsRows, IsReadable, IsStored};
-ghost use Rattle.sq_query.specs.SingleRow.{HasPlainHaving, IsSingleRow, line_if, lines_left, listed_by};
+ghost use Rattle.sq_query.specs.SingleRow.{HasPlainHaving, IsSingleRow, line_if, lines_left, lines_of_row, listed_by};
 
 use crate::key::KnownKey;
 use crate::named_keys::key_of_condition;
@@ -37,7 +37,7 @@ use crate::target::is_true;
 use sq_bound::{BoundCond, BoundExpr, BoundSpecification, Grouping, Names};
 use sq_condition::{Memo, truth};
 use sq_expression::{
-    Context, Fault, Group, Lines, add_group_if, group_lines, shown_groups, shown_lines,
+    Context, Fault, Group, Lines, add_group_if, group_lines, row_of_line, shown_groups,
 };
 use sq_store::{Meter, Store};
 use sq_value::Row;
@@ -132,21 +132,19 @@ pub(crate) fn rows_of_single<'a, N: Names, S: Store>(
         (N.column_kinds names.now) (S.content_now store.now) call.now.user call.now.parameters.now query.now }
     ensures read { inside_tables (select_of query.now) ≡ [] → meter.new ≤ meter.old + 1 }
 {
-    let lines = lines_of_single(names, query, single, store, call, meter)?;
-    let rows = rows_of_lines(query, &lines, call);
-    drop(lines);
-    rows
+    let kept = row_of_single(names, query, single, store, call, meter)?;
+    rows_of_kept(query, kept, call)
 }
 
-/// The lines of such a query specification: the row, if WHERE is true of it.
-fn lines_of_single<'a, N: Names, S: Store>(
+/// The row that is named, if WHERE is true of it.
+fn row_of_single<'a, N: Names, S: Store>(
     names: &N,
     query: &BoundSpecification,
-    single: &SingleRow<'a>,
+    single: &SingleRow<'_>,
     store: &'a S,
-    call: &Context<'a>,
+    call: &Context<'_>,
     meter: &mut Meter,
-) -> Result<Lines<'a>, Fault>
+) -> Result<Option<&'a Row>, Fault>
     requires readable { IsReadable (N.base_tables names.now) (N.column_kinds names.now)
         (S.content_now store.now) (S.key_columns store.now) query.now }
     requires single { IsSingleRow query.now (S.content_now store.now) (S.key_columns store.now)
@@ -156,25 +154,25 @@ fn lines_of_single<'a, N: Names, S: Store>(
         (S.content_now store.now) call.now.user
         call.now.parameters.now parameters tables
         → IsSelect (N.column_kinds names.now) parameters [] query.now
-        → MeetsAs lines_in result (lines_left tables single.now.condition.now call.now.parameters.now
+        → MeetsAs lines_of_row result (lines_left tables single.now.condition.now call.now.parameters.now
         call.now.user (rows_in (table_at (S.content_now store.now) single.now.base))) }
     ensures read { inside_tables (select_of query.now) ≡ [] → meter.new ≤ meter.old + 1 }
 {
     match store.find_key(single.base, single.key.key, &single.key.values, meter) {
-        Some(found) => line_of_row(names, single.condition, found.1, store, call, meter),
-        None => Ok(Lines::new(call.alloc, 1)),
+        Some(found) => row_if_true(names, single.condition, found.1, store, call, meter),
+        None => Ok(None),
     }
 }
 
-/// A row as the only line, if a condition is true of it.
-fn line_of_row<'a, N: Names, S: Store>(
+/// A row, if a condition is true of it.
+fn row_if_true<'a, N: Names, S: Store>(
     names: &N,
-    condition: &'a BoundCond,
+    condition: &BoundCond,
     row: &'a Row,
-    store: &'a S,
-    call: &Context<'a>,
+    store: &S,
+    call: &Context<'_>,
     meter: &mut Meter,
-) -> Result<Lines<'a>, Fault>
+) -> Result<Option<&'a Row>, Fault>
     requires finds { FindsCond (N.base_tables names.now) (N.column_kinds names.now) condition.now }
     requires keys { HasKeys (N.base_tables names.now) (S.content_now store.now) (S.key_columns store.now) }
     ensures line { (parameters : List Kind) (tables : TablePlace → Outcome (List (List AnyValue)))
@@ -182,35 +180,70 @@ fn line_of_row<'a, N: Names, S: Store>(
         (S.content_now store.now) call.now.user
         call.now.parameters.now parameters tables
         → StandsOnRow (N.column_kinds names.now) parameters row.now condition.now
-        → MeetsAs lines_in result (and_then (meaning.is_true
+        → MeetsAs lines_of_row result (and_then (meaning.is_true
         (truth_on_row tables call.now.parameters.now call.now.user row.now condition.now))
         (line_if row.now)) }
     ensures read { has_subquery (cond_of [] condition.now) ≡ false → meter.new ≡ meter.old }
 {
     let truth = truth_with_tables(names, condition, row, true, store, call, meter);
-    let mut lines = Lines::new(call.alloc, 1);
-    lines.push_if(is_true(truth), &[row])?;
-    Ok(lines)
+    if is_true(truth)? {
+        Ok(Some(row))
+    } else {
+        Ok(None)
+    }
 }
 
 // ---- the rows
 
-/// The rows of a query specification for the lines that WHERE leaves.
-fn rows_of_lines(
+/// The rows of a query specification for the row that WHERE leaves.
+fn rows_of_kept(
     query: &BoundSpecification,
-    lines: &Lines<'_>,
+    kept: Option<&Row>,
     call: &Context<'_>,
 ) -> Result<Vec<Row>, Fault>
     requires { HasPlainHaving (out-BoundSpecification query.now).grouping }
     ensures { HasRows result (listed_by (out-BoundSpecification query.now).distinct
         (out-BoundSpecification query.now).list (out-BoundSpecification query.now).grouping call.now
-        (lines_in lines.now)) }
+        (lines_of_row kept.entry)) }
 {
     let list = query.list.as_slice();
     match &query.grouping {
-        None => shown_lines(query.distinct, list, lines, None, call),
-        Some(grouping) => rows_of_groups(query.distinct, list, grouping, lines, call),
+        None => row_listed(list, kept, call),
+        Some(grouping) => {
+            let lines = as_lines(kept, call)?;
+            rows_of_groups(query.distinct, list, grouping, &lines, call)
+        }
     }
+}
+
+/// The row of a select list for a row. DISTINCT leaves a single row.
+fn row_listed(list: &[BoundExpr], kept: Option<&Row>, call: &Context<'_>) -> Result<Vec<Row>, Fault>
+    ensures { (distinct : Bool)
+        → HasRows result (listed_by distinct list.now None call.now (lines_of_row kept.entry)) }
+{
+    let mut rows = Vec::new(call.alloc);
+    if let Some(row) = kept {
+        rows.push(row_of_line(list, &[row], None, call)?)?;
+    }
+    Ok(rows)
+}
+
+/// A row as the only line, if there is one.
+fn as_lines<'a>(kept: Option<&'a Row>, call: &Context<'_>) -> Result<Lines<'a>, Fault>
+    ensures { MeetsAs lines_in result (Ok (lines_of_row kept.entry)) }
+{
+    match kept {
+        Some(row) => only_line(row, call),
+        None => Ok(Lines::new(call.alloc, 1)),
+    }
+}
+
+fn only_line<'a>(row: &'a Row, call: &Context<'_>) -> Result<Lines<'a>, Fault>
+    ensures { MeetsAs lines_in result (Ok ((row.now ∷ []) ∷ [])) }
+{
+    let mut lines = Lines::new(call.alloc, 1);
+    lines.push_if(Ok(true), &[row])?;
+    Ok(lines)
 }
 
 /// The rows of a grouped query specification for given lines.

@@ -2,6 +2,7 @@
 use Rattle.std.proofs.Common.{◌≡◌, ◌∙◌, ℕ, Bool, true, false, List, [], ◌∷◌, Option, Some, None, Result, map, slice_get, refl, sym, ap, subst, Ok, Err}
 use Rattle.std.specs.Prelude.{IsErrAnd, Vec, if◌then◌else◌, option_to_list}
 use Rattle.std.specs.Option.{option_map}
+use Rattle.std.specs.Borrow.{Bor}
 use Rattle.std.specs.List.{AllByRecursion}
 use Rattle.std.specs.declared.alloc.Global.{Global}
 use Rattle.std.proofs.lemmas.List.Concat.{flat_map_single}
@@ -43,19 +44,17 @@ use Rattle.sq_condition.proofs.Lone.{clause_alone}
 use Rattle.sq_condition.proofs.Phases.{from_lines, lines_shown}
 use Rattle.sq_expression.specs.Fault.{HasRows, Meets, MeetsAs, rows_in as list_of_rows}
 use Rattle.sq_expression.specs.Frame.{inputs_of, table_rows}
-use Rattle.sq_expression.specs.Lines.{lines_in}
 use Rattle.sq_expression.specs.declared.context.Context.{Context}
 use Rattle.sq_expression.specs.declared.fault.Fault.{Fault}
 use Rattle.sq_expression.specs.declared.fault.Fault.TheVariants as fault
 use Rattle.sq_expression.proofs.Views.{handed_on_as}
-use Rattle.sq_expression.specs.declared.frame.Lines.{Lines}
 use Rattle.sq_query.specs.Key.{IsKeyOn, StandsOn}
 use Rattle.sq_query.specs.Needed.{ReadsCond, ReadsSelect, clause_tables, cond_tables, inside_tables}
 use Rattle.sq_query.specs.MayRead.{MayRead}
 use Rattle.sq_query.specs.OnRow.{StandsOnRow}
 use Rattle.sq_query.specs.Row.{outside, truth_on_row}
 use Rattle.sq_query.specs.Specification.{IsOver, IsReadable, IsWhere}
-use Rattle.sq_query.specs.SingleRow.{HasPlainHaving, IsSingleRow, line_if, lines_left, listed_by}
+use Rattle.sq_query.specs.SingleRow.{HasPlainHaving, IsSingleRow, line_if, lines_left, lines_of_row, listed_by}
 use Rattle.sq_query.specs.declared.key.KnownKey.{KnownKey}
 use Rattle.sq_query.specs.declared.single_row.SingleRow.{SingleRow}
 use Rattle.sq_query.proofs.Keys.KeyNames.{element_at}
@@ -121,7 +120,7 @@ module _ (tables : TablePlace → Outcome (List Row)) (context : Context) (q : B
 -- ---- the answer
 
 -- where the lines are found, the rows are those listed for them
-pub listed_for : (lines : Lines) (left : Outcome (List Line)) (next : List Line → Outcome (List Row)) (r : Result (Vec (List Value) Global) Fault) → left ≡ Ok (lines_in lines) → HasRows r (next (lines_in lines)) → HasRows r (and_then left next)
+pub listed_for : (lines : List Line) (left : Outcome (List Line)) (next : List Line → Outcome (List Row)) (r : Result (Vec (List Value) Global) Fault) → left ≡ Ok lines → HasRows r (next lines) → HasRows r (and_then left next)
 listed_for lines left next r is h = subst (HasRows r) (sym (ap (λ (o : Outcome (List Line)). and_then o next) is)) h
 
 -- ---- WHERE on the row
@@ -234,9 +233,9 @@ module _ (bases : List BaseTable) (views : List BoundSpecification) (columns : T
       s.plain_having (groups_noted columns parameters q well)
 
 -- where the lines end with a status, so do the rows
-failed : (e : Fault) (left : Outcome (List Line)) (next : List Line → Outcome (List Row)) → MeetsAs {A = Lines} lines_in (Err e) left → Meets {A = List Row} (Err e) (and_then left next)
+failed : (e : Fault) (left : Outcome (List Line)) (next : List Line → Outcome (List Row)) → MeetsAs {A = Option (Bor Row)} lines_of_row (Err e) left → Meets {A = List Row} (Err e) (and_then left next)
 failed fault.NoMemory left next h = tt
 failed (fault.Status s) left next h = ap (λ (o : Outcome (List Line)). and_then o next) h
 
-pub failed_lines : (e : Fault) (left : Outcome (List Line)) (next : List Line → Outcome (List Row)) (r : Result (Vec (List Value) Global) Fault) → IsErrAnd r (λ g. g ≡ e) → MeetsAs {A = Lines} lines_in (Err e) left → HasRows r (and_then left next)
+pub failed_lines : (e : Fault) (left : Outcome (List Line)) (next : List Line → Outcome (List Row)) (r : Result (Vec (List Value) Global) Fault) → IsErrAnd r (λ g. g ≡ e) → MeetsAs {A = Option (Bor Row)} lines_of_row (Err e) left → HasRows r (and_then left next)
 failed_lines e left next r is h = handed_on_as list_of_rows r e (and_then left next) is (failed e left next h)
