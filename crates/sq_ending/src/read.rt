@@ -17,167 +17,31 @@ ghost use Rattle.sq_query.specs.Table.{AreMeant};
 ghost use Rattle.sq_ending.specs.Read.{AreRight, AreShown, AreStored, HasMore, IsThere, known_by};
 
 use sq_bound::{Names, TableBody, TablePlace, View};
-use sq_expression::{BaseRows, Fault, ViewRows};
+use sq_condition::ViewRows;
+use sq_expression::Fault;
 use sq_lex::Name;
 use sq_query::{Inputs, specification_rows};
 use sq_store::{Meter, Store};
 use sq_value::Row;
 use std::alloc::{AllocError, Global};
 
-/// The rows of the base tables and views that a query reads.
-#[derive(Drop)]
-pub(crate) struct Tables<'a> {
-    pub bases: Vec<BaseRows<'a>>,
-    pub views: Vec<ViewRows>,
-}
-
-/// The rows of these tables, as the user sees them.
-pub(crate) fn tables_read<'a, N: Names, S: Store>(
+/// The rows of these views, as the user sees them.
+pub(crate) fn views_read<N: Names, S: Store>(
     alloc: Global,
     names: &N,
     tables: &[TablePlace],
-    store: &'a S,
+    store: &S,
     user: Name,
-) -> Result<Tables<'a>, AllocError>
-    requires there { BasesAreThere (N.base_tables names.now) (N.column_kinds names.now) }
-    requires keys { S.key_columns store.now ≡ keys_of_bases (N.base_tables names.now) }
-    requires not_null { not_nulls_hold (N.base_tables names.now) (S.content_now store.now) ≡ true }
-    ensures right { IfOk result
-        (AreRight (known_by (N.base_tables names.now) (N.view_queries names.now) (N.column_kinds names.now))
-        (S.content_now store.now) user) }
-    ensures there { IfOk result (λ read. AllByRecursion (IsThere read) tables.now) }
-{
-    let mut read = Tables {
-        bases: Vec::new(alloc),
-        views: Vec::new(alloc),
-    };
+) -> Result<Vec<ViewRows>, AllocError> {
+    let mut views: Vec<ViewRows> = Vec::new(alloc);
     for table in tables {
-        read.add(alloc, names, *table, store, user)?;
-    }
-    Ok(read)
-}
-
-impl<'a> Tables<'a> {
-    /// Reads a table that was not read yet.
-    fn add<N: Names, S: Store>(
-        &mut self,
-        alloc: Global,
-        names: &N,
-        table: TablePlace,
-        store: &'a S,
-        user: Name,
-    ) -> Result<(), AllocError>
-        requires there { BasesAreThere (N.base_tables names.now) (N.column_kinds names.now) }
-        requires keys { S.key_columns store.now ≡ keys_of_bases (N.base_tables names.now) }
-        requires not_null { not_nulls_hold (N.base_tables names.now) (S.content_now store.now) ≡ true }
-        ensures right { AreRight
-            (known_by (N.base_tables names.now) (N.view_queries names.now) (N.column_kinds names.now))
-            (S.content_now store.now) user self.old
-            → OnOk result (AreRight
-            (known_by (N.base_tables names.now) (N.view_queries names.now) (N.column_kinds names.now))
-            (S.content_now store.now) user self.new) }
-        ensures there { OnOk result (IsThere self.new table) }
-        ensures more { OnOk result (HasMore self.old self.new) }
-    {
-        match table {
-            TablePlace::Base(place) => self.add_base(alloc, place, store),
-            TablePlace::View(place) => self.add_view(alloc, names, place, store, user),
+        if let TablePlace::View(place) = table {
+            if !views.iter().any(|view| view.place == *place) {
+                views.push(view_rows(alloc, names, *place, store, user)?)?;
+            }
         }
     }
-
-    fn add_base<S: Store>(
-        &mut self,
-        alloc: Global,
-        place: usize,
-        store: &'a S,
-    ) -> Result<(), AllocError>
-        ensures right { AllByRecursion (AreStored (S.content_now store.now)) self.old.bases.items
-            → OnOk result (AllByRecursion (AreStored (S.content_now store.now)) self.new.bases.items) }
-        ensures views { self.new.views ≡ self.old.views }
-        ensures there { OnOk result (IsThere self.new (at_place.Base place)) }
-        ensures more { OnOk result (HasMore self.old self.new) }
-    {
-        if !self.has_base(place) {
-            let rows = base_rows(alloc, store, place)?;
-            self.bases.push(BaseRows { place, rows })?;
-        }
-        Ok(())
-    }
-
-    fn has_base(&self, place: usize) -> bool
-        ensures { result ≡ list_any (λ b. nat_eq b.place place) self.now.bases.items }
-    {
-        self.bases.iter().any(|base| base.place == place)
-    }
-
-    fn add_view<N: Names, S: Store>(
-        &mut self,
-        alloc: Global,
-        names: &N,
-        place: usize,
-        store: &S,
-        user: Name,
-    ) -> Result<(), AllocError>
-        requires there { BasesAreThere (N.base_tables names.now) (N.column_kinds names.now) }
-        requires keys { S.key_columns store.now ≡ keys_of_bases (N.base_tables names.now) }
-        requires not_null { not_nulls_hold (N.base_tables names.now) (S.content_now store.now) ≡ true }
-        ensures right { AllByRecursion (AreShown
-            (known_by (N.base_tables names.now) (N.view_queries names.now) (N.column_kinds names.now))
-            (S.content_now store.now) user) self.old.views.items
-            → OnOk result (AllByRecursion (AreShown
-            (known_by (N.base_tables names.now) (N.view_queries names.now) (N.column_kinds names.now))
-            (S.content_now store.now) user) self.new.views.items) }
-        ensures bases { self.new.bases ≡ self.old.bases }
-        ensures there { OnOk result (IsThere self.new (at_place.View place)) }
-        ensures more { OnOk result (HasMore self.old self.new) }
-    {
-        if !self.has_view(place) {
-            let view = view_rows(alloc, names, place, store, user)?;
-            self.views.push(view)?;
-        }
-        Ok(())
-    }
-
-    fn has_view(&self, place: usize) -> bool
-        ensures { result ≡ list_any (λ v. nat_eq v.place place) self.now.views.items }
-    {
-        self.views.iter().any(|view| view.place == place)
-    }
-}
-
-/// The rows of a base table, by rising numbers.
-fn base_rows<'a, S: Store>(
-    alloc: Global,
-    store: &'a S,
-    table: usize,
-) -> Result<Vec<&'a Row>, AllocError>
-    ensures { table < length (S.content_now store.now)
-        → IfOk result (λ rows. lent rows.items ≡ rows_in (table_at (S.content_now store.now) table)) }
-{
-    if table < store.table_count() {
-        rows_of_table(alloc, store, table)
-    } else {
-        Ok(Vec::new(alloc))
-    }
-}
-
-/// The rows of a base table of the store, by rising numbers.
-fn rows_of_table<'a, S: Store>(
-    alloc: Global,
-    store: &'a S,
-    table: usize,
-) -> Result<Vec<&'a Row>, AllocError>
-    requires { table < length (S.content_now store.now) }
-    ensures { IfOk result (λ rows. lent rows.items ≡ rows_in (table_at (S.content_now store.now) table)) }
-{
-    let mut rows = Vec::new(alloc);
-    let mut number = 0;
-    let mut uncounted = Meter::new();
-    while let Some((found, row)) = store.next_from(table, number, &mut uncounted) {
-        rows.push(row)?;
-        number = found + 1;
-    }
-    Ok(rows)
+    Ok(views)
 }
 
 /// The rows of the view at a place, or the status that its query ends with.

@@ -14,20 +14,21 @@ use crate::functions::{Valued, group_end};
 use crate::kept::Placed;
 use crate::walk::is_true;
 use sq_bound::{BoundExpr, Grouping};
-use sq_condition::{Memo, truth};
-use sq_expression::{Context, Fault, Frame, owned_value};
+use sq_condition::{Memo, Reading, truth};
+use sq_expression::{Fault, Frame, owned_value};
+use sq_store::Store;
 use sq_value::Row;
 use std::alloc::AllocError;
 
 /// A walk over groups of a query specification outside every query: of each HAVING is evaluated, and where it is true, a list.
-#[derive(Clone, Copy)]
-pub(crate) struct GroupWalk<'c, 'm> {
+#[derive(Drop)]
+pub(crate) struct GroupWalk<'c, 'm, S: Store> {
     pub grouping: &'c Grouping,
-    pub context: &'c Context<'m>,
+    pub reading: &'c Reading<'c, 'm, S>,
     pub list: &'c [BoundExpr],
 }
 
-impl<'c, 'm> GroupWalk<'c, 'm> {
+impl<'c, 'm, S: Store> GroupWalk<'c, 'm, S> {
     /// The first of these groups for which HAVING or the list ends with a status.
     pub(crate) fn first_end(
         &self,
@@ -61,7 +62,7 @@ impl<'c, 'm> GroupWalk<'c, 'm> {
             Ok(true) => self.item_end(group),
             Ok(false) => Ok(None),
             Err(Fault::Status(failure)) => Ok(Some(group_end(
-                self.context.alloc,
+                self.reading.context.alloc,
                 Clause::Having,
                 failure,
                 group.lines.as_slice(),
@@ -77,7 +78,7 @@ impl<'c, 'm> GroupWalk<'c, 'm> {
             (Means result (shown_by self.now.grouping.now self.now.context.now group.now)) }
     {
         match &self.grouping.having {
-            Some(having) => is_true(truth(having, &frame_of(group), self.context, memo)),
+            Some(having) => is_true(truth(having, &frame_of(group), self.reading, memo)),
             None => Ok(true),
         }
     }
@@ -88,11 +89,11 @@ impl<'c, 'm> GroupWalk<'c, 'm> {
     {
         let frame = frame_of(group);
         for (number, item) in self.list.iter().enumerate() {
-            match owned_value(item, &frame, self.context) {
+            match owned_value(item, &frame, &self.reading.context) {
                 Ok(value) => drop(value),
                 Err(Fault::Status(failure)) => {
                     return Ok(Some(group_end(
-                        self.context.alloc,
+                        self.reading.context.alloc,
                         Clause::GroupItem(number),
                         failure,
                         group.lines.as_slice(),

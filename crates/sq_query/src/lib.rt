@@ -6,47 +6,26 @@
 //! (`specs/WellFormed.antt` of `sq_bound`), and no public call ends so for what is well formed.
 #![tactic(auto)]
 
-mod around;
-mod asked;
-mod elsewhere;
 mod few_rows;
-mod inner;
 mod inputs;
-mod item_hows;
-mod items;
-mod key;
-mod known;
-mod lookup;
 mod meant;
-mod named;
-mod named_exprs;
-mod named_keys;
 mod needed;
 mod order;
-mod outside;
 mod plain_view;
 mod row;
-mod scan;
-mod several;
-mod single_row;
-mod sought;
 mod specification;
-mod table;
 mod target;
-mod through;
 mod union;
-mod valued;
 mod view;
-mod view_items;
 mod way;
 mod ways;
 
 pub use few_rows::FewRows;
 pub use inputs::Inputs;
-pub use key::KnownKey;
 pub use meant::{key_of, numbers_of, rows_of};
 pub use order::{ordered_rows, specification_rows};
 pub use row::{truth_of, value_of};
+pub use sq_condition::KnownKey;
 pub use sq_expression::{Failure, Fault};
 pub use target::is_chosen;
 pub use way::{ColumnPlace, How, KeyPlace, Way};

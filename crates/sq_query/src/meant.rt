@@ -1,42 +1,21 @@
-//! The rows of a base table that a target means: found by a key, by several, or by a search over all rows.
-
-ghost use Rattle.std.specs.Prelude.{◌≡◌, ◌<◌, ◌≤◌, ◌+◌, ◌∷◌, [], List, if◌then◌else◌, length, map, IfErr, IfOk, IfSome, IsSome, true};
-ghost use Rattle.sq_value.specs.declared.domain.Kind.{Kind};
-ghost use Rattle.sq_value.specs.declared.value.Value.{Value as AnyValue};
-ghost use Rattle.sq_store.specs.Content.{table_at};
-ghost use Rattle.sq_store.specs.Keys.{keys_at};
-ghost use Rattle.sq_meaning.specs.Status.{Outcome, and_then};
-ghost use Rattle.sq_meaning.specs.WellFormed.{IsRowOf};
-ghost use Rattle.sq_bound.specs.Fits.{IsBase, keys_of_bases, not_nulls_hold};
-ghost use Rattle.sq_bound.specs.WellFormed.{IsTarget, TableKinds};
-ghost use Rattle.sq_bound.specs.declared.condition.TablePlace.{TablePlace};
-ghost use Rattle.sq_expression.specs.Fault.{MeetsAs};
-ghost use Rattle.sq_query.specs.FewRows.{few_numbered};
-ghost use Rattle.sq_query.specs.Inner.{HasKeys};
-ghost use Rattle.sq_query.specs.Keyed.{IsKeyedTarget, IsKeyedUnder, ReadsNoTable};
-ghost use Rattle.sq_query.specs.MayRead.{MayEnd, MayRead};
-ghost use Rattle.sq_query.specs.Meant.{IsKeyUnder};
-ghost use Rattle.sq_query.specs.Needed.{FindsConds};
-ghost use Rattle.sq_query.specs.Table.{numbered_row, stored_numbered};
-ghost use Rattle.sq_query.specs.Target.{AreNumbersOf, AreRowsThere, IsChosenAsMeant, ShowsTargetRows, conditions_of, is_true_of, numbers_chosen, numbers_in};
+//! The rows of a base table that a target means: among those that its own condition names, or among all.
 
 use crate::few_rows::FewRows;
 use crate::inputs::Inputs;
-use crate::key::{KnownKey, known_key};
-use crate::named_keys::key_of_condition;
-use crate::several::rows_by_values;
-use crate::target::meets_target;
-use sq_bound::{Names, Target};
+use crate::row::call_of;
+use crate::target::{chosen_rows, meets_target, views_of_target};
+use sq_bound::{BoundConj, Names, Target};
+use sq_condition::{KnownKey, Memo, Numbered, Reading, known_key, named_rows, terms_of};
 use sq_expression::{Context, Fault};
 use sq_store::{Meter, Store};
 use sq_value::Row;
 use std::alloc::Global;
+use std::mem::replace;
 
 /// The rows that a target means, with their numbers, which rise: each condition in turn is true of them, over all rows.
-/// If the target names one row by a key, no other row is looked at: on each of them one of the first tests of its own
-/// condition, the tests of the key's columns, is false. It decides before a later test can end with a status or reads a
-/// table, and the conditions of views between have a truth. So it is with several values of a key of one column. The meter
-/// counts the rows that are read.
+/// If the target's own condition names rows, no other row is looked at: on each of them one of its first tests is false. It
+/// decides before a later test can end with a status or reads a table, and the conditions of views between have a truth. The
+/// meter counts the rows that are read.
 pub fn rows_of<'a, N: Names, S: Store>(
     alloc: Global,
     names: &N,
@@ -44,46 +23,72 @@ pub fn rows_of<'a, N: Names, S: Store>(
     store: &'a S,
     inputs: Inputs<'_>,
     meter: &mut Meter,
-) -> Result<FewRows<'a>, Fault>
-    requires finds { FindsConds (N.base_tables names.now) (N.column_kinds names.now)
-        (conditions_of target.now) }
-    requires base { IsBase (N.base_tables names.now) target.now.leaf.table }
-    requires keys { S.key_columns store.now ≡ keys_of_bases (N.base_tables names.now) }
-    requires not_null { not_nulls_hold (N.base_tables names.now) (S.content_now store.now) ≡ true }
-    ensures meant { ShowsTargetRows few_numbered result (N.base_tables names.now) (N.view_queries names.now)
-        (N.column_kinds names.now) (S.content_now store.now) inputs.entry.user inputs.entry.parameters.now
-        target.now }
-    ensures there { (parameters : List Kind) (tables : TablePlace → Outcome (List (List AnyValue)))
-        → MayRead (N.base_tables names.now) (N.view_queries names.now) (N.column_kinds names.now)
-        (S.content_now store.now)
-        inputs.entry.user inputs.entry.parameters.now parameters tables
-        → IsTarget (N.column_kinds names.now) parameters target.now
-        → IfOk result (λ rows. AreRowsThere (table_at (S.content_now store.now) target.now.base)
-        (few_numbered rows)) }
-    ensures right { (parameters : List Kind) (tables : TablePlace → Outcome (List (List AnyValue)))
-        → MayRead (N.base_tables names.now) (N.view_queries names.now) (N.column_kinds names.now)
-        (S.content_now store.now)
-        inputs.entry.user inputs.entry.parameters.now parameters tables
-        → IsTarget (N.column_kinds names.now) parameters target.now
-        → IfErr result MayEnd }
-    ensures read { IsKeyedTarget target.now inputs.entry.parameters.now inputs.entry.user
-        → meter.new ≤ meter.old + 1 }
-{
-    let call = Context {
-        alloc,
-        user: inputs.user,
-        parameters: &*inputs.parameters,
-        bases: &[],
+) -> Result<FewRows<'a>, Fault> {
+    let call = call_of(alloc, inputs);
+    let views = views_of_target(names, target, store, &call, meter)?;
+    let reading = Reading {
+        context: call,
+        store,
+        views: views.as_slice(),
+    };
+    match rows_named(target, store, &call, meter)? {
+        Numbered::One(Some(found)) => {
+            let is_chosen = meets_target(target, found.1, &reading, meter)?;
+            Ok(FewRows::one_if(alloc, is_chosen, found))
+        }
+        Numbered::One(None) => Ok(FewRows::none(alloc)),
+        Numbered::Listed(rows) => FewRows::listed(chosen_rows(target, rows, &reading, meter)),
+        Numbered::Rows(_) => unreachable!(),
+    }
+}
+
+/// The rows of the base table that a target's own condition names, or all. No view is read for that.
+fn rows_named<'a, S: Store>(
+    target: &Target,
+    store: &'a S,
+    call: &Context<'_>,
+    meter: &mut Meter,
+) -> Result<Numbered<'a>, Fault> {
+    let reading = Reading {
+        context: *call,
+        store,
         views: &[],
     };
-    match key_under(target, store, &call)? {
-        Some(known) => {
-            let rows = rows_by_key(names, &*target, store, &call, &known, meter);
-            drop(known);
-            rows
-        }
-        None => FewRows::listed(rows_by_values(names, &*target, store, &call, meter)),
+    let mut memo = Memo::new(call.alloc, replace(meter, Meter::new()));
+    let named = named_rows(terms_of_target(target), target.base, &reading, &mut memo);
+    *meter = memo.into_meter();
+    match named? {
+        Some(named) => Ok(named),
+        None => Ok(Numbered::Listed(numbered_rows(call.alloc, store, target.base, meter)?)),
     }
+}
+
+/// The terms that may name rows: none if the condition of a view between may end with a status on another row.
+fn terms_of_target(target: &Target) -> &[BoundConj] {
+    if target.leaf.get().is_quiet {
+        terms_of(&target.condition)
+    } else {
+        &[]
+    }
+}
+
+/// The rows of a base table with their numbers, which rise.
+fn numbered_rows<'a, S: Store>(
+    alloc: Global,
+    store: &'a S,
+    table: usize,
+    meter: &mut Meter,
+) -> Result<Vec<(u64, &'a Row)>, Fault> {
+    if table >= store.table_count() {
+        return Err(Fault::NOT_WELL_FORMED);
+    }
+    let mut rows = Vec::new(alloc);
+    let mut number = 0;
+    while let Some((found, row)) = store.next_from(table, number, meter) {
+        rows.push((found, row))?;
+        number = found + 1;
+    }
+    Ok(rows)
 }
 
 /// The numbers of the rows that a target means, rising.
@@ -94,41 +99,8 @@ pub fn numbers_of<N: Names, S: Store>(
     store: &S,
     inputs: Inputs<'_>,
     meter: &mut Meter,
-) -> Result<Vec<u64>, Fault>
-    requires finds { FindsConds (N.base_tables names.now) (N.column_kinds names.now)
-        (conditions_of target.now) }
-    requires base { IsBase (N.base_tables names.now) target.now.leaf.table }
-    requires keys { S.key_columns store.now ≡ keys_of_bases (N.base_tables names.now) }
-    requires not_null { not_nulls_hold (N.base_tables names.now) (S.content_now store.now) ≡ true }
-    ensures meant { (parameters : List Kind) (tables : TablePlace → Outcome (List (List AnyValue)))
-        → MayRead (N.base_tables names.now) (N.view_queries names.now) (N.column_kinds names.now)
-        (S.content_now store.now)
-        inputs.entry.user inputs.entry.parameters.now parameters tables
-        → IsTarget (N.column_kinds names.now) parameters target.now
-        → MeetsAs numbers_in result (and_then (stored_numbered (S.content_now store.now) target.now.base)
-        (numbers_chosen (is_true_of tables inputs.entry.parameters.now inputs.entry.user)
-        (conditions_of target.now))) }
-    ensures there { (parameters : List Kind) (tables : TablePlace → Outcome (List (List AnyValue)))
-        → MayRead (N.base_tables names.now) (N.view_queries names.now) (N.column_kinds names.now)
-        (S.content_now store.now)
-        inputs.entry.user inputs.entry.parameters.now parameters tables
-        → IsTarget (N.column_kinds names.now) parameters target.now
-        → IfOk result (λ numbers. AreNumbersOf
-        (table_at (S.content_now store.now) target.now.base) numbers.items) }
-    ensures right { (parameters : List Kind) (tables : TablePlace → Outcome (List (List AnyValue)))
-        → MayRead (N.base_tables names.now) (N.view_queries names.now) (N.column_kinds names.now)
-        (S.content_now store.now)
-        inputs.entry.user inputs.entry.parameters.now parameters tables
-        → IsTarget (N.column_kinds names.now) parameters target.now
-        → IfErr result MayEnd }
-    ensures read { IsKeyedTarget target.now inputs.entry.parameters.now inputs.entry.user
-        → meter.new ≤ meter.old + 1 }
-{
-    let lent = Inputs {
-        user: inputs.user,
-        parameters: &*inputs.parameters,
-    };
-    let rows = rows_of(alloc, names, target, store, lent, meter)?;
+) -> Result<Vec<u64>, Fault> {
+    let rows = rows_of(alloc, names, target, store, inputs, meter)?;
     numbers(alloc, rows.as_slice())
 }
 
@@ -139,140 +111,12 @@ pub fn key_of<S: Store>(
     target: &Target,
     store: &S,
     inputs: Inputs<'_>,
-) -> Result<Option<KnownKey>, Fault>
-    requires there { target.now.base < length (S.content_now store.now) }
-    requires keys { keys_at (S.key_columns store.now) target.now.base ≡ target.now.leaf.table.keys }
-    ensures known { IfOk result
-        (λ found. IfSome found (IsKeyUnder target.now (S.content_now store.now) (S.key_columns store.now)
-        inputs.entry.parameters.now inputs.entry.user)) }
-    ensures found { target.now.is_quiet ≡ true → IfOk result
-        (λ found. IsKeyedUnder target.now inputs.entry.parameters.now inputs.entry.user → IsSome found) }
-    ensures memory { (columns : TableKinds) (parameters : List Kind) → IsTarget columns parameters target.now
-        → IsRowOf parameters inputs.entry.parameters.now → IfErr result (λ fault. fault ≡ Fault.NoMemory) }
-{
-    let call = Context {
-        alloc,
-        user: inputs.user,
-        parameters: &*inputs.parameters,
-        bases: &[],
-        views: &[],
-    };
-    key_under(target, store, &call)
-}
-
-/// The key by which a target names a row of the base table, with its values, where no other row needs to be looked at: the one that is
-/// noted for it or, if none is, one that its condition names.
-fn key_under<S: Store>(
-    target: &Target,
-    store: &S,
-    call: &Context<'_>,
-) -> Result<Option<KnownKey>, Fault>
-    requires there { target.now.base < length (S.content_now store.now) }
-    requires keys { keys_at (S.key_columns store.now) target.now.base ≡ target.now.leaf.table.keys }
-    ensures known { IfOk result
-        (λ found. IfSome found (IsKeyUnder target.now (S.content_now store.now) (S.key_columns store.now)
-        call.now.parameters.now call.now.user)) }
-    ensures found { target.now.leaf.is_quiet ≡ true → IfOk result
-        (λ found. IsKeyedUnder target.now call.now.parameters.now call.now.user → IsSome found) }
-    ensures memory { (columns : TableKinds) (parameters : List Kind) → IsTarget columns parameters target.now
-        → IsRowOf parameters call.now.parameters.now → IfErr result (λ fault. fault ≡ Fault.NoMemory) }
-{
-    match target.key {
-        Some(_) => known_key(target, store, call),
-        None => key_through_views(target, store, call),
-    }
-}
-
-/// A key by which a target's own condition names a row of the base table, with its values: `None` if the condition of a view between may
-/// end with a status on another row.
-fn key_through_views<S: Store>(
-    target: &Target,
-    store: &S,
-    call: &Context<'_>,
-) -> Result<Option<KnownKey>, Fault>
-    requires there { target.now.base < length (S.content_now store.now) }
-    requires keys { keys_at (S.key_columns store.now) target.now.base ≡ target.now.leaf.table.keys }
-    ensures known { IfOk result
-        (λ found. IfSome found (IsKeyUnder target.now (S.content_now store.now) (S.key_columns store.now)
-        call.now.parameters.now call.now.user)) }
-    ensures found { target.now.leaf.is_quiet ≡ true → IfOk result
-        (λ found. IsKeyedUnder target.now call.now.parameters.now call.now.user → IsSome found) }
-    ensures memory { (columns : TableKinds) (parameters : List Kind) → IsTarget columns parameters target.now
-        → IsRowOf parameters call.now.parameters.now → IfErr result (λ fault. fault ≡ Fault.NoMemory) }
-{
-    let Some(own) = &target.condition else {
-        return Ok(None);
-    };
-    if target.leaf.get().is_quiet {
-        key_of_condition(target.base, own, store, call)
-    } else {
-        Ok(None)
-    }
-}
-
-/// The row with a key, if the conditions are true of it. They are true of no other row, and on that one alone are their subqueries
-/// evaluated.
-fn rows_by_key<'a, N: Names, S: Store>(
-    names: &N,
-    target: &Target,
-    store: &'a S,
-    call: &Context<'_>,
-    known: &KnownKey,
-    meter: &mut Meter,
-) -> Result<FewRows<'a>, Fault>
-    requires key { IsKeyUnder target.now (S.content_now store.now)
-        (S.key_columns store.now) call.now.parameters.now call.now.user
-        known.now }
-    requires base { IsBase (N.base_tables names.now) target.now.leaf.table }
-    requires keys { S.key_columns store.now ≡ keys_of_bases (N.base_tables names.now) }
-    requires not_null { not_nulls_hold (N.base_tables names.now) (S.content_now store.now) ≡ true }
-    requires finds { FindsConds (N.base_tables names.now) (N.column_kinds names.now)
-        (conditions_of target.now) }
-    ensures meant { ShowsTargetRows few_numbered result (N.base_tables names.now) (N.view_queries names.now)
-        (N.column_kinds names.now) (S.content_now store.now) call.now.user call.now.parameters.now
-        target.now }
-    ensures read { ReadsNoTable target.now → meter.new ≤ meter.old + 1 }
-{
-    match store.find_key(target.base, known.key, &known.values, meter) {
-        Some(found) => {
-            let is_chosen = is_meant(&*names, &*target, &*found.1, &*store, &*call, meter)?;
-            Ok(FewRows::one_if(call.alloc, is_chosen, found))
-        }
-        None => Ok(FewRows::none(call.alloc)),
-    }
-}
-
-/// Whether a target means the row that its key found. The meter counts what its subqueries read; there is none where binding noted
-/// the key.
-fn is_meant<'a, N: Names, S: Store>(
-    names: &'a N,
-    target: &'a Target,
-    row: &'a Row,
-    store: &'a S,
-    call: &Context<'a>,
-    meter: &mut Meter,
-) -> Result<bool, Fault>
-    requires finds { FindsConds (N.base_tables names.now) (N.column_kinds names.now)
-        (conditions_of target.now) }
-    requires keys { HasKeys (N.base_tables names.now) (S.content_now store.now) (S.key_columns store.now) }
-    ensures meant { IsChosenAsMeant result (N.base_tables names.now) (N.view_queries names.now)
-        (N.column_kinds names.now) (S.content_now store.now) call.now.user call.now.parameters.now
-        (conditions_of target.now) row.now }
-    ensures read { ReadsNoTable target.now → meter.new ≡ meter.old }
-{
-    match target.key {
-        Some(_) => {
-            let mut uncounted = Meter::new();
-            meets_target(names, target, row, true, store, call, &mut uncounted)
-        }
-        None => meets_target(names, target, row, true, store, call, meter),
-    }
+) -> Result<Option<KnownKey>, Fault> {
+    known_key(terms_of_target(target), target.base, &call_of(alloc, inputs), store)
 }
 
 /// The numbers of rows.
-fn numbers(alloc: Global, rows: &[(u64, &Row)]) -> Result<Vec<u64>, Fault>
-    ensures { MeetsAs numbers_in result (Ok (map (λ found. found.number) (map numbered_row rows.now))) }
-{
+fn numbers(alloc: Global, rows: &[(u64, &Row)]) -> Result<Vec<u64>, Fault> {
     let mut numbers = Vec::new(alloc);
     for found in rows {
         numbers.push(found.0)?;

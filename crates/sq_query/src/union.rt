@@ -10,7 +10,7 @@ ghost use Rattle.sq_bound.specs.Joined.{specifications_of, term_specifications};
 ghost use Rattle.sq_bound.specs.WellFormed.{kinds_of_results};
 ghost use Rattle.sq_expression.specs.Fault.{Meets, HasRows};
 ghost use Rattle.sq_query.specs.Order.{HasQueryRows, HasTermRows};
-ghost use Rattle.sq_query.specs.Specification.{AreReadable};
+ghost use Rattle.sq_query.specs.Search.{AreReadable};
 ghost use Rattle.sq_query.specs.Union.{MayBeBrought, IsBringable, AreBringable, IsJoinedTo, WereJoined, all_stay, rows_behind, stays};
 
 use crate::specification::rows_of_specification;
