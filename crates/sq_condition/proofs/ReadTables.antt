@@ -1,4 +1,4 @@
--- The rows of views among the tables that are read.
+-- The rows of views among the tables that are read (ISO/IEC 9075:1992, 5.4 and 6.3).
 use Rattle.std.proofs.Common.{◌≡◌, ℕ, List, Option, Some, None, refl, ap, ◌∙◌, Ok}
 use Rattle.std.specs.Prelude.{find, nat_eq}
 use Rattle.sq_meaning.specs.Status.{and_then, well_formed}

@@ -9,7 +9,7 @@ use Rattle.sq_expression.specs.Fault.{status_of}
 use Rattle.sq_expression.specs.Frame.{view_outcome}
 use Rattle.sq_expression.specs.Sources.{Sources, with_tables}
 use Rattle.sq_expression.specs.declared.fault.Failure.{Failure}
-use Rattle.sq_condition.specs.Stored.{stored_rows}
+use Rattle.sq_condition.specs.Stored.{stored_rows, stored_sure}
 use Rattle.sq_condition.specs.declared.reading.Reading.{Reading}
 use Rattle.sq_condition.specs.declared.reading.ViewRows.{ViewRows}
 
@@ -30,4 +30,5 @@ tables_of content views (View place) =
 
 -- the user, the parameters and the tables
 abbrev pub sources : {S : Type 0} → (S → Content) → Reading S → Sources
-sources content_now r = with_tables (tables_of (content_now r.store.now) r.views.now) r.context
+sources content_now r =
+    with_tables (tables_of (content_now r.store.now) r.views.now) (stored_sure (content_now r.store.now)) r.context
