@@ -84,7 +84,8 @@ pub(crate) fn between_truth(
     context: &Context<'_>,
 ) -> Result<Truth, Fault>
     ensures { Meets result
-        (truth_in frame.now (without_tables context.now) (between (on_line frame.now operand.now) (on_line frame.now low.now)
+        (truth_in frame.now (without_tables context.now)
+        (between (on_line frame.now operand.now) (on_line frame.now low.now)
         (on_line frame.now high.now))) }
 {
     let above = comparison_truth(Comparison::GreaterOrEqual, operand, low, frame, context)?;
@@ -126,7 +127,8 @@ pub(crate) fn like_truth(
     context: &Context<'_>,
 ) -> Result<Truth, Fault>
     ensures { Meets result
-        (truth_in frame.now (without_tables context.now) (like (on_line frame.now text.now) (on_line frame.now pattern.now)
+        (truth_in frame.now (without_tables context.now)
+        (like (on_line frame.now text.now) (on_line frame.now pattern.now)
         (option_map (on_line frame.now) escape.now))) }
 {
     let text = value(text, frame, context)?;
@@ -141,7 +143,8 @@ fn like_pattern(
     context: &Context<'_>,
 ) -> Result<Truth, Fault>
     ensures { Meets result
-        (truth_in frame.now (without_tables context.now) (like (literal text.now) (on_line frame.now pattern.now)
+        (truth_in frame.now (without_tables context.now)
+        (like (literal text.now) (on_line frame.now pattern.now)
         (option_map (on_line frame.now) escape.now))) }
 {
     let pattern = value(pattern, frame, context)?;
@@ -158,7 +161,8 @@ fn like_escape(
     frame: &Frame<'_>,
     context: &Context<'_>,
 ) -> Result<Truth, Fault>
-    ensures { Meets result (truth_in frame.now (without_tables context.now) (like (literal text.now) (literal pattern.now)
+    ensures { Meets result
+        (truth_in frame.now (without_tables context.now) (like (literal text.now) (literal pattern.now)
         (Some (on_line frame.now escape.now)))) }
 {
     let escape = value(escape, frame, context)?;
@@ -178,7 +182,8 @@ pub(crate) fn null_truth(
     frame: &Frame<'_>,
     context: &Context<'_>,
 ) -> Result<Truth, Fault>
-    ensures { Meets result (truth_in frame.now (without_tables context.now) (is_null (on_line frame.now operand.now))) }
+    ensures { Meets result
+        (truth_in frame.now (without_tables context.now) (is_null (on_line frame.now operand.now))) }
 {
     let operand = value(operand, frame, context)?;
     Ok(Truth::from(matches!(operand.get(), Value::Null)))

@@ -59,7 +59,8 @@ pub(crate) fn view_rows<'m>(
     place: usize,
     views: &'m [ViewRows],
 ) -> Result<Vec<&'m Row>, Fault>
-    ensures { MeetsAs rows_of_line result (and_then (view_there views.now place) (λ view. Ok view.rows.items)) }
+    ensures { MeetsAs rows_of_line result
+        (and_then (view_there views.now place) (λ view. Ok view.rows.items)) }
 {
     view_at(place, views)?.lend(alloc)
 }
