@@ -7,10 +7,10 @@ mod comparison;
 mod condition;
 mod fixed;
 mod item;
+mod known;
 mod members;
 mod memo;
 mod named;
-mod named_by;
 mod own_test;
 mod predicate;
 mod product;
@@ -18,12 +18,12 @@ mod reading;
 mod ruled_out;
 mod specification;
 mod thinned;
+mod way;
 
-pub use asked::{KnownKey, Numbered};
-pub use condition::{
-    known_key, named_rows, outermost_rows, rows_named_through, rows_over, truth,
-};
+pub use asked::Numbered;
+pub use condition::{named_rows, outermost_rows, rows_over, rows_under, truth};
+pub use known::{KnownKey, known_key};
 pub use memo::Memo;
 pub use named::terms_of;
-pub use named_by::{NamedBy, named_by};
 pub use reading::{Reading, ViewRows};
+pub use way::{NamedBy, named_by};

@@ -33,31 +33,31 @@ pub fn shown_lines<'a>(
         (and_then (each (λ line. row_shown [] list.now (line_env line outer.entry context.now) context.now)
         (lines_in lines.now)) (λ rows. Ok (rows_left is_distinct rows))) }
 {
-    let lent = lines.lend(context.alloc)?;
-    let rows = rows_of_lines(list, lent.as_slice(), outer, context);
+    let rows = rows_of_lines(list, lines, outer, context);
     take_distinct(is_distinct, context.alloc, rows)
 }
 
 #[tactic(auto, using(crate::proofs::Each::each_ends))]
 fn rows_of_lines(
     list: &[BoundExpr],
-    lines: &[&[&Row]],
+    lines: &Lines<'_>,
     outer: Option<&Frame<'_>>,
     context: &Context<'_>,
 ) -> Result<Vec<Row>, Fault>
     ensures { HasRows result
         (each (λ line. row_shown [] list.now (line_env line outer.entry context.now) context.now)
-        (lines_lent lines.now)) }
+        (lines_in lines.now)) }
 {
     let mut rows = Vec::new(context.alloc);
-    for line in lines {
-        let row = row_of_line(list, *line, outer, context)?;
+    for place in 0..lines.rows.len() / lines.width {
+        let row = row_of_line(list, lines.line_at(place), outer, context)?;
         rows.push(row)?;
     }
     Ok(rows)
 }
 
-fn row_of_line(
+/// The row of a select list for a line.
+pub fn row_of_line(
     list: &[BoundExpr],
     line: &[&Row],
     outer: Option<&Frame<'_>>,

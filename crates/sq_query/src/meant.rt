@@ -38,7 +38,6 @@ pub fn rows_of<'a, N: Names, S: Store>(
         }
         Numbered::One(None) => Ok(FewRows::none(alloc)),
         Numbered::Listed(rows) => FewRows::listed(chosen_rows(target, rows, &reading, meter)),
-        Numbered::Rows(_) => unreachable!(),
     }
 }
 

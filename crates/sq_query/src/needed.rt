@@ -18,16 +18,6 @@ impl Needed {
         }
     }
 
-    /// The views in the FROM clauses of a query specification.
-    pub(crate) fn of_specification(
-        alloc: Global,
-        query: &BoundSpecification,
-    ) -> Result<Needed, AllocError> {
-        let mut needed = Needed::new(alloc);
-        needed.add_of_specification(query)?;
-        Ok(needed)
-    }
-
     /// The views in the FROM clauses of a query specification's subqueries.
     pub(crate) fn of_subqueries(
         alloc: Global,
@@ -126,7 +116,7 @@ impl Needed {
     }
 
     /// Adds a view that isn't there yet.
-    fn add(&mut self, table: TablePlace) -> Result<(), AllocError> {
+    pub(crate) fn add(&mut self, table: TablePlace) -> Result<(), AllocError> {
         match table {
             TablePlace::View(place) if !self.contains(place) => Ok(self.views.push(place)?),
             _ => Ok(()),

@@ -13,7 +13,7 @@ ghost use Rattle.sq_bound.specs.declared.condition.TablePlace.TheVariants as at_
 ghost use Rattle.sq_query.specs.Search.{IsOver};
 ghost use Rattle.sq_query.specs.Shown.{AreShown, Asks, IsPath, IsPlainOver, Shows, is_grouped_by, is_quiet_beside, is_sure_call, is_sure_grouping, is_unwritten, stays_in_range};
 
-use crate::needed::view_at;
+use crate::needed::{Needed, view_at};
 use sq_bound::{
     BoundCond, BoundExpr, BoundSpecification, Grouping, Names, Place, SetFunctionCall, TablePlace,
     is_quiet_cond, own_column,
@@ -142,6 +142,24 @@ pub(crate) fn columns_shown<N: Names>(
         }
     }
     Ok(shown)
+}
+
+/// The view in an item of a query specification, if it stands in no other item and in no subquery, of which these are the tables.
+pub(crate) fn view_alone(
+    query: &BoundSpecification,
+    item: usize,
+    inner: &Needed,
+) -> Option<usize> {
+    let tables = query.from.tables.as_slice();
+    let table = *tables.get(item)?;
+    let is_elsewhere = tables
+        .iter()
+        .enumerate()
+        .any(|(other, own)| other != item && *own == table);
+    match table {
+        TablePlace::View(view) if !is_elsewhere && !inner.contains(view) => Some(view),
+        _ => None,
+    }
 }
 
 /// The view over which alone a query specification is.

@@ -6,7 +6,7 @@ use sq_condition::{Memo, Reading, ViewRows, outermost_rows};
 use sq_expression::{Context, Fault};
 use sq_store::{Meter, Store};
 use sq_value::Row;
-use std::alloc::{AllocError, Global};
+use std::alloc::Global;
 use std::mem::replace;
 
 /// The rows of the views that stand in a statement's own FROM clauses, and of those that these read. A view names only earlier
@@ -14,12 +14,12 @@ use std::mem::replace;
 /// and no query around.
 pub(crate) fn views_of<N: Names, S: Store>(
     names: &N,
-    needed: Result<Needed, AllocError>,
+    needed: Needed,
     store: &S,
     call: &Context<'_>,
     meter: &mut Meter,
 ) -> Result<Vec<ViewRows>, Fault> {
-    let mut needed = needed?;
+    let mut needed = needed;
     let mut views = Vec::new(call.alloc);
     if needed.views.is_empty() {
         return Ok(views);
