@@ -59,7 +59,7 @@ pub fn known_key<S: Store>(
     context: &Context<'_>,
     store: &S,
 ) -> Result<Option<KnownKey>, Fault> {
-    let sought = Sought::on_row(terms);
+    let sought = Sought::before_lines(terms, 0);
     let Some(key) = named_key(&sought, store.keys(base)) else {
         return Ok(None);
     };

@@ -20,10 +20,10 @@ mod specification;
 mod thinned;
 mod way;
 
-pub use asked::Numbered;
+pub use asked::{Numbered, row_named};
 pub use condition::{named_rows, outermost_rows, rows_over, rows_under, truth};
 pub use known::{KnownKey, known_key};
 pub use memo::Memo;
 pub use named::terms_of;
 pub use reading::{Reading, ViewRows};
-pub use way::{NamedBy, named_by};
+pub use way::{NamedBy, NamedItem, named_by};

@@ -1,9 +1,11 @@
-//! By what tests name rows of a base table, said before any value is known.
+//! By what tests name rows of base tables, said before any value is known.
 
+use crate::fixed::Fixed;
 use crate::named::{Sought, Wanted};
-use sq_bound::BoundConj;
+use sq_bound::{BaseTable, BoundConj};
 use sq_items::Items;
 use sq_store::{Meter, Store};
+use sq_value::Row;
 use std::alloc::{AllocError, Global};
 use std::slice::from_ref;
 
@@ -18,29 +20,122 @@ pub enum NamedBy {
     Column(usize),
 }
 
-/// By what tests name rows of an item for each line of the items before it. The item is a base table with these keys and these
-/// columns with an index, or a view that shows its columns.
+/// An item of a FROM clause, with the base table that is asked for its rows: the item itself, or the one under a view.
+#[derive(Drop)]
+pub struct NamedItem<'a> {
+    pub table: &'a BaseTable,
+    /// Under a view: for each column of the base table the one by which the view is asked.
+    pub shown: Option<Vec<Option<usize>>>,
+}
+
+// ---- before any call
+
+/// By what the tests of these terms name the rows of each item for each line of the items before it. Of `None` all rows are read.
+/// It is said whether the rows are sought once.
 pub fn named_by(
+    alloc: Global,
     terms: &[BoundConj],
-    item: usize,
-    shown: Option<&[Option<usize>]>,
-    keys: &[Items<usize>],
-    indexed: &[usize],
-) -> Option<NamedBy> {
-    let sought = Sought {
-        item,
-        known: item,
-        shown,
-        ..Sought::on_row(terms)
-    };
-    match named_by_keys(&sought, keys) {
-        Some(by) => Some(by),
-        None => {
-            let column = indexed.iter().find(|column| is_named(&sought, **column))?;
-            Some(NamedBy::Column(*column))
+    items: &[Option<NamedItem<'_>>],
+    is_once: bool,
+) -> Result<Vec<Option<NamedBy>>, AllocError> {
+    // It stands for each row that a key names in a call.
+    let row = Row::new(alloc);
+    let mut fixed = Vec::from_elem(alloc, Fixed::Open, items.len())?;
+    for _ in 0..items.len() {
+        fix_named(terms, items, &row, fixed.as_mut_slice());
+    }
+    let mut ways = Vec::with_capacity(alloc, items.len())?;
+    for (number, item) in items.iter().enumerate() {
+        ways.push(way_of(terms, number, item, fixed.as_slice(), is_once))?;
+    }
+    Ok(ways)
+}
+
+/// Gives a row to each item whose row tests name by a key before there is a line.
+fn fix_named<'r>(
+    terms: &[BoundConj],
+    items: &[Option<NamedItem<'_>>],
+    row: &'r Row,
+    fixed: &mut [Fixed<'r>],
+) {
+    for number in 0..items.len() {
+        if is_named_by_key(terms, number, &items[number], fixed) {
+            fixed[number] = Fixed::Row(row);
         }
     }
 }
+
+fn is_named_by_key(
+    terms: &[BoundConj],
+    number: usize,
+    item: &Option<NamedItem<'_>>,
+    fixed: &[Fixed<'_>],
+) -> bool {
+    match item {
+        Some(item) if item.shown.is_none() => {
+            let sought = Sought {
+                fixed,
+                ..Sought::before_lines(terms, number)
+            };
+            named_key(&sought, item.table.keys.as_slice()).is_some()
+        }
+        _ => false,
+    }
+}
+
+/// By what tests name the rows of an item: by something known before there is a line, or for each line.
+fn way_of(
+    terms: &[BoundConj],
+    number: usize,
+    item: &Option<NamedItem<'_>>,
+    fixed: &[Fixed<'_>],
+    is_once: bool,
+) -> Option<NamedBy> {
+    let Some(item) = item else {
+        return None;
+    };
+    let alone = Sought {
+        fixed,
+        is_once: is_once && item.shown.is_none(),
+        shown: shown_by(item),
+        ..Sought::before_lines(terms, number)
+    };
+    if item.shown.is_some() {
+        return way_by(&alone, item.table);
+    }
+    let by_line = Sought {
+        known: number,
+        ..Sought::before_lines(terms, number)
+    };
+    match (way_by(&alone, item.table), way_by(&by_line, item.table)) {
+        (Some(NamedBy::Key(key)), _) | (_, Some(NamedBy::Key(key))) => Some(NamedBy::Key(key)),
+        (Some(by), _) | (None, Some(by)) => Some(by),
+        (None, None) => None,
+    }
+}
+
+fn shown_by<'i>(item: &'i NamedItem<'_>) -> Option<&'i [Option<usize>]> {
+    match &item.shown {
+        Some(columns) => Some(columns.as_slice()),
+        None => None,
+    }
+}
+
+/// By what tests name rows of a base table. The store has an index of each column that alone refers to a table.
+fn way_by(sought: &Sought<'_>, table: &BaseTable) -> Option<NamedBy> {
+    match named_by_keys(sought, table.keys.as_slice()) {
+        Some(by) => Some(by),
+        None => {
+            let references = table.references.as_slice();
+            let found = references
+                .iter()
+                .find(|reference| is_only_named(sought, reference.by_key.as_slice()))?;
+            Some(NamedBy::Column(*found.by_key.as_slice().first()?))
+        }
+    }
+}
+
+// ---- in a call
 
 /// By which of these keys tests name rows.
 fn named_by_keys(sought: &Sought<'_>, keys: &[Items<usize>]) -> Option<NamedBy> {

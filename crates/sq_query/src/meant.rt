@@ -5,7 +5,9 @@ use crate::inputs::Inputs;
 use crate::row::call_of;
 use crate::target::{chosen_rows, meets_target, views_of_target};
 use sq_bound::{BoundConj, Names, Target};
-use sq_condition::{KnownKey, Memo, Numbered, Reading, known_key, named_rows, terms_of};
+use sq_condition::{
+    KnownKey, Memo, Numbered, Reading, known_key, named_rows, row_named, terms_of,
+};
 use sq_expression::{Context, Fault};
 use sq_store::{Meter, Store};
 use sq_value::Row;
@@ -41,9 +43,24 @@ pub fn rows_of<'a, N: Names, S: Store>(
     }
 }
 
-/// The rows of the base table that a target's own condition names, or all. No view is read for that.
+/// The rows of the base table that a target's own condition names, or all.
 fn rows_named<'a, S: Store>(
     target: &Target,
+    store: &'a S,
+    call: &Context<'_>,
+    meter: &mut Meter,
+) -> Result<Numbered<'a>, Fault> {
+    let terms = terms_of_target(target);
+    match row_named(terms, target.base, call, store, meter)? {
+        Some(row) => Ok(row),
+        None => rows_by_values(terms, target.base, store, call, meter),
+    }
+}
+
+/// The rows by several values, or all. No view is read for that.
+fn rows_by_values<'a, S: Store>(
+    terms: &[BoundConj],
+    base: usize,
     store: &'a S,
     call: &Context<'_>,
     meter: &mut Meter,
@@ -54,11 +71,11 @@ fn rows_named<'a, S: Store>(
         views: &[],
     };
     let mut memo = Memo::new(call.alloc, replace(meter, Meter::new()));
-    let named = named_rows(terms_of_target(target), target.base, &reading, &mut memo);
+    let named = named_rows(terms, base, &reading, &mut memo);
     *meter = memo.into_meter();
     match named? {
         Some(named) => Ok(named),
-        None => Ok(Numbered::Listed(numbered_rows(call.alloc, store, target.base, meter)?)),
+        None => Ok(Numbered::Listed(numbered_rows(call.alloc, store, base, meter)?)),
     }
 }
 

@@ -2,14 +2,14 @@
 //! which columns are compared, and each has a value: then no more rows are read than it says, for each line of the items before it.
 
 use crate::needed::Needed;
-use crate::plain_view::{base_under, columns_shown, view_under};
+use crate::plain_view::{base_under, columns_shown, view_alone};
 use crate::way::{ColumnPlace, How, KeyPlace, Way};
 use sq_bound::{
-    BaseTable, BoundCond, BoundQuery, BoundSpecification, BoundTerm, BoundConj, Names, Predicate,
-    TablePlace, Target,
+    BoundCond, BoundQuery, BoundSpecification, BoundTerm, Names, Predicate, TablePlace, Target,
 };
-use sq_condition::{NamedBy, named_by, terms_of};
+use sq_condition::{NamedBy, NamedItem, named_by, terms_of};
 use std::alloc::{AllocError, Global};
+use std::slice::from_ref;
 
 /// How the rows of the tables of a query expression are found: of each query specification in it, in the order of the text.
 pub fn ways_of_query<N: Names>(
@@ -67,38 +67,23 @@ fn how_of_target(alloc: Global, target: &Target) -> Result<How, AllocError> {
     if !target.leaf.get().is_quiet {
         return Ok(How::Whole);
     }
-    let terms = terms_of(&target.condition);
-    how_of_base(alloc, target.leaf.get().table.get(), target.base, terms, 0, None)
-}
-
-/// How the rows of a base table in an item are found.
-fn how_of_base(
-    alloc: Global,
-    table: &BaseTable,
-    base: usize,
-    terms: &[BoundConj],
-    item: usize,
-    shown: Option<&[Option<usize>]>,
-) -> Result<How, AllocError> {
-    let indexed = indexed_columns(alloc, table)?;
-    let found = named_by(terms, item, shown, table.keys.as_slice(), indexed.as_slice());
-    match found {
-        Some(NamedBy::Key(key)) => Ok(How::Key(KeyPlace { base, key })),
-        Some(NamedBy::Values(key)) => Ok(How::Several(KeyPlace { base, key })),
-        Some(NamedBy::Column(column)) => Ok(How::Value(ColumnPlace { base, column })),
-        None => Ok(How::Whole),
+    let item = NamedItem {
+        table: target.leaf.get().table.get(),
+        shown: None,
+    };
+    let named = named_by(alloc, terms_of(&target.condition), from_ref(&Some(item)), true)?;
+    match named.as_slice() {
+        [Some(by)] => Ok(how_by(*by, target.base)),
+        _ => Ok(How::Whole),
     }
 }
 
-/// The columns that alone refer to a table: the store has an index of each.
-fn indexed_columns(alloc: Global, table: &BaseTable) -> Result<Vec<usize>, AllocError> {
-    let mut columns = Vec::new(alloc);
-    for reference in table.references.as_slice() {
-        if let [only] = reference.by_key.as_slice() {
-            columns.push(*only)?;
-        }
+fn how_by(by: NamedBy, base: usize) -> How {
+    match by {
+        NamedBy::Key(key) => How::Key(KeyPlace { base, key }),
+        NamedBy::Values(key) => How::Several(KeyPlace { base, key }),
+        NamedBy::Column(column) => How::Value(ColumnPlace { base, column }),
     }
-    Ok(columns)
 }
 
 // ---- queries
@@ -137,40 +122,66 @@ fn add_of_outermost<N: Names>(
     query: &BoundSpecification,
     ways: &mut Vec<Way>,
 ) -> Result<(), AllocError> {
-    match view_under(query) {
-        Some(view) => {
-            let how = how_of_view(alloc, names, query, view)?;
-            let table = TablePlace::View(view);
-            ways.push(Way { table, how })?;
-            add_of_clauses(alloc, names, query, ways)
+    let inner = Needed::of_subqueries(alloc, query)?;
+    let mut items = Vec::new(alloc);
+    for (item, table) in query.from.tables.as_slice().iter().enumerate() {
+        match view_alone(query, item, &inner) {
+            Some(view) => items.push(item_of_view(alloc, names, view)?)?,
+            None => items.push(item_of_base(names, *table))?,
         }
-        None => add_of_select(alloc, names, query, ways),
     }
+    add_of_items(alloc, query, items.as_slice(), true, ways)?;
+    add_of_clauses(alloc, names, query, ways)
 }
 
-/// How the rows of the base table under the only table, a view, are found.
-fn how_of_view<N: Names>(
+/// The base table under a plain view.
+fn item_of_view<N: Names>(
     alloc: Global,
     names: &N,
-    query: &BoundSpecification,
     view: usize,
-) -> Result<How, AllocError> {
-    let inner = Needed::of_subqueries(alloc, query)?;
-    if inner.contains(view) {
-        return Ok(How::Whole);
-    }
+) -> Result<Option<NamedItem<'_>>, AllocError> {
     let Some(base) = base_under(names, view) else {
-        return Ok(How::Whole);
+        return Ok(None);
     };
-    let Some(table) = names.bases().get(base) else {
-        return Ok(How::Whole);
-    };
-    let shown = columns_shown(alloc, names, view, base)?;
-    let terms = terms_of(&query.condition);
-    how_of_base(alloc, table.get(), base, terms, 0, Some(shown.as_slice()))
+    match names.bases().get(base) {
+        Some(table) => Ok(Some(NamedItem {
+            table: table.get(),
+            shown: Some(columns_shown(alloc, names, view, base)?),
+        })),
+        None => Ok(None),
+    }
 }
 
-/// Adds the ways of a query specification.
+fn item_of_base<N: Names>(names: &N, table: TablePlace) -> Option<NamedItem<'_>> {
+    match table {
+        TablePlace::Base(base) => Some(NamedItem {
+            table: names.bases().get(base)?.get(),
+            shown: None,
+        }),
+        TablePlace::View(_) => None,
+    }
+}
+
+/// Adds the ways of the tables of a FROM clause.
+fn add_of_items(
+    alloc: Global,
+    query: &BoundSpecification,
+    items: &[Option<NamedItem<'_>>],
+    is_once: bool,
+    ways: &mut Vec<Way>,
+) -> Result<(), AllocError> {
+    let named = named_by(alloc, terms_of(&query.condition), items, is_once)?;
+    for (item, table) in query.from.tables.as_slice().iter().enumerate() {
+        let how = match (&items[item], named[item]) {
+            (Some(own), Some(by)) => how_by(by, own.table.place),
+            _ => How::Whole,
+        };
+        ways.push(Way { table: *table, how })?;
+    }
+    Ok(())
+}
+
+/// Adds the ways of a query specification inside another one.
 #[cycle(add_of_select)]
 fn add_of_select<N: Names>(
     alloc: Global,
@@ -178,30 +189,13 @@ fn add_of_select<N: Names>(
     query: &BoundSpecification,
     ways: &mut Vec<Way>,
 ) -> Result<(), AllocError> {
-    for (item, table) in query.from.tables.as_slice().iter().enumerate() {
-        let how = how_of_item(alloc, names, query, item, *table)?;
-        ways.push(Way { table: *table, how })?;
+    let mut items = Vec::new(alloc);
+    for table in query.from.tables.as_slice() {
+        items.push(item_of_base(names, *table))?;
     }
+    let is_once = query.number.is_some();
+    add_of_items(alloc, query, items.as_slice(), is_once, ways)?;
     add_of_clauses(alloc, names, query, ways)
-}
-
-fn how_of_item<N: Names>(
-    alloc: Global,
-    names: &N,
-    query: &BoundSpecification,
-    item: usize,
-    table: TablePlace,
-) -> Result<How, AllocError> {
-    let TablePlace::Base(base) = table else {
-        return Ok(How::Whole);
-    };
-    match names.bases().get(base) {
-        Some(table) => {
-            let terms = terms_of(&query.condition);
-            how_of_base(alloc, table.get(), base, terms, item, None)
-        }
-        None => Ok(How::Whole),
-    }
 }
 
 /// Adds the ways of the subqueries of WHERE and HAVING.
