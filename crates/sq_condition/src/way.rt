@@ -30,20 +30,16 @@ pub struct NamedItem<'a> {
 
 // ---- before any call
 
-/// By what the tests of these terms name the rows of each item for each line of the items before it. Of `None` all rows are read.
-/// It is said whether the rows are sought once.
+/// By what the tests of these terms name the rows of each item, for each line of the items before it; `None` if they name none. It
+/// is said whether the rows are sought once in a statement.
 pub fn named_by(
     alloc: Global,
     terms: &[BoundConj],
     items: &[Option<NamedItem<'_>>],
     is_once: bool,
 ) -> Result<Vec<Option<NamedBy>>, AllocError> {
-    // It stands for each row that a key names in a call.
     let row = Row::new(alloc);
-    let mut fixed = Vec::from_elem(alloc, Fixed::Open, items.len())?;
-    for _ in 0..items.len() {
-        fix_named(terms, items, &row, fixed.as_mut_slice());
-    }
+    let fixed = items_fixed(alloc, terms, items, &row)?;
     let mut ways = Vec::with_capacity(alloc, items.len())?;
     for (number, item) in items.iter().enumerate() {
         ways.push(way_of(terms, number, item, fixed.as_slice(), is_once))?;
@@ -51,15 +47,29 @@ pub fn named_by(
     Ok(ways)
 }
 
-/// Gives a row to each item whose row tests name by a key before there is a line.
+/// The items whose row tests name by a key before there is a line. This row stands for each that a call will find.
+fn items_fixed<'r>(
+    alloc: Global,
+    terms: &[BoundConj],
+    items: &[Option<NamedItem<'_>>],
+    row: &'r Row,
+) -> Result<Vec<Fixed<'r>>, AllocError> {
+    let mut fixed = Vec::from_elem(alloc, Fixed::Open, items.len())?;
+    for _ in 0..items.len() {
+        fix_named(terms, items, row, fixed.as_mut_slice());
+    }
+    Ok(fixed)
+}
+
+/// Goes over the items once for that.
 fn fix_named<'r>(
     terms: &[BoundConj],
     items: &[Option<NamedItem<'_>>],
     row: &'r Row,
     fixed: &mut [Fixed<'r>],
 ) {
-    for number in 0..items.len() {
-        if is_named_by_key(terms, number, &items[number], fixed) {
+    for (number, item) in items.iter().enumerate() {
+        if is_named_by_key(terms, number, item, fixed) {
             fixed[number] = Fixed::Row(row);
         }
     }
@@ -96,7 +106,7 @@ fn way_of(
     };
     let alone = Sought {
         fixed,
-        is_once: is_once && item.shown.is_none(),
+        is_once,
         shown: shown_by(item),
         ..Sought::before_lines(terms, number)
     };
@@ -127,9 +137,10 @@ fn way_by(sought: &Sought<'_>, table: &BaseTable) -> Option<NamedBy> {
         Some(by) => Some(by),
         None => {
             let references = table.references.as_slice();
-            let found = references
-                .iter()
-                .find(|reference| is_only_named(sought, reference.by_key.as_slice()))?;
+            let found = references.iter().find(|reference| is_only_named(
+                sought,
+                reference.by_key.as_slice(),
+            ))?;
             Some(NamedBy::Column(*found.by_key.as_slice().first()?))
         }
     }
@@ -195,7 +206,17 @@ fn named_by_column<S: Store>(
     store: &S,
 ) -> Result<Option<NamedBy>, AllocError> {
     let columns = sought.columns(alloc)?;
-    for column in columns.as_slice() {
+    first_indexed(columns.as_slice(), sought, base, alloc, store)
+}
+
+fn first_indexed<S: Store>(
+    columns: &[usize],
+    sought: &Sought<'_>,
+    base: usize,
+    alloc: Global,
+    store: &S,
+) -> Result<Option<NamedBy>, AllocError> {
+    for column in columns {
         if is_named(sought, *column) && has_index(base, *column, alloc, store)? {
             return Ok(Some(NamedBy::Column(*column)));
         }

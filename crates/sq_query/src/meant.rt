@@ -5,9 +5,7 @@ use crate::inputs::Inputs;
 use crate::row::call_of;
 use crate::target::{chosen_rows, meets_target, views_of_target};
 use sq_bound::{BoundConj, Names, Target};
-use sq_condition::{
-    KnownKey, Memo, Numbered, Reading, known_key, named_rows, row_named, terms_of,
-};
+use sq_condition::{KnownKey, Memo, Numbered, Reading, known_key, named_rows, row_named, terms_of};
 use sq_expression::{Context, Fault};
 use sq_store::{Meter, Store};
 use sq_value::Row;
@@ -128,7 +126,12 @@ pub fn key_of<S: Store>(
     store: &S,
     inputs: Inputs<'_>,
 ) -> Result<Option<KnownKey>, Fault> {
-    known_key(terms_of_target(target), target.base, &call_of(alloc, inputs), store)
+    known_key(
+        terms_of_target(target),
+        target.base,
+        &call_of(alloc, inputs),
+        store,
+    )
 }
 
 /// The numbers of rows.

@@ -145,11 +145,7 @@ pub(crate) fn columns_shown<N: Names>(
 }
 
 /// The view in an item of a query specification, if it stands in no other item and in no subquery, of which these are the tables.
-pub(crate) fn view_alone(
-    query: &BoundSpecification,
-    item: usize,
-    inner: &Needed,
-) -> Option<usize> {
+pub(crate) fn view_alone(query: &BoundSpecification, item: usize, inner: &Needed) -> Option<usize> {
     let tables = query.from.tables.as_slice();
     let table = *tables.get(item)?;
     let is_elsewhere = tables

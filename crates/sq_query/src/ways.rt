@@ -71,7 +71,12 @@ fn how_of_target(alloc: Global, target: &Target) -> Result<How, AllocError> {
         table: target.leaf.get().table.get(),
         shown: None,
     };
-    let named = named_by(alloc, terms_of(&target.condition), from_ref(&Some(item)), true)?;
+    let named = named_by(
+        alloc,
+        terms_of(&target.condition),
+        from_ref(&Some(item)),
+        true,
+    )?;
     match named.as_slice() {
         [Some(by)] => Ok(how_by(*by, target.base)),
         _ => Ok(How::Whole),
@@ -246,9 +251,7 @@ fn add_of_predicate<N: Names>(
         Predicate::CompareQuery(_, _, _, query) => add_of_select(alloc, names, query.get(), ways),
         Predicate::InQuery(_, _, query) => add_of_select(alloc, names, query.get(), ways),
         Predicate::Exists(query) => add_of_select(alloc, names, query.get(), ways),
-        Predicate::Bracketed(condition) => {
-            add_of_condition(alloc, names, condition.get(), ways)
-        }
+        Predicate::Bracketed(condition) => { add_of_condition(alloc, names, condition.get(), ways) }
         _ => Ok(()),
     }
 }
