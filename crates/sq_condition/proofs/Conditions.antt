@@ -25,7 +25,7 @@ use Rattle.sq_condition.specs.Condition.{HasTruth, cond_on, term_on, test_on}
 use Rattle.sq_expression.specs.Fault.{Means, Meets}
 use Rattle.sq_expression.specs.Frame.{env_of, group_values, reading, truth_in}
 use Rattle.sq_condition.specs.Predicate.{with_not}
-use Rattle.sq_expression.specs.declared.context.Context.{Context}
+use Rattle.sq_expression.specs.Sources.{Sources}
 use Rattle.sq_expression.specs.declared.fault.Fault.{Fault}
 use Rattle.sq_expression.specs.declared.frame.Frame.{Frame}
 use Rattle.sq_expression.proofs.Expressions.{meets_by}
@@ -45,29 +45,29 @@ not_both same = absurd (subst Holds same tt)
 pub same_plain : (c tree : PlacedCond) → c ≡ tree → has_subquery c ≡ false → has_subquery tree ≡ false
 same_plain c tree is plain = subst (λ (x : PlacedCond). has_subquery x ≡ false) is plain
 
-pub meets_tree : (r : Result Truth Fault) (frame : Frame) (context : Context) (c tree : PlacedCond) → c ≡ tree → Meets r (truth_in frame context tree) → Meets r (truth_in frame context c)
+pub meets_tree : (r : Result Truth Fault) (frame : Frame) (context : Sources) (c tree : PlacedCond) → c ≡ tree → Meets r (truth_in frame context tree) → Meets r (truth_in frame context c)
 meets_tree r frame context c tree is has = meets_by r (truth_in frame context c) (truth_in frame context tree) (ap (truth_in frame context) is) has
 
-pub has_same : (r : Result Truth Fault) (frame : Frame) (context : Context) (c tree : PlacedCond)
+pub has_same : (r : Result Truth Fault) (frame : Frame) (context : Sources) (c tree : PlacedCond)
     → c ≡ tree → HasTruth r frame context tree → HasTruth r frame context c
 has_same r frame context c tree is has plain = meets_tree r frame context c tree is (has (same_plain c tree is plain))
 
-pub meets_not : (r inner : Result Truth Fault) (frame : Frame) (context : Context) (written : Bool) (c tree : PlacedCond)
+pub meets_not : (r inner : Result Truth Fault) (frame : Frame) (context : Sources) (written : Bool) (c tree : PlacedCond)
     → c ≡ not_if written tree → ((o : Outcome Truth) → Meets inner o → Meets r (with_not written o)) → Meets inner (truth_in frame context tree) → Meets r (truth_in frame context c)
 meets_not r inner frame context true c tree is negates has = meets_tree r frame context c (not_if true tree) is (negates (truth_in frame context tree) has)
 meets_not r inner frame context false c tree is negates has = meets_tree r frame context c tree is (negates (truth_in frame context tree) has)
 
-pub means_tree : (r : Result Truth Fault) (frame : Frame) (context : Context) (c tree : PlacedCond) → c ≡ tree → Means r (truth_in frame context tree) → Means r (truth_in frame context c)
+pub means_tree : (r : Result Truth Fault) (frame : Frame) (context : Sources) (c tree : PlacedCond) → c ≡ tree → Means r (truth_in frame context tree) → Means r (truth_in frame context c)
 means_tree r frame context c tree is = means_same r (truth_in frame context c) (truth_in frame context tree) (ap (truth_in frame context) is)
 
-pub means_not : (r inner : Result Truth Fault) (frame : Frame) (context : Context) (written : Bool) (c tree : PlacedCond)
+pub means_not : (r inner : Result Truth Fault) (frame : Frame) (context : Sources) (written : Bool) (c tree : PlacedCond)
     → c ≡ not_if written tree → ((o : Outcome Truth) → Meets inner o → Meets r (with_not written o)) → Means inner (truth_in frame context tree) → Means r (truth_in frame context c)
 means_not r inner frame context true c tree is negates has =
     means_tree r frame context c (not_if true tree) is (means_by r inner (truth_in frame context tree) (with_not true) (right_not true (truth_in frame context tree)) negates has)
 means_not r inner frame context false c tree is negates has =
     means_tree r frame context c tree is (means_by r inner (truth_in frame context tree) (with_not false) (right_not false (truth_in frame context tree)) negates has)
 
-pub has_not : (r inner : Result Truth Fault) (frame : Frame) (context : Context) (written : Bool) (c tree : PlacedCond)
+pub has_not : (r inner : Result Truth Fault) (frame : Frame) (context : Sources) (written : Bool) (c tree : PlacedCond)
     → c ≡ not_if written tree → ((o : Outcome Truth) → Meets inner o → Meets r (with_not written o)) → HasTruth inner frame context tree → HasTruth r frame context c
 has_not r inner frame context true c tree is negates has plain = meets_not r inner frame context true c tree is negates (has (same_plain c (not_if true tree) is plain))
 has_not r inner frame context false c tree is negates has plain = meets_not r inner frame context false c tree is negates (has (same_plain c tree is plain))
@@ -131,7 +131,7 @@ pub with_exists : {A : Type 0} (functions : List PlacedExpr) (p : Predicate) (s 
 with_exists functions p s is plain =
     not_both (same_plain (predicate_of functions p) (exists (select_of s)) (ap (predicate_of functions) is ∙ predicate_of-Exists functions s) plain)
 
-module _ (frame : Frame) (context : Context) where
+module _ (frame : Frame) (context : Sources) where
   abbrev pub truth_of_term : BoundConj → Outcome Truth
   truth_of_term term = truth_in frame context (term_on frame term)
 

@@ -1,6 +1,7 @@
 pub mod Alike
 pub mod AlikeConds
 pub mod Around
+pub mod BesideTables
 pub mod Conditions
 pub mod Depths
 pub mod Grouped
@@ -18,6 +19,7 @@ pub mod OwnTests
 pub mod Phases
 pub mod Predicates
 pub mod QueryRows
+pub mod ReadTables
 pub mod Right
 pub mod RightLines
 pub mod SamePlaces
@@ -27,3 +29,4 @@ pub mod Thins
 pub mod Turns
 pub mod Unwanted
 pub mod Wanted
+pub mod WalkedRows

@@ -61,26 +61,23 @@ truth_unknown false false = refl
 truth_so_far : Value → List (List Value) → Kinds → Truth
 truth_so_far v keys k = truth_among (is_among keys v) (has_unknown k v)
 
-apart : (f u w : Bool) → w ≡ true → truth_among (f || false) w ≡ either (truth_among f u) Unknown
-apart f u w e = (λ i. truth_among (or_false f i) (e i)) ∙ truth_unknown f u
-
 one_more : (v w : Value) (keys : List (List Value)) (k : Kinds)
     → truth_so_far v (with_key keys w) (with_kind k w) ≡ either (truth_so_far v keys k) (comparison Equal v w)
 unfolding truth_so_far
 one_more Null Null keys k = truth_unknown false (has_unknown k Null)
-one_more Null (Num b) keys k = ap (λ u. truth_among false (u || k.texts)) (or_true k.nulls) ∙ truth_unknown false (has_unknown k Null)
-one_more Null (Chars t) keys k = ap (λ u. truth_among false u) (or_true (k.nulls || k.numbers)) ∙ truth_unknown false (has_unknown k Null)
+one_more Null (Num b) keys k = ap (λ u. truth_among false u) (or_true k.nulls) ∙ truth_unknown false (has_unknown k Null)
+one_more Null (Chars t) keys k = ap (λ u. truth_among false u) (or_true k.nulls) ∙ truth_unknown false (has_unknown k Null)
 one_more (Num a) Null keys k = truth_unknown (is_among keys (Num a)) (has_unknown k (Num a))
 one_more (Num a) (Num b) keys k =
     ap (λ f. truth_among f (has_unknown k (Num a))) (key_more (Num a) (Num b) keys)
     ∙ truth_or (is_among keys (Num a)) (is_eq (numbers_compared a b)) (has_unknown k (Num a))
 one_more (Num a) (Chars t) keys k =
-    ap (λ f. truth_among f (k.nulls || true)) (key_more (Num a) (Chars t) keys)
-    ∙ apart (is_among keys (Num a)) (has_unknown k (Num a)) (k.nulls || true) (or_true k.nulls)
+    ap (λ f. truth_among f (has_unknown k (Num a))) (key_more (Num a) (Chars t) keys)
+    ∙ truth_or (is_among keys (Num a)) false (has_unknown k (Num a))
 one_more (Chars s) Null keys k = truth_unknown (is_among keys (Chars s)) (has_unknown k (Chars s))
 one_more (Chars s) (Num b) keys k =
-    ap (λ f. truth_among f (k.nulls || true)) (key_more (Chars s) (Num b) keys)
-    ∙ apart (is_among keys (Chars s)) (has_unknown k (Chars s)) (k.nulls || true) (or_true k.nulls)
+    ap (λ f. truth_among f (has_unknown k (Chars s))) (key_more (Chars s) (Num b) keys)
+    ∙ truth_or (is_among keys (Chars s)) false (has_unknown k (Chars s))
 one_more (Chars s) (Chars t) keys k =
     ap (λ f. truth_among f (has_unknown k (Chars s))) (key_more (Chars s) (Chars t) keys)
     ∙ truth_or (is_among keys (Chars s)) (is_eq (texts_compared s t)) (has_unknown k (Chars s))

@@ -10,7 +10,7 @@ use Rattle.sq_bound.specs.declared.condition.BoundTest.{BoundTest}
 use Rattle.sq_bound.specs.declared.condition.Predicate.{Predicate}
 use Rattle.sq_expression.specs.Fault.{Meets}
 use Rattle.sq_expression.specs.Frame.{group_values, truth_in}
-use Rattle.sq_expression.specs.declared.context.Context.{Context}
+use Rattle.sq_expression.specs.Sources.{Sources}
 use Rattle.sq_expression.specs.declared.fault.Fault.{Fault}
 use Rattle.sq_expression.specs.declared.frame.Frame.{Frame}
 
@@ -28,5 +28,5 @@ abbrev pub predicate_on : Frame → Predicate → PlacedCond
 predicate_on frame = predicate_of (map literal (group_values frame))
 
 -- a condition without a subquery: the result is its truth on the line, or the status that it ends with
-abbrev pub HasTruth : Result Truth Fault → Frame → Context → PlacedCond → Type 0
+abbrev pub HasTruth : Result Truth Fault → Frame → Sources → PlacedCond → Type 0
 HasTruth result frame context c = has_subquery c ≡ false → Meets result (truth_in frame context c)

@@ -8,5 +8,7 @@ pub mod Nests
 pub mod OwnTest
 pub mod Predicate
 pub mod Product
+pub mod Reading
 pub mod Specification
+pub mod Stored
 pub mod Subquery

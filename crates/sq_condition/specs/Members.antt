@@ -28,12 +28,12 @@ keys_among rows = fold with_row [] rows
 -- ---- the kinds of values that occur
 
 abbrev pub no_kinds : Kinds
-no_kinds = record { nulls = false; numbers = false; texts = false }
+no_kinds = record { nulls = false; others = false }
 
 abbrev pub with_kind : Kinds → Value → Kinds
-with_kind k Null = record { nulls = true; numbers = k.numbers; texts = k.texts }
-with_kind k (Num n) = record { nulls = k.nulls; numbers = true; texts = k.texts }
-with_kind k (Chars t) = record { nulls = k.nulls; numbers = k.numbers; texts = true }
+with_kind k Null = record { nulls = true; others = k.others }
+with_kind k (Num n) = record { nulls = k.nulls; others = true }
+with_kind k (Chars t) = record { nulls = k.nulls; others = true }
 
 abbrev pub with_row_kind : Kinds → Row → Kinds
 with_row_kind k row = with_kind k (first_value row)
@@ -45,9 +45,9 @@ kinds_among rows = fold with_row_kind no_kinds rows
 
 -- whether the comparison with one of them is unknown
 abbrev pub has_unknown : Kinds → Value → Bool
-has_unknown k Null = k.nulls || k.numbers || k.texts
-has_unknown k (Num n) = k.nulls || k.texts
-has_unknown k (Chars t) = k.nulls || k.numbers
+has_unknown k Null = k.nulls || k.others
+has_unknown k (Num n) = k.nulls
+has_unknown k (Chars t) = k.nulls
 
 abbrev pub is_among : List (List Value) → Value → Bool
 is_among keys v = if is_null v then false else list_any (same_row (alone v)) keys

@@ -8,11 +8,12 @@ use Rattle.sq_value.specs.declared.truth.Truth.{Truth}
 use Rattle.sq_meaning.specs.Status.{Outcome, ◌>>=◌}
 use Rattle.sq_meaning.specs.Environment.{Row}
 use Rattle.sq_meaning.specs.Query.{has_rows}
+use Rattle.sq_bound.specs.declared.condition.TablePlace.TheVariants.{Base}
 use Rattle.sq_expression.specs.Fault.{IsRight, Means, status_of}
 use Rattle.sq_expression.specs.Frame.{lent, table_rows}
 use Rattle.sq_expression.specs.Index.{IsIndexBy}
 use Rattle.sq_condition.specs.Members.{AreOf}
-use Rattle.sq_expression.specs.declared.context.Context.{Context}
+use Rattle.sq_expression.specs.Sources.{Sources}
 use Rattle.sq_expression.specs.declared.index.Index.{Index}
 use Rattle.sq_condition.specs.declared.memo.Memo.{Memo}
 use Rattle.sq_condition.specs.declared.memo.KeptRows.{KeptRows}
@@ -45,14 +46,16 @@ IsKept (kept.Rows found) meant = (IsRight meant → meant ≡ Ok found.rows.item
 IsKept (kept.Status failure) meant = IsRight meant → meant ≡ Err (status_of failure)
 
 -- an index of a table's rows by their values in a column
-pub record IsTableIndex (context : Context) (at : TableColumn) (index : Index) : Type 0 where
+pub record IsTableIndex (context : Sources) (at : TableColumn) (index : Index) : Type 0 where
   pub rows : List (Bor Row)
   pub are : table_rows context at.table ≡ Ok (lent rows)
   pub by_column : IsIndexBy at.column rows index
 
 -- the memo keeps only outcomes of the subqueries, and rows of the tables
-pub record IsMemoOf (context : Context) (meant : Meant) (memo : Memo) : Type 0 where
+pub record IsMemoOf (context : Sources) (meant : Meant) (memo : Memo) : Type 0 where
   pub outcomes : (number : ℕ) → IfSome (get nat_eq memo.outcomes number) (λ kept. IsKept kept (meant number))
   pub truths : (number : ℕ) → IfSome (get nat_eq memo.truths number)
       (λ truth. Means truth (existing (meant number)))
+  pub wholes : (base : ℕ) → IfSome (get nat_eq memo.wholes base)
+      (λ rows. table_rows context (Base base) ≡ Ok (lent rows.items))
   pub indexes : AllByRecursion (λ e. IsTableIndex context e.0 e.1) memo.indexes.entries

@@ -21,12 +21,11 @@ pub(crate) struct Members {
     kinds: Kinds,
 }
 
-/// The kinds of values that occur.
+/// Which values occur.
 #[derive(Clone, Copy)]
 struct Kinds {
     nulls: bool,
-    numbers: bool,
-    texts: bool,
+    others: bool,
 }
 
 impl Kinds {
@@ -39,26 +38,20 @@ impl Kinds {
                 nulls: true,
                 ..self
             },
-            Value::Num(_) => Kinds {
-                numbers: true,
-                ..self
-            },
-            Value::Chars(_) => Kinds {
-                texts: true,
+            Value::Num(_) | Value::Chars(_) => Kinds {
+                others: true,
                 ..self
             },
         }
     }
 
-    /// Whether the comparison of a value with one of these is unknown. One of the two is then null, or one is a
-    /// number and the other a text.
+    /// Whether the comparison of a value with one of these is unknown: one of the two is then null.
     fn has_unknown(self, value: &Value) -> bool
         ensures { result ≡ has_unknown self value.now }
     {
         match value {
-            Value::Null => self.nulls || self.numbers || self.texts,
-            Value::Num(_) => self.nulls || self.texts,
-            Value::Chars(_) => self.nulls || self.numbers,
+            Value::Null => self.nulls || self.others,
+            Value::Num(_) | Value::Chars(_) => self.nulls,
         }
     }
 }
@@ -72,8 +65,7 @@ impl Members {
             keys: IndexSet::new(alloc),
             kinds: Kinds {
                 nulls: false,
-                numbers: false,
-                texts: false,
+                others: false,
             },
         };
         for row in rows {

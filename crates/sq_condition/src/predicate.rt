@@ -8,6 +8,7 @@ ghost use Rattle.sq_meaning.specs.Syntax.{literal, compare, between, in_list, li
 ghost use Rattle.sq_meaning.specs.Query as meaning;
 ghost use Rattle.sq_expression.specs.Fault.{Meets};
 ghost use Rattle.sq_expression.specs.Frame.{on_line, truth_in};
+ghost use Rattle.sq_expression.specs.Sources.{without_tables};
 ghost use Rattle.sq_condition.specs.Predicate.{with_not};
 
 use crate::comparison::compare_values;
@@ -42,7 +43,7 @@ pub(crate) fn comparison_truth(
     context: &Context<'_>,
 ) -> Result<Truth, Fault>
     ensures { Meets result
-        (truth_in frame.now context.now
+        (truth_in frame.now (without_tables context.now)
         (compare comparison (on_line frame.now left.now) (on_line frame.now right.now))) }
 {
     match standing_value(left, frame, context) {
@@ -62,7 +63,7 @@ fn comparison_with(
     context: &Context<'_>,
 ) -> Result<Truth, Fault>
     ensures { Meets result
-        (truth_in frame.now context.now
+        (truth_in frame.now (without_tables context.now)
         (compare comparison (literal left.now) (on_line frame.now right.now))) }
 {
     match standing_value(right, frame, context) {
@@ -83,7 +84,8 @@ pub(crate) fn between_truth(
     context: &Context<'_>,
 ) -> Result<Truth, Fault>
     ensures { Meets result
-        (truth_in frame.now context.now (between (on_line frame.now operand.now) (on_line frame.now low.now)
+        (truth_in frame.now (without_tables context.now)
+        (between (on_line frame.now operand.now) (on_line frame.now low.now)
         (on_line frame.now high.now))) }
 {
     let above = comparison_truth(Comparison::GreaterOrEqual, operand, low, frame, context)?;
@@ -102,7 +104,7 @@ pub(crate) fn in_list_truth(
     context: &Context<'_>,
 ) -> Result<Truth, Fault>
     ensures { Meets result
-        (truth_in frame.now context.now
+        (truth_in frame.now (without_tables context.now)
         (in_list (on_line frame.now operand.now) (map (on_line frame.now) list.now))) }
 {
     let mut so_far = Truth::False;
@@ -125,7 +127,8 @@ pub(crate) fn like_truth(
     context: &Context<'_>,
 ) -> Result<Truth, Fault>
     ensures { Meets result
-        (truth_in frame.now context.now (like (on_line frame.now text.now) (on_line frame.now pattern.now)
+        (truth_in frame.now (without_tables context.now)
+        (like (on_line frame.now text.now) (on_line frame.now pattern.now)
         (option_map (on_line frame.now) escape.now))) }
 {
     let text = value(text, frame, context)?;
@@ -140,7 +143,8 @@ fn like_pattern(
     context: &Context<'_>,
 ) -> Result<Truth, Fault>
     ensures { Meets result
-        (truth_in frame.now context.now (like (literal text.now) (on_line frame.now pattern.now)
+        (truth_in frame.now (without_tables context.now)
+        (like (literal text.now) (on_line frame.now pattern.now)
         (option_map (on_line frame.now) escape.now))) }
 {
     let pattern = value(pattern, frame, context)?;
@@ -157,7 +161,8 @@ fn like_escape(
     frame: &Frame<'_>,
     context: &Context<'_>,
 ) -> Result<Truth, Fault>
-    ensures { Meets result (truth_in frame.now context.now (like (literal text.now) (literal pattern.now)
+    ensures { Meets result
+        (truth_in frame.now (without_tables context.now) (like (literal text.now) (literal pattern.now)
         (Some (on_line frame.now escape.now)))) }
 {
     let escape = value(escape, frame, context)?;
@@ -177,7 +182,8 @@ pub(crate) fn null_truth(
     frame: &Frame<'_>,
     context: &Context<'_>,
 ) -> Result<Truth, Fault>
-    ensures { Meets result (truth_in frame.now context.now (is_null (on_line frame.now operand.now))) }
+    ensures { Meets result
+        (truth_in frame.now (without_tables context.now) (is_null (on_line frame.now operand.now))) }
 {
     let operand = value(operand, frame, context)?;
     Ok(Truth::from(matches!(operand.get(), Value::Null)))

@@ -10,7 +10,7 @@ use Rattle.sq_meaning.specs.Status.{Outcome, and_then, each}
 use Rattle.sq_expression.specs.Fault.{Meets, MeetsAs}
 use Rattle.sq_expression.specs.Frame.{scopes_of, scopes_beyond}
 use Rattle.sq_expression.specs.Group.{values_meant, key_of_line, classes_of, seen_of_group, seen_of_groups}
-use Rattle.sq_expression.specs.declared.context.Context.{Context}
+use Rattle.sq_expression.specs.Sources.{Sources}
 use Rattle.sq_expression.specs.declared.fault.Fault.{Fault}
 use Rattle.sq_expression.specs.declared.fault.Fault.TheVariants as fault
 use Rattle.sq_expression.specs.declared.frame.Frame.{Frame}
@@ -23,7 +23,7 @@ pub fails_then : {A B : Type 0} (f : Fault) (o : Outcome A) (next : A → Outcom
 fails_then fault.NoMemory o next h = tt
 fails_then (fault.Status s) o next h = ap (λ x. and_then x next) h
 
-pub key_same : (frame : Frame) (columns : List Place) (line : Line) (outer : Option (Bor Frame)) (context : Context) → scopes_of frame ≡ alone [] line ∷ scopes_beyond outer
+pub key_same : (frame : Frame) (columns : List Place) (line : Line) (outer : Option (Bor Frame)) (context : Sources) → scopes_of frame ≡ alone [] line ∷ scopes_beyond outer
     → key_of_line columns outer context line ≡ values_meant frame columns
 key_same frame columns line outer context scopes =
     sym (λ i. each (λ p. value_at (record { scopes = scopes i; inputs = []; user = [] }) p) (map place_meant columns))
@@ -32,12 +32,12 @@ pub meets_as_same : {A B : Type 0} (view : A → B) (r : Result A Fault) (o p : 
 meets_as_same {A} {B} view r o p same h = subst (λ (x : Outcome B). MeetsAs view r x) (sym same) h
 
 -- without grouping columns all lines are one group
-pub no_columns : (columns : List Place) (calls : List PlacedExpr) (outer : Option (Bor Frame)) (context : Context) (lines : List Line) → (length columns == 0) ≡ true
+pub no_columns : (columns : List Place) (calls : List PlacedExpr) (outer : Option (Bor Frame)) (context : Sources) (lines : List Line) → (length columns == 0) ≡ true
     → seen_of_groups columns calls outer context lines ≡ each (seen_of_group calls outer context) (lines ∷ [])
 no_columns [] calls outer context lines h = refl
 no_columns (c ∷ columns) calls outer context lines h = let none : length (c ∷ columns) ≡ 0 = eqb-true (length (c ∷ columns)) 0 h in absurd (omega arith)
 
-pub some_columns : (columns : List Place) (calls : List PlacedExpr) (outer : Option (Bor Frame)) (context : Context) (lines : List Line) → (length columns == 0) ≡ false
+pub some_columns : (columns : List Place) (calls : List PlacedExpr) (outer : Option (Bor Frame)) (context : Sources) (lines : List Line) → (length columns == 0) ≡ false
     → seen_of_groups columns calls outer context lines ≡ and_then (classes_of columns outer context lines) (each (seen_of_group calls outer context))
 some_columns [] calls outer context lines h = absurd (eqb-false 0 0 h refl)
 some_columns (c ∷ columns) calls outer context lines h = refl

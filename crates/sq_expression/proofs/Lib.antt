@@ -10,7 +10,6 @@ pub mod Kept
 pub mod LeftOut
 pub mod OnAnswers
 pub mod Standing
-pub mod Tables
 pub mod UserText
 pub mod ValueKeys
 pub mod Views

@@ -19,7 +19,7 @@ use Rattle.sq_bound.specs.declared.expression.Place.{Place}
 use Rattle.sq_expression.specs.Fault.{status_of}
 use Rattle.sq_expression.specs.declared.fault.Failure.{Failure}
 use Rattle.sq_expression.specs.declared.frame.Frame.{Frame, Frame', Held-Frame-outer, None', Some', out-Frame}
-use Rattle.sq_expression.specs.declared.context.Context.{Context}
+use Rattle.sq_expression.specs.Sources.{Sources}
 
 -- rows that are lent
 abbrev pub lent : List (Bor Row) → List Row
@@ -60,10 +60,10 @@ inputs_of values = map (λ v. record { name = []; value = v }) values
 abbrev pub on_line : Frame → BoundExpr → PlacedExpr
 on_line frame = expr_of (map literal (group_values frame))
 
-abbrev pub env_of : Frame → Context → Env (Unit {0})
+abbrev pub env_of : Frame → Sources → Env (Unit {0})
 env_of frame context = record {
   scopes = scopes_of frame;
-  inputs = inputs_of context.parameters.now;
+  inputs = inputs_of context.parameters;
   user = context.user;
 }
 
@@ -73,14 +73,10 @@ view_outcome rows None = Ok rows
 view_outcome rows (Some failure) = Err (status_of failure)
 
 -- the rows of the tables that the statement reads
-abbrev pub table_rows : Context → TablePlace → Outcome (List Row)
-table_rows context (Base place) =
-    well_formed (option_map (λ t. lent t.rows.items) (find (λ t. nat_eq t.place place) context.bases.now))
-table_rows context (View place) =
-    well_formed (find (λ t. nat_eq t.place place) context.views.now)
-    >>= λ t. view_outcome t.rows.items t.failure
+abbrev pub table_rows : Sources → TablePlace → Outcome (List Row)
+table_rows context = context.tables
 
-abbrev pub reading : Context → Reading (Placed TablePlace)
+abbrev pub reading : Sources → Reading (Placed TablePlace)
 reading context = by_place (table_rows context)
 
 -- the scopes of the queries around
@@ -89,5 +85,5 @@ scopes_beyond None = []
 scopes_beyond (Some frame) = scopes_of frame.now
 
 -- the truth of a condition on a line
-abbrev pub truth_in : Frame → Context → PlacedCond → Outcome Truth
+abbrev pub truth_in : Frame → Sources → PlacedCond → Outcome Truth
 truth_in frame context c = truth (reading context) c (env_of frame context)

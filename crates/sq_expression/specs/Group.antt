@@ -13,7 +13,7 @@ use Rattle.sq_bound.specs.declared.expression.Place.{Place}
 use Rattle.sq_expression.specs.Frame.{lent, scopes_of, reading}
 use Rattle.sq_expression.specs.Lines.{lines_lent, env_around, line_env, group_env}
 use Rattle.sq_expression.specs.declared.by_key.ByKey.{ByKey}
-use Rattle.sq_expression.specs.declared.context.Context.{Context}
+use Rattle.sq_expression.specs.Sources.{Sources}
 use Rattle.sq_expression.specs.declared.frame.Frame.{Frame}
 use Rattle.sq_expression.specs.declared.frame.Group.{Group}
 
@@ -23,16 +23,16 @@ values_meant frame columns =
     each (value_at (record { scopes = scopes_of frame; inputs = []; user = [] })) (map place_meant columns)
 
 -- the values of the grouping columns in a line
-abbrev pub key_of_line : List Place → Option (Bor Frame) → Context → Line → Outcome Row
+abbrev pub key_of_line : List Place → Option (Bor Frame) → Sources → Line → Outcome Row
 key_of_line columns outer context line =
     grouping_values (reading context) (map place_meant columns) (line_env line outer context)
 
 -- a line with its key
-abbrev pub keyed_line : List Place → Option (Bor Frame) → Context → Line → Outcome (Row × Line)
+abbrev pub keyed_line : List Place → Option (Bor Frame) → Sources → Line → Outcome (Row × Line)
 keyed_line columns outer context line = key_of_line columns outer context line >>= λ key. Ok (key, line)
 
 -- the lines by their keys
-abbrev pub classes_of : List Place → Option (Bor Frame) → Context → List Line → Outcome (List (List Line))
+abbrev pub classes_of : List Place → Option (Bor Frame) → Sources → List Line → Outcome (List (List Line))
 classes_of columns outer context lines =
     each (keyed_line columns outer context) lines >>= λ keyed. Ok (grouped keyed)
 
@@ -44,13 +44,13 @@ line_lists classes = map lines_of_list classes.lists.items
 
 -- the part of a group that the clauses after GROUP BY see: its first line, and the values of its set
 -- functions
-abbrev pub seen_of_group : List PlacedExpr → Option (Bor Frame) → Context → List Line
+abbrev pub seen_of_group : List PlacedExpr → Option (Bor Frame) → Sources → List Line
     → Outcome (Line × List Value)
 seen_of_group calls outer context group =
     each (λ call. value (reading context) call (group_env group outer context)) calls
     >>= λ values. Ok (first_line group, values)
 
-abbrev pub seen_of_groups : List Place → List PlacedExpr → Option (Bor Frame) → Context → List Line
+abbrev pub seen_of_groups : List Place → List PlacedExpr → Option (Bor Frame) → Sources → List Line
     → Outcome (List (Line × List Value))
 seen_of_groups columns calls outer context lines =
     meaning.groups_by (reading context) (map place_meant columns) [] lines (env_around outer context)

@@ -8,5 +8,5 @@ pub mod Group
 pub mod Index
 pub mod Lines
 pub mod Select
-pub mod Table
+pub mod Sources
 pub mod Whole

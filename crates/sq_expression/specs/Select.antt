@@ -11,16 +11,16 @@ use Rattle.sq_bound.specs.Expression.{expr_of}
 use Rattle.sq_bound.specs.declared.expression.BoundExpr.{BoundExpr}
 use Rattle.sq_expression.specs.Frame.{reading}
 use Rattle.sq_expression.specs.Lines.{line_env}
-use Rattle.sq_expression.specs.declared.context.Context.{Context}
+use Rattle.sq_expression.specs.Sources.{Sources}
 use Rattle.sq_expression.specs.declared.frame.Frame.{Frame}
 
 -- the values of a select list, if the set functions have these values
-abbrev pub row_shown : (functions : List Value) → List BoundExpr → Env (Unit {0}) → Context → Outcome Row
+abbrev pub row_shown : (functions : List Value) → List BoundExpr → Env (Unit {0}) → Sources → Outcome Row
 row_shown functions list env context =
     listed_values (reading context) (expressions (map (expr_of (map literal functions)) list)) env
 
 -- the values of a select list over a group, which has a first line and the values of its set functions
-abbrev pub row_seen : List BoundExpr → Option (Bor Frame) → Context → Line × List Value → Outcome Row
+abbrev pub row_seen : List BoundExpr → Option (Bor Frame) → Sources → Line × List Value → Outcome Row
 row_seen list outer context group = row_shown group.1 list (line_env group.0 outer context) context
 
 -- with DISTINCT each row at its first occurrence

@@ -10,6 +10,7 @@ ghost use Rattle.sq_meaning.specs.Placed.{input_at, placed_value};
 ghost use Rattle.sq_value.specs.Text.{IsText, of_length};
 ghost use Rattle.sq_value.specs.declared.value.Value.{Value as AnyValue};
 ghost use Rattle.sq_bound.specs.Expression.{parameter_meant};
+ghost use Rattle.sq_expression.specs.Sources.{without_tables};
 ghost use Rattle.sq_expression.specs.Arithmetic.{operation};
 ghost use Rattle.sq_expression.specs.Fault.{Meets};
 ghost use Rattle.sq_expression.specs.Frame.{column_meant, env_of, group_values, inputs_of, on_line, reading};
@@ -34,7 +35,7 @@ pub fn value<'a>(
     context: &Context<'a>,
 ) -> Result<Evaluated<'a>, Fault>
     ensures { Meets result
-        (meaning.value (reading context.now) (on_line frame.now expr.now) (env_of frame.now context.now)) }
+        (meaning.value (reading (without_tables context.now)) (on_line frame.now expr.now) (env_of frame.now (without_tables context.now))) }
 {
     match whole_value(expr, frame, context) {
         Some(number) => Ok(Evaluated::made(number.value())),
@@ -50,8 +51,8 @@ pub fn standing_value<'a>(
     context: &Context<'a>,
 ) -> Option<&'a Value>
     ensures { IfSome result
-        (λ v. meaning.value (reading context.now) (on_line frame.now expr.now)
-        (env_of frame.now context.now) ≡ Ok
+        (λ v. meaning.value (reading (without_tables context.now)) (on_line frame.now expr.now)
+        (env_of frame.now (without_tables context.now)) ≡ Ok
         v.now) }
 {
     match expr {
@@ -87,7 +88,7 @@ fn any_value<'a>(
     context: &Context<'a>,
 ) -> Result<Evaluated<'a>, Fault>
     ensures { Meets result
-        (meaning.value (reading context.now) (on_line frame.now expr.now) (env_of frame.now context.now)) }
+        (meaning.value (reading (without_tables context.now)) (on_line frame.now expr.now) (env_of frame.now (without_tables context.now))) }
 {
     match expr {
         BoundExpr::Literal(value) => Ok(Evaluated::lent(value)),
@@ -219,7 +220,7 @@ pub fn owned_value(
     context: &Context<'_>,
 ) -> Result<Value, Fault>
     ensures { Meets result
-        (meaning.value (reading context.now) (on_line frame.now expr.now) (env_of frame.now context.now)) }
+        (meaning.value (reading (without_tables context.now)) (on_line frame.now expr.now) (env_of frame.now (without_tables context.now))) }
 {
     Ok(value(expr, frame, context)?.into_value(context.alloc)?)
 }
@@ -231,7 +232,7 @@ pub(crate) fn row_of(
     frame: &Frame<'_>,
     context: &Context<'_>,
 ) -> Result<Row, Fault>
-    ensures { Meets result (each (λ e. meaning.value (reading context.now) e (env_of frame.now context.now))
+    ensures { Meets result (each (λ e. meaning.value (reading (without_tables context.now)) e (env_of frame.now (without_tables context.now)))
         (map (on_line frame.now) exprs.now)) }
 {
     let mut row = row_with_room(context.alloc, exprs.len())?;

@@ -5,6 +5,7 @@ ghost use Rattle.sq_bound.specs.Expression.{place_meant};
 ghost use Rattle.sq_bound.specs.SetFunction.{call_of};
 ghost use Rattle.sq_meaning.specs.Status.{Outcome, and_then, each};
 ghost use Rattle.sq_meaning.specs.Query as meaning;
+ghost use Rattle.sq_expression.specs.Sources.{without_tables};
 ghost use Rattle.sq_expression.specs.Fault.{Meets, MeetsAs, HasValues};
 ghost use Rattle.sq_expression.specs.Frame.{lent, column_meant};
 ghost use Rattle.sq_expression.specs.Lines.{lines_lent, lines_in};
@@ -29,7 +30,7 @@ pub fn group_lines<'a>(
     context: &Context<'_>,
 ) -> Result<Vec<Group<'a>>, Fault>
     ensures { MeetsAs groups_in result
-        (seen_of_groups columns.now (map call_of calls.now) outer.entry context.now (lines_in lines.now)) }
+        (seen_of_groups columns.now (map call_of calls.now) outer.entry (without_tables context.now) (lines_in lines.now)) }
 {
     let lent = lines.lend(context.alloc)?;
     groups_by(columns, calls, lent.as_slice(), outer, context)
@@ -43,7 +44,7 @@ fn groups_by<'a>(
     context: &Context<'_>,
 ) -> Result<Vec<Group<'a>>, Fault>
     ensures { MeetsAs groups_in result
-        (seen_of_groups columns.now (map call_of calls.now) outer.entry context.now (lines_lent lines.now)) }
+        (seen_of_groups columns.now (map call_of calls.now) outer.entry (without_tables context.now) (lines_lent lines.now)) }
 {
     if columns.is_empty() {
         return only_group(calls, lines, outer, context);
@@ -59,7 +60,7 @@ fn only_group<'a>(
     context: &Context<'_>,
 ) -> Result<Vec<Group<'a>>, Fault>
     ensures { MeetsAs groups_in result
-        (each (seen_of_group (map call_of calls.now) outer.entry context.now) (lines_lent lines.now ∷ [])) }
+        (each (seen_of_group (map call_of calls.now) outer.entry (without_tables context.now)) (lines_lent lines.now ∷ [])) }
 {
     let group = group_of(calls, lines, outer, context)?;
     let mut groups = Vec::new(context.alloc);
@@ -76,8 +77,8 @@ fn column_groups<'a>(
     context: &Context<'_>,
 ) -> Result<Vec<Group<'a>>, Fault>
     ensures { MeetsAs groups_in result
-        (and_then (classes_of columns.now outer.entry context.now (lines_lent lines.now))
-        (each (seen_of_group (map call_of calls.now) outer.entry context.now))) }
+        (and_then (classes_of columns.now outer.entry (without_tables context.now) (lines_lent lines.now))
+        (each (seen_of_group (map call_of calls.now) outer.entry (without_tables context.now)))) }
 {
     let classes = classes_of(columns, lines, outer, context)?;
     groups_of(calls, classes.lists.as_slice(), outer, context)
@@ -92,7 +93,7 @@ fn groups_of<'a>(
     context: &Context<'_>,
 ) -> Result<Vec<Group<'a>>, Fault>
     ensures { MeetsAs groups_in result
-        (each (seen_of_group (map call_of calls.now) outer.entry context.now) (map lines_of_list lists.now)) }
+        (each (seen_of_group (map call_of calls.now) outer.entry (without_tables context.now)) (map lines_of_list lists.now)) }
 {
     let mut groups = Vec::new(context.alloc);
     for list in lists {
@@ -110,7 +111,7 @@ fn group_of<'a>(
     context: &Context<'_>,
 ) -> Result<Group<'a>, Fault>
     ensures { MeetsAs group_seen result
-        (seen_of_group (map call_of calls.now) outer.entry context.now (lines_lent lines.now)) }
+        (seen_of_group (map call_of calls.now) outer.entry (without_tables context.now) (lines_lent lines.now)) }
 {
     let functions = function_values(calls, lines, outer, context)?;
     let line = first_line(context.alloc, lines)?;
@@ -135,7 +136,7 @@ fn classes_of<'a>(
     context: &Context<'_>,
 ) -> Result<ByKey<&'a [&'a Row]>, Fault>
     ensures { MeetsAs line_lists result
-        (classes_of columns.now outer.entry context.now (lines_lent lines.now)) }
+        (classes_of columns.now outer.entry (without_tables context.now) (lines_lent lines.now)) }
 {
     let mut classes = ByKey::new(context.alloc);
     for line in lines {
@@ -152,7 +153,7 @@ fn key_of_line(
     outer: Option<&Frame<'_>>,
     context: &Context<'_>,
 ) -> Result<Key, Fault>
-    ensures { Meets result (key_of_line columns.now outer.entry context.now (lent line.now)) }
+    ensures { Meets result (key_of_line columns.now outer.entry (without_tables context.now) (lent line.now)) }
 {
     key_in(columns, &line_frame(line, outer), context.alloc)
 }

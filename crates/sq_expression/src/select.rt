@@ -6,6 +6,7 @@ ghost use Rattle.indexmap.specs.IndexSet.{insert_key};
 ghost use Rattle.sq_value.specs.declared.value.Value.{Value as AnyValue};
 ghost use Rattle.sq_meaning.specs.Status.{Outcome, and_then, each};
 ghost use Rattle.sq_meaning.specs.Rows.{firsts, same_row};
+ghost use Rattle.sq_expression.specs.Sources.{without_tables};
 ghost use Rattle.sq_expression.specs.Fault.{Meets, HasRows};
 ghost use Rattle.sq_expression.specs.Frame.{lent};
 ghost use Rattle.sq_expression.specs.Lines.{lines_lent, lines_in, line_env};
@@ -30,7 +31,7 @@ pub fn shown_lines<'a>(
     context: &Context<'_>,
 ) -> Result<Vec<Row>, Fault>
     ensures { HasRows result
-        (and_then (each (λ line. row_shown [] list.now (line_env line outer.entry context.now) context.now)
+        (and_then (each (λ line. row_shown [] list.now (line_env line outer.entry (without_tables context.now)) (without_tables context.now))
         (lines_in lines.now)) (λ rows. Ok (rows_left is_distinct rows))) }
 {
     let lent = lines.lend(context.alloc)?;
@@ -46,7 +47,7 @@ fn rows_of_lines(
     context: &Context<'_>,
 ) -> Result<Vec<Row>, Fault>
     ensures { HasRows result
-        (each (λ line. row_shown [] list.now (line_env line outer.entry context.now) context.now)
+        (each (λ line. row_shown [] list.now (line_env line outer.entry (without_tables context.now)) (without_tables context.now))
         (lines_lent lines.now)) }
 {
     let mut rows = Vec::new(context.alloc);
@@ -65,7 +66,7 @@ pub fn row_of_line(
     context: &Context<'_>,
 ) -> Result<Row, Fault>
     ensures { Meets result
-        (row_shown [] list.now (line_env (lent line.now) outer.entry context.now) context.now) }
+        (row_shown [] list.now (line_env (lent line.now) outer.entry (without_tables context.now)) (without_tables context.now)) }
 {
     row_of(list, &line_frame(line, outer), context)
 }
@@ -79,7 +80,7 @@ pub fn shown_groups(
     context: &Context<'_>,
 ) -> Result<Vec<Row>, Fault>
     ensures { HasRows result
-        (and_then (each (row_seen list.now outer.entry context.now) (map group_seen groups.now))
+        (and_then (each (row_seen list.now outer.entry (without_tables context.now)) (map group_seen groups.now))
         (λ rows. Ok (rows_left is_distinct rows))) }
 {
     let rows = rows_of_groups(list, groups, outer, context);
@@ -93,7 +94,7 @@ fn rows_of_groups(
     outer: Option<&Frame<'_>>,
     context: &Context<'_>,
 ) -> Result<Vec<Row>, Fault>
-    ensures { HasRows result (each (row_seen list.now outer.entry context.now) (map group_seen groups.now)) }
+    ensures { HasRows result (each (row_seen list.now outer.entry (without_tables context.now)) (map group_seen groups.now)) }
 {
     let mut rows = Vec::new(context.alloc);
     for group in groups {
@@ -109,7 +110,7 @@ fn row_of_group(
     outer: Option<&Frame<'_>>,
     context: &Context<'_>,
 ) -> Result<Row, Fault>
-    ensures { Meets result (row_seen list.now outer.entry context.now (group_seen group.now)) }
+    ensures { Meets result (row_seen list.now outer.entry (without_tables context.now) (group_seen group.now)) }
 {
     row_of(list, &group.frame(outer), context)
 }

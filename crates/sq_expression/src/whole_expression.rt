@@ -2,6 +2,7 @@
 
 ghost use Rattle.std.specs.Prelude.{◌≡◌, IfSome, Ok};
 ghost use Rattle.sq_meaning.specs.Expression as meaning;
+ghost use Rattle.sq_expression.specs.Sources.{without_tables};
 ghost use Rattle.sq_expression.specs.Frame.{column_meant, env_of, on_line, reading};
 ghost use Rattle.sq_expression.specs.Whole.{whole};
 
@@ -17,8 +18,8 @@ pub(crate) fn whole_value(
     context: &Context<'_>,
 ) -> Option<Whole>
     ensures { IfSome result
-        (λ n. meaning.value (reading context.now) (on_line frame.now expr.now)
-        (env_of frame.now context.now) ≡ Ok
+        (λ n. meaning.value (reading (without_tables context.now)) (on_line frame.now expr.now)
+        (env_of frame.now (without_tables context.now)) ≡ Ok
         (whole n)) }
 {
     match expr {

@@ -17,15 +17,16 @@ padded n t = t ++ replicate (n - length t) blank
 abbrev pub texts_compared : List ℕ → List ℕ → Ordering
 texts_compared s t = let n = max (length s) (length t) in slice_cmp nat_cmp (padded n s) (padded n t)
 
--- none if one is null: the comparison is unknown. A number is never compared with a text
+-- none if one is null: the comparison is unknown. That a number is less than a text is never seen, since a
+-- well-formed text compares values of one kind
 abbrev pub values_compared : Value → Value → Option Ordering
 values_compared Null w = None
 values_compared (Num a) (Num b) = Some (numbers_compared a b)
 values_compared (Chars s) (Chars t) = Some (texts_compared s t)
 values_compared (Num a) Null = None
-values_compared (Num a) (Chars t) = None
+values_compared (Num a) (Chars t) = Some Less
 values_compared (Chars s) Null = None
-values_compared (Chars s) (Num b) = None
+values_compared (Chars s) (Num b) = Some Greater
 
 -- not distinct (3.1): both null, or they compare equal
 abbrev pub is_same : Value → Value → Bool

@@ -12,16 +12,13 @@ impl Value {
     /// then unknown.
     ///
     /// Numbers compare by value. Texts compare by code, the shorter one as if padded with blanks. The standard doesn't
-    /// compare a number with a text, so the answer is then `None`.
+    /// compare a number with a text; here a number is less.
     pub fn cmp3(&self, other: &Value) -> Option<Ordering>
         ensures { result ≡ values_compared self.now other.now }
     {
         match (self, other) {
-            (Value::Num(left), Value::Num(right)) => Some(left.cmp(*right)),
-            (Value::Chars(left), Value::Chars(right)) => {
-                Some(compare_texts(left.codes(), right.codes()))
-            }
-            _ => None,
+            (Value::Null, _) | (_, Value::Null) => None,
+            _ => Some(self.order(other)),
         }
     }
 

@@ -4,6 +4,7 @@ use Rattle.std.proofs.lemmas.List.{map_push}
 use Rattle.sq_meaning.specs.Environment.{Row, Line}
 use Rattle.sq_meaning.specs.Status.{Outcome, each, and_then}
 use Rattle.sq_meaning.specs.Query.{grouped}
+use Rattle.sq_expression.specs.Sources.{without_tables}
 use Rattle.sq_expression.specs.Frame.{lent}
 use Rattle.sq_expression.specs.Group.{key_of_line, keyed_line, line_lists}
 use Rattle.sq_expression.proofs.ByKeys.{Lent, entry_seen, grouped_is}
@@ -17,7 +18,7 @@ loop-line-init c = ([], c.new-classes.ensures, after_start [] _ refl)
 
 pub loop-line-preserved : goal.loop-line-preserved
 loop-line-preserved c =
-    let f = keyed_line c.args.columns.now c.args.outer c.args.context.now in
+    let f = keyed_line c.args.columns.now c.args.outer (without_tables c.args.context.now) in
     let g = λ (line : Lent). lent line.now in
     let so_far = c.loop-line.invariant in
     let entry : Row × Lent = (c.in_ok-key.key, c.line-item.result) in (
@@ -31,7 +32,7 @@ loop-line-preserved c =
 
 pub returns-in_err-key : goal.returns-in_err-key
 returns-in_err-key c =
-    let f = keyed_line c.args.columns.now c.args.outer c.args.context.now in
+    let f = keyed_line c.args.columns.now c.args.outer (without_tables c.args.context.now) in
     let g = λ (line : Lent). lent line.now in
     let whole = each f (map g c.args.lines.now) in
     let so_far = c.loop-line.invariant in
@@ -40,11 +41,11 @@ returns-in_err-key c =
     handed_on_as line_lists c.from_residual.result e (and_then whole (λ keyed. Ok (grouped keyed))) c.from_residual.ensures.1
     (fails_then e whole (λ keyed. Ok (grouped keyed))
     (each_failed f g whole (map entry_seen so_far.0) c.args.lines.now c.loop-line.line-index x e c.loop-line-test.true c.line-item.is so_far.2
-    (fails_then e (key_of_line c.args.columns.now c.args.outer c.args.context.now (lent x.now)) (λ key. Ok (key, lent x.now)) c.in_err-key.ensures)))
+    (fails_then e (key_of_line c.args.columns.now c.args.outer (without_tables c.args.context.now) (lent x.now)) (λ key. Ok (key, lent x.now)) c.in_err-key.ensures)))
 
 pub returns : goal.returns
 returns c =
-    let f = keyed_line c.args.columns.now c.args.outer c.args.context.now in
+    let f = keyed_line c.args.columns.now c.args.outer (without_tables c.args.context.now) in
     let g = λ (line : Lent). lent line.now in
     let whole = each f (map g c.args.lines.now) in
     let so_far = c.loop-line.invariant in

@@ -3,6 +3,7 @@ use Rattle.std.proofs.Common.{List, map, sym, ap, subst, ◌∙◌, Err}
 use Rattle.std.specs.Borrow.{Bor}
 use Rattle.sq_value.specs.declared.value.Value.{Value}
 use Rattle.sq_meaning.specs.Environment.{Row, Line}
+use Rattle.sq_expression.specs.Sources.{without_tables}
 use Rattle.sq_expression.specs.Fault.{Meets}
 use Rattle.sq_expression.specs.Lines.{lines_lent}
 use Rattle.std.proofs.lemmas.List.{map_push}
@@ -18,7 +19,7 @@ loop-list-init c = after_start (map group_seen c.new-groups.result.items) _ (ap 
 
 pub loop-list-preserved : goal.loop-list-preserved
 loop-list-preserved c =
-    let f = seen_of_group (map call_of c.args.calls.now) c.args.outer c.args.context.now in
+    let f = seen_of_group (map call_of c.args.calls.now) c.args.outer (without_tables c.args.context.now) in
     each_done f lines_of_list (each f (map lines_of_list c.args.lists.now)) (map group_seen c.loop-list.groups.items) (map group_seen c.push.new.self.items) c.args.lists.now c.loop-list.list-index c.list-item.result (group_seen c.in_ok-group.group)
     c.loop-list-test.true c.list-item.is c.loop-list.invariant
     (ap (λ (ls : List (Bor (List (Bor Row)))). f (lines_lent ls)) (sym c.as_slice.ensures.value) ∙ c.in_ok-group.ensures)
@@ -26,7 +27,7 @@ loop-list-preserved c =
 
 pub returns-in_err-group : goal.returns-in_err-group
 returns-in_err-group c =
-    let f = seen_of_group (map call_of c.args.calls.now) c.args.outer c.args.context.now in
+    let f = seen_of_group (map call_of c.args.calls.now) c.args.outer (without_tables c.args.context.now) in
     let whole = each f (map lines_of_list c.args.lists.now) in
     handed_on_as groups_in c.from_residual.result c.in_err-group.field-0.0 whole c.from_residual.ensures.1
     (each_failed f lines_of_list whole (map group_seen c.loop-list.groups.items) c.args.lists.now c.loop-list.list-index c.list-item.result c.in_err-group.field-0.0

@@ -8,6 +8,7 @@ use Rattle.sq_bound.specs.Expression.{expr_of}
 use Rattle.sq_bound.specs.declared.expression.BoundExpr.{BoundExpr}
 use Rattle.sq_bound.specs.declared.expression.BoundExpr.TheVariants as bound
 use Rattle.sq_bound.specs.declared.expression.Operation.{Operation}
+use Rattle.sq_expression.specs.Sources.{without_tables}
 use Rattle.sq_expression.specs.Arithmetic.{operation}
 use Rattle.sq_expression.specs.Frame.{env_of, group_values, reading}
 use Rattle.sq_expression.specs.Whole.{whole}
@@ -17,22 +18,22 @@ use Rattle.sq_expression.proofs.whole_expression.+whole_value.Goals as goal
 
 pub returns-in-Literal : goal.returns-in-Literal
 returns-in-Literal t c =
-    let m = reading c.args.context.now in
-    let env = env_of c.args.frame.now c.args.context.now in
+    let m = reading (without_tables c.args.context.now) in
+    let env = env_of c.args.frame.now (without_tables c.args.context.now) in
     let fs = map literal (group_values c.args.frame.now) in
     whole_literal m env fs c.args.expr.now c.in-Literal.value c.of_value.result c.in-Literal.is c.of_value.ensures
 
 pub returns-in-Column : goal.returns-in-Column
 returns-in-Column t c =
-    let m = reading c.args.context.now in
-    let env = env_of c.args.frame.now c.args.context.now in
+    let m = reading (without_tables c.args.context.now) in
+    let env = env_of c.args.frame.now (without_tables c.args.context.now) in
     let fs = map literal (group_values c.args.frame.now) in
     whole_place m env fs c.args.expr.now c.in-Column.place c.whole_column.result c.in-Column.is c.whole_column.ensures
 
 pub loop-operation-init : goal.loop-operation-init
 loop-operation-init t c =
-    let m = reading c.args.context.now in
-    let env = env_of c.args.frame.now c.args.context.now in
+    let m = reading (without_tables c.args.context.now) in
+    let env = env_of c.args.frame.now (without_tables c.args.context.now) in
     let fs = map literal (group_values c.args.frame.now) in
     first_done m env fs c.args.expr.now c.get.result.now c.as_slice-operation-items.result.now (whole c.in_ok-left-in-Operations.left)
     (c.in-Operations.is
@@ -42,8 +43,8 @@ loop-operation-init t c =
 
 pub loop-operation-preserved : goal.loop-operation-preserved
 loop-operation-preserved t c =
-    let m = reading c.args.context.now in
-    let env = env_of c.args.frame.now c.args.context.now in
+    let m = reading (without_tables c.args.context.now) in
+    let env = env_of c.args.frame.now (without_tables c.args.context.now) in
     let fs = map literal (group_values c.args.frame.now) in
     let o = c.operation-item.result in
     operation_done m env fs (value m (expr_of fs c.args.expr.now) env) (whole c.loop-operation.left) (whole c.in_ok-left-in-Operations-2.left)
