@@ -1,8 +1,9 @@
 -- The memo of a statement's subqueries that read no column of a query around them: each is evaluated at most once.
-use Rattle.std.specs.Prelude.{◌≡◌, ℕ, nat_eq, List, IfSome, Ok, Err}
+use Rattle.std.specs.Prelude.{◌≡◌, ℕ, nat_eq, false, List, slice_get, IfSome, Ok, Err}
 use Rattle.std.specs.Borrow.{Bor}
 use Rattle.std.specs.List.{AllByRecursion}
 use Rattle.indexmap.specs.IndexMap.{get}
+use Rattle.sq_value.specs.SetFunctions.{is_null}
 use Rattle.sq_value.specs.Truth.{known}
 use Rattle.sq_value.specs.declared.truth.Truth.{Truth}
 use Rattle.sq_meaning.specs.Status.{Outcome, ◌>>=◌}
@@ -51,8 +52,20 @@ pub record IsTableIndex (context : Sources) (at : TableColumn) (index : Index) :
   pub are : table_rows context at.table ≡ Ok (lent rows)
   pub by_column : IsIndexBy at.column rows index
 
--- the memo keeps only outcomes of the subqueries, and rows of the tables
+-- a row has a value in a column, unless it lacks the column
+abbrev pub HasNoNull : ℕ → Row → Type 0
+HasNoNull column row = IfSome (slice_get row column) (λ x. is_null x ≡ false)
+
+-- the rows of the base tables have values in the columns of their keys (11.7)
+abbrev pub AreKeysFilled : Sources → Type 0
+AreKeysFilled context =
+    (base : ℕ) (rows : List Row) → table_rows context (Base base) ≡ Ok rows
+    → AllByRecursion (λ columns. AllByRecursion (λ c. AllByRecursion (HasNoNull c) rows) columns)
+    (context.keys base)
+
+-- The memo keeps only outcomes of the subqueries, and rows of the tables. No key is null.
 pub record IsMemoOf (context : Sources) (meant : Meant) (memo : Memo) : Type 0 where
+  pub filled : AreKeysFilled context
   pub outcomes : (number : ℕ) → IfSome (get nat_eq memo.outcomes number) (λ kept. IsKept kept (meant number))
   pub truths : (number : ℕ) → IfSome (get nat_eq memo.truths number)
       (λ truth. Means truth (existing (meant number)))

@@ -3,6 +3,7 @@ use Rattle.std.specs.Prelude.{ℕ, List, find, nat_eq, Option, Some, None, Ok, E
 use Rattle.sq_meaning.specs.Environment.{Row}
 use Rattle.sq_meaning.specs.Status.{Outcome, ◌>>=◌, well_formed}
 use Rattle.sq_store.specs.Content.{Content}
+use Rattle.sq_store.specs.Keys.{Keys, keys_at}
 use Rattle.sq_bound.specs.declared.condition.TablePlace.{TablePlace}
 use Rattle.sq_bound.specs.declared.condition.TablePlace.TheVariants.{Base, View}
 use Rattle.sq_expression.specs.Fault.{status_of}
@@ -28,7 +29,8 @@ tables_of content views (Base place) = stored_rows content place
 tables_of content views (View place) =
     well_formed (find (λ t. nat_eq t.place place) views) >>= λ t. view_outcome t.rows.items t.failure
 
--- the user, the parameters and the tables
-abbrev pub sources : {S : Type 0} → (S → Content) → Reading S → Sources
-sources content_now r =
-    with_tables (tables_of (content_now r.store.now) r.views.now) (stored_sure (content_now r.store.now)) r.context
+-- the user, the parameters, the tables and the keys
+abbrev pub sources : {S : Type 0} → (S → Content) → (S → List Keys) → Reading S → Sources
+sources content_now key_columns r =
+    with_tables (tables_of (content_now r.store.now) r.views.now) (stored_sure (content_now r.store.now))
+    (keys_at (key_columns r.store.now)) r.context
