@@ -56,12 +56,15 @@ pub record IsTableIndex (context : Sources) (at : TableColumn) (index : Index) :
 abbrev pub HasNoNull : ℕ → Row → Type 0
 HasNoNull column row = IfSome (slice_get row column) (λ x. is_null x ≡ false)
 
+-- the rows of a table have values in the columns of its keys (11.7)
+abbrev pub AreFilled : List (List ℕ) → List Row → Type 0
+AreFilled keys rows = AllByRecursion (λ columns. AllByRecursion (λ c. AllByRecursion (HasNoNull c) rows) columns) keys
+
 -- the rows of the base tables have values in the columns of their keys (11.7)
 abbrev pub AreKeysFilled : Sources → Type 0
 AreKeysFilled context =
     (base : ℕ) (rows : List Row) → table_rows context (Base base) ≡ Ok rows
-    → AllByRecursion (λ columns. AllByRecursion (λ c. AllByRecursion (HasNoNull c) rows) columns)
-    (context.keys base)
+    → AreFilled (context.keys base) rows
 
 -- The memo keeps only outcomes of the subqueries, and rows of the tables. No key is null.
 pub record IsMemoOf (context : Sources) (meant : Meant) (memo : Memo) : Type 0 where
