@@ -1,6 +1,6 @@
 //! The rows of a base table with one of several values of a key.
 
-ghost use Rattle.std.specs.Prelude.{ℕ, Bool, ◌≡◌, ◌<◌, ◌≤◌, ◌∷◌, ◌||◌, [], filter, length, IfOk, IfSome};
+ghost use Rattle.std.specs.Prelude.{ℕ, Bool, List, ◌≡◌, ◌<◌, ◌≤◌, ◌∷◌, ◌||◌, [], filter, length, IfOk, IfSome};
 ghost use Rattle.std.specs.Borrow.{Bor};
 ghost use Rattle.std.specs.List.{insert};
 ghost use Rattle.sq_value.specs.declared.value.Value.{Value as AnyValue};
