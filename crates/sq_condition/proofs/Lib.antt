@@ -30,3 +30,7 @@ pub mod Turns
 pub mod Unwanted
 pub mod Wanted
 pub mod WalkedRows
+pub mod KnownExprs
+pub mod NamedSources
+pub mod Outs
+pub mod SourceDepths
