@@ -34,3 +34,4 @@ pub mod KnownExprs
 pub mod NamedSources
 pub mod Outs
 pub mod SourceDepths
+pub mod Through
