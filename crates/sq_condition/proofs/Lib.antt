@@ -35,3 +35,4 @@ pub mod NamedSources
 pub mod Outs
 pub mod SourceDepths
 pub mod Through
+pub mod PartsAdded
