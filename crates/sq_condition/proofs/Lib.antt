@@ -9,6 +9,8 @@ pub mod Growing
 pub mod HasLine
 pub mod Items
 pub mod Joined
+pub mod KnownOnLines
+pub mod KnownValues
 pub mod Leading
 pub mod Lone
 pub mod Membership

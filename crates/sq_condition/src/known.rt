@@ -2,13 +2,17 @@
 
 ghost use Rattle.std.specs.Prelude.{◌≡◌, ◌<◌, ◌++◌, ◌∷◌, [], true, false, not, length, List, IfErr, IfOk, IfSome, Result, Ok};
 ghost use Rattle.std.specs.List.{AllByRecursion};
+ghost use Rattle.std.specs.Borrow.{Bor};
+ghost use Rattle.std.specs.Prelude.{Option};
+ghost use Rattle.sq_value.specs.SetFunctions.{is_null as is_null_value};
 ghost use Rattle.sq_value.specs.declared.value.Value.{Value as AnyValue};
 ghost use Rattle.sq_meaning.specs.Expression as meaning;
 ghost use Rattle.sq_meaning.specs.Environment.{Line};
 ghost use Rattle.sq_store.specs.Keys.{key_at, keys_at};
 ghost use Rattle.sq_expression.specs.Frame.{env_of, lent, on_line, reading};
 ghost use Rattle.sq_expression.specs.Sources.{without_tables};
-ghost use Rattle.sq_condition.specs.Known.{AreNamedValues, HasColumnValue, HasKeyValues, IsKnownAs};
+ghost use Rattle.sq_expression.specs.declared.frame.Frame.{Frame as AnyFrame};
+ghost use Rattle.sq_condition.specs.Known.{AreNamedValues, HasAddedValues, HasColumnValue, HasKeyValues, IsKnownAs, IsLine};
 ghost use Rattle.sq_condition.specs.Named.{IsAmong, IsSought, value_on};
 ghost use Rattle.sq_condition.specs.declared.named.Sought.{Sought as AnySought};
 
@@ -55,7 +59,9 @@ pub(crate) fn known_value<'a>(
     }
 }
 
-fn is_null(value: &Value) -> bool {
+fn is_null(value: &Value) -> bool
+    ensures { result ≡ is_null_value value.now }
+{
     matches!(value, Value::Null)
 }
 
@@ -156,7 +162,11 @@ fn add_in_columns(
     frame: &Frame<'_>,
     context: &Context<'_>,
     values: &mut Vec<Value>,
-) -> Result<Known<()>, Fault> {
+) -> Result<Known<()>, Fault>
+    ensures { IsSought sought.now → values.old.items ≡ []
+        → (outer : Option (Bor AnyFrame)) (before : Line) → IsLine frame.now outer before
+        → HasAddedValues sought.now outer (without_tables context.now) before columns.now values.new.items result }
+{
     for column in columns {
         match known_in_column(sought, *column, frame, context)? {
             Known::Value(known) => values.push(known.get().copy(context.alloc)?)?,
@@ -173,7 +183,10 @@ fn known_in_column<'a>(
     column: usize,
     frame: &Frame<'a>,
     context: &Context<'a>,
-) -> Result<Known<Evaluated<'a>>, Fault> {
+) -> Result<Known<Evaluated<'a>>, Fault>
+    ensures { IsSought sought.now → (outer : Option (Bor AnyFrame)) (before : Line) → IsLine frame.now outer before
+        → HasColumnValue sought.now outer (without_tables context.now) before column result }
+{
     match sought.equal_to(column, Wanted::One) {
         Some(expr) => known_value(expr, sought.is_quiet, frame, context),
         None => Ok(Known::Nothing),
