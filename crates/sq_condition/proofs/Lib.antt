@@ -9,6 +9,8 @@ pub mod Growing
 pub mod HasLine
 pub mod Items
 pub mod Joined
+pub mod KeyOut
+pub mod KeyRows
 pub mod KnownOnLines
 pub mod KnownValues
 pub mod Leading
@@ -17,6 +19,7 @@ pub mod Membership
 pub mod NoFunctions
 pub mod NotTrue
 pub mod OneItem
+pub mod OnlyOne
 pub mod OwnTests
 pub mod Phases
 pub mod Predicates
