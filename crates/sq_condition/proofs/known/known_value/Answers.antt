@@ -1,6 +1,6 @@
+-- Left open: a value that is known, and one that is null; answered by KnownValues.
 use Rattle.std.proofs.Common.{◌∙◌, sym}
 use Rattle.sq_condition.proofs.KnownValues.{null_known, value_known}
-use Rattle.sq_condition.proofs.KnownOnLines.{known_on_line}
 use Rattle.sq_condition.proofs.known.known_value.Goals as goal
 
 pub returns-then-not-is_null : goal.returns-then-not-is_null
