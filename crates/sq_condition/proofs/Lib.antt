@@ -9,12 +9,17 @@ pub mod Growing
 pub mod HasLine
 pub mod Items
 pub mod Joined
+pub mod KeyOut
+pub mod KeyRows
+pub mod KnownOnLines
+pub mod KnownValues
 pub mod Leading
 pub mod Lone
 pub mod Membership
 pub mod NoFunctions
 pub mod NotTrue
 pub mod OneItem
+pub mod OnlyOne
 pub mod OwnTests
 pub mod Phases
 pub mod Predicates
