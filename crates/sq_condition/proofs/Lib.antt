@@ -1,5 +1,7 @@
+pub mod AddedRows
 pub mod Alike
 pub mod AlikeConds
+pub mod AmongValues
 pub mod Around
 pub mod BesideTables
 pub mod Conditions
@@ -15,6 +17,7 @@ pub mod Membership
 pub mod NoFunctions
 pub mod NotTrue
 pub mod OneItem
+pub mod OnlyOne
 pub mod OwnTests
 pub mod Phases
 pub mod Predicates
