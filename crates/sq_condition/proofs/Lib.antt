@@ -22,6 +22,7 @@ pub mod OwnTests
 pub mod Phases
 pub mod Predicates
 pub mod QueryRows
+pub mod QueryValues
 pub mod ReadTables
 pub mod Right
 pub mod RightLines
