@@ -11,6 +11,10 @@ pub mod Growing
 pub mod HasLine
 pub mod Items
 pub mod Joined
+pub mod KeyOut
+pub mod KeyRows
+pub mod KnownOnLines
+pub mod KnownValues
 pub mod Leading
 pub mod Lone
 pub mod Membership
