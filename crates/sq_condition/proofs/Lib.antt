@@ -1,6 +1,10 @@
+pub mod AddedRows
 pub mod Alike
 pub mod AlikeConds
+pub mod AmongValues
 pub mod Around
+pub mod AskedRows
+pub mod AskedValues
 pub mod BesideTables
 pub mod Conditions
 pub mod Depths
@@ -24,6 +28,7 @@ pub mod OwnTests
 pub mod Phases
 pub mod Predicates
 pub mod QueryRows
+pub mod QueryValues
 pub mod ReadTables
 pub mod Right
 pub mod RightLines
