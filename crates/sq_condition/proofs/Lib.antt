@@ -47,3 +47,4 @@ pub mod Outs
 pub mod SourceDepths
 pub mod Through
 pub mod PartsAdded
+pub mod NeverMet

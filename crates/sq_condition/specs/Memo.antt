@@ -1,5 +1,5 @@
 -- The memo of a statement's subqueries that read no column of a query around them: each is evaluated at most once.
-use Rattle.std.specs.Prelude.{◌≡◌, ℕ, nat_eq, false, List, slice_get, IfSome, Ok, Err}
+use Rattle.std.specs.Prelude.{◌≡◌, ℕ, nat_eq, true, false, List, slice_get, IfSome, Ok, Err}
 use Rattle.std.specs.Borrow.{Bor}
 use Rattle.std.specs.List.{AllByRecursion}
 use Rattle.indexmap.specs.IndexMap.{get}
@@ -66,9 +66,9 @@ AreKeysFilled context =
     (base : ℕ) (rows : List Row) → table_rows context (Base base) ≡ Ok rows
     → AreFilled (context.keys base) rows
 
--- The memo keeps only outcomes of the subqueries, and rows of the tables. No key is null.
+-- The memo keeps only outcomes of the subqueries, and rows of the tables. If it says so, no key is null.
 pub record IsMemoOf (context : Sources) (meant : Meant) (memo : Memo) : Type 0 where
-  pub filled : AreKeysFilled context
+  pub filled : memo.are_keys_filled ≡ true → AreKeysFilled context
   pub outcomes : (number : ℕ) → IfSome (get nat_eq memo.outcomes number) (λ kept. IsKept kept (meant number))
   pub truths : (number : ℕ) → IfSome (get nat_eq memo.truths number)
       (λ truth. Means truth (existing (meant number)))

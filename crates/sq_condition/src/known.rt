@@ -7,14 +7,14 @@ ghost use Rattle.sq_value.specs.SetFunctions.{is_null as is_null_value};
 ghost use Rattle.sq_value.specs.declared.value.Value.{Value as AnyValue};
 ghost use Rattle.sq_meaning.specs.Expression as meaning;
 ghost use Rattle.sq_meaning.specs.Environment.{Line};
-ghost use Rattle.sq_store.specs.Keys.{key_at, keys_at};
+ghost use Rattle.sq_store.specs.Keys.{keys_at};
+ghost use Rattle.sq_bound.specs.Noted.{AreNotedTests};
 ghost use Rattle.sq_expression.specs.Frame.{env_of, lent, on_line, reading};
 ghost use Rattle.sq_expression.specs.Sources.{without_tables};
 ghost use Rattle.sq_expression.specs.declared.frame.Frame.{Frame as AnyFrame};
-ghost use Rattle.sq_condition.specs.Asked.{AddsTo};
-ghost use Rattle.sq_condition.specs.Known.{AreNamedValues, HasAddedValues, HasColumnValue, HasKeyValues, IsKnownAs, IsLine, IsSoughtFirst};
+ghost use Rattle.sq_condition.specs.Asked.{AddsTo, IsKeyOfTerms};
+ghost use Rattle.sq_condition.specs.Known.{HasAddedValues, HasColumnValue, HasKeyValues, IsKnownAs, IsLine};
 ghost use Rattle.sq_condition.specs.Named.{IsAmong, IsSought, value_on};
-ghost use Rattle.sq_condition.specs.declared.named.Sought.{Sought as AnySought};
 
 use crate::named::{Sought, Wanted};
 use crate::way::named_key;
@@ -81,11 +81,8 @@ pub fn known_key<S: Store>(
     store: &S,
 ) -> Result<Option<KnownKey>, Fault>
     requires there { base < length (S.content_now store.now) }
-    ensures known { IfOk result (λ found. IfSome found (λ known.
-        (known.key < length (keys_at (S.key_columns store.now) base))
-        × ((s : AnySought) × IsSoughtFirst terms.now s
-        × (IsSought s → AreNamedValues s None (without_tables context.now) []
-        (key_at (S.key_columns store.now) base known.key) known.values)))) }
+    ensures known { AllByRecursion AreNotedTests terms.now → IfOk result (λ found. IfSome found
+        (IsKeyOfTerms terms.now (without_tables context.now) (keys_at (S.key_columns store.now) base))) }
     ensures memory { IfErr result (λ fault. fault ≡ Fault.NoMemory) }
 {
     let sought = Sought::before_lines(terms, 0);

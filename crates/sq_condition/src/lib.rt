@@ -21,7 +21,7 @@ mod specification;
 mod thinned;
 mod way;
 
-pub use asked::{Numbered, row_named};
+pub use asked::Numbered;
 pub use condition::{named_rows, outermost_rows, rows_over, rows_under, truth};
 pub use known::{KnownKey, known_key};
 pub use memo::Memo;
