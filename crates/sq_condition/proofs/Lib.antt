@@ -8,6 +8,7 @@ pub mod AskedValues
 pub mod BesideTables
 pub mod Conditions
 pub mod Depths
+pub mod FoundRows
 pub mod Grouped
 pub mod Growing
 pub mod HasLine
