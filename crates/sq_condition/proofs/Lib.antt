@@ -1,14 +1,17 @@
 pub mod Alike
 pub mod AlikeConds
 pub mod Around
+pub mod Behind
 pub mod BesideTables
 pub mod Conditions
 pub mod Depths
+pub mod Dropped
 pub mod Grouped
 pub mod Growing
 pub mod HasLine
 pub mod Items
 pub mod Joined
+pub mod KnownOnLines
 pub mod Leading
 pub mod Lone
 pub mod Membership
