@@ -33,3 +33,9 @@ pub mod Turns
 pub mod Unwanted
 pub mod Wanted
 pub mod WalkedRows
+pub mod KnownExprs
+pub mod NamedSources
+pub mod Outs
+pub mod SourceDepths
+pub mod Through
+pub mod PartsAdded
