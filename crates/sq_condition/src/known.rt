@@ -1,14 +1,18 @@
 //! Values that are known before a row is.
 
-ghost use Rattle.std.specs.Prelude.{◌≡◌, ◌<◌, ◌++◌, ◌∷◌, [], true, false, not, length, List, IfErr, IfOk, IfSome, Result, Ok};
+ghost use Rattle.std.specs.Prelude.{◌≡◌, ◌<◌, ◌++◌, ◌∷◌, [], true, false, not, length, List, None, IfErr, IfOk, IfSome, Result, Ok};
 ghost use Rattle.std.specs.List.{AllByRecursion};
+ghost use Rattle.std.specs.Borrow.{Bor};
+ghost use Rattle.std.specs.Prelude.{Option};
+ghost use Rattle.sq_value.specs.SetFunctions.{is_null as is_null_value};
 ghost use Rattle.sq_value.specs.declared.value.Value.{Value as AnyValue};
 ghost use Rattle.sq_meaning.specs.Expression as meaning;
 ghost use Rattle.sq_meaning.specs.Environment.{Line};
 ghost use Rattle.sq_store.specs.Keys.{key_at, keys_at};
 ghost use Rattle.sq_expression.specs.Frame.{env_of, lent, on_line, reading};
 ghost use Rattle.sq_expression.specs.Sources.{without_tables};
-ghost use Rattle.sq_condition.specs.Known.{AreNamedValues, HasColumnValue, HasKeyValues, IsKnownAs};
+ghost use Rattle.sq_expression.specs.declared.frame.Frame.{Frame as AnyFrame};
+ghost use Rattle.sq_condition.specs.Known.{AreNamedValues, HasAddedValues, HasColumnValue, HasKeyValues, IsKnownAs, IsLine, IsSoughtFirst};
 ghost use Rattle.sq_condition.specs.Named.{IsAmong, IsSought, value_on};
 ghost use Rattle.sq_condition.specs.declared.named.Sought.{Sought as AnySought};
 
@@ -55,7 +59,9 @@ pub(crate) fn known_value<'a>(
     }
 }
 
-fn is_null(value: &Value) -> bool {
+fn is_null(value: &Value) -> bool
+    ensures { result ≡ is_null_value value.now }
+{
     matches!(value, Value::Null)
 }
 
@@ -77,9 +83,9 @@ pub fn known_key<S: Store>(
     requires there { base < length (S.content_now store.now) }
     ensures known { IfOk result (λ found. IfSome found (λ known.
         (known.key < length (keys_at (S.key_columns store.now) base))
-        × ((s : AnySought) → s.terms.now ≡ terms.now → s.item ≡ 0 → s.known ≡ 0 → IsSought s
-        → AreNamedValues s None (without_tables context.now) []
-        (key_at (S.key_columns store.now) base known.key) known.values))) }
+        × ((s : AnySought) × IsSoughtFirst terms.now s
+        × (IsSought s → AreNamedValues s None (without_tables context.now) []
+        (key_at (S.key_columns store.now) base known.key) known.values)))) }
     ensures memory { IfErr result (λ fault. fault ≡ Fault.NoMemory) }
 {
     let sought = Sought::before_lines(terms, 0);
@@ -101,8 +107,9 @@ pub(crate) fn key_values(
     outer: Option<&Frame<'_>>,
     context: &Context<'_>,
 ) -> Result<Known<Key>, Fault>
-    ensures { IsSought sought.now
+    ensures known { IsSought sought.now
         → HasKeyValues sought.now outer.entry (without_tables context.now) (lent line.now) columns.now result }
+    ensures memory { IfErr result (λ fault. fault ≡ Fault.NoMemory) }
 {
     match columns {
         [column] => key_value(sought, *column, line, outer, context),
@@ -117,8 +124,9 @@ fn key_value(
     outer: Option<&Frame<'_>>,
     context: &Context<'_>,
 ) -> Result<Known<Key>, Fault>
-    ensures { IsSought sought.now
+    ensures known { IsSought sought.now
         → HasKeyValues sought.now outer.entry (without_tables context.now) (lent line.now) (column ∷ []) result }
+    ensures memory { IfErr result (λ fault. fault ≡ Fault.NoMemory) }
 {
     match known_in_column(sought, column, &line_frame(line, outer), context)? {
         Known::Value(known) => {
@@ -137,8 +145,9 @@ fn key_values_of_more(
     outer: Option<&Frame<'_>>,
     context: &Context<'_>,
 ) -> Result<Known<Key>, Fault>
-    ensures { IsSought sought.now
+    ensures known { IsSought sought.now
         → HasKeyValues sought.now outer.entry (without_tables context.now) (lent line.now) columns.now result }
+    ensures memory { IfErr result (λ fault. fault ≡ Fault.NoMemory) }
 {
     let mut values = Vec::new(context.alloc);
     let frame = line_frame(line, outer);
@@ -156,7 +165,12 @@ fn add_in_columns(
     frame: &Frame<'_>,
     context: &Context<'_>,
     values: &mut Vec<Value>,
-) -> Result<Known<()>, Fault> {
+) -> Result<Known<()>, Fault>
+    ensures known { IsSought sought.now → values.old.items ≡ []
+        → (outer : Option (Bor AnyFrame)) (before : Line) → IsLine frame.now outer before
+        → HasAddedValues sought.now outer (without_tables context.now) before columns.now values.new.items result }
+    ensures memory { IfErr result (λ fault. fault ≡ Fault.NoMemory) }
+{
     for column in columns {
         match known_in_column(sought, *column, frame, context)? {
             Known::Value(known) => values.push(known.get().copy(context.alloc)?)?,
@@ -173,7 +187,12 @@ fn known_in_column<'a>(
     column: usize,
     frame: &Frame<'a>,
     context: &Context<'a>,
-) -> Result<Known<Evaluated<'a>>, Fault> {
+) -> Result<Known<Evaluated<'a>>, Fault>
+    ensures known { IsSought sought.now
+        → (outer : Option (Bor AnyFrame)) (before : Line) → IsLine frame.now outer before
+        → HasColumnValue sought.now outer (without_tables context.now) before column result }
+    ensures memory { IfErr result (λ fault. fault ≡ Fault.NoMemory) }
+{
     match sought.equal_to(column, Wanted::One) {
         Some(expr) => known_value(expr, sought.is_quiet, frame, context),
         None => Ok(Known::Nothing),

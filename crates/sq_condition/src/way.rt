@@ -39,7 +39,9 @@ pub fn named_by(
     terms: &[BoundConj],
     items: &[Option<NamedItem<'_>>],
     is_once: bool,
-) -> Result<Vec<Option<NamedBy>>, AllocError> {
+) -> Result<Vec<Option<NamedBy>>, AllocError>
+    ensures { IfOk result (λ ways. length ways.items ≡ length items.now) }
+{
     let mut ways = Vec::with_capacity(alloc, items.len())?;
     for (number, item) in items.iter().enumerate() {
         ways.push(way_of(terms, number, item, is_once))?;
