@@ -6,6 +6,7 @@ pub mod BesideTables
 pub mod Conditions
 pub mod Depths
 pub mod Dropped
+pub mod FoundRows
 pub mod Grouped
 pub mod Growing
 pub mod HasLine
