@@ -1,5 +1,7 @@
+pub mod AddedRows
 pub mod Alike
 pub mod AlikeConds
+pub mod AmongValues
 pub mod Around
 pub mod Behind
 pub mod BesideTables
@@ -31,6 +33,7 @@ pub mod PartsAdded
 pub mod Phases
 pub mod Predicates
 pub mod QueryRows
+pub mod QueryValues
 pub mod ReadTables
 pub mod Right
 pub mod RightLines

@@ -12,6 +12,7 @@ ghost use Rattle.sq_store.specs.Keys.{key_at, keys_at};
 ghost use Rattle.sq_expression.specs.Frame.{env_of, lent, on_line, reading};
 ghost use Rattle.sq_expression.specs.Sources.{without_tables};
 ghost use Rattle.sq_expression.specs.declared.frame.Frame.{Frame as AnyFrame};
+ghost use Rattle.sq_condition.specs.Asked.{AddsTo};
 ghost use Rattle.sq_condition.specs.Known.{AreNamedValues, HasAddedValues, HasColumnValue, HasKeyValues, IsKnownAs, IsLine, IsSoughtFirst};
 ghost use Rattle.sq_condition.specs.Named.{IsAmong, IsSought, value_on};
 ghost use Rattle.sq_condition.specs.declared.named.Sought.{Sought as AnySought};
@@ -208,8 +209,7 @@ pub(crate) fn add_known(
     context: &Context<'_>,
     values: &mut Vec<Value>,
 ) -> Result<bool, Fault>
-    ensures added { IfOk result (λ are_known. are_known ≡ true → (added : List AnyValue)
-        × (values.new.items ≡ values.old.items ++ added)) }
+    ensures added { IfOk result (λ are_known. are_known ≡ true → AddsTo values.old.items values.new.items) }
     ensures known { IfOk result (λ are_known. are_known ≡ true
         → AllByRecursion (λ e. IsAmong (not is_quiet) values.new.items
         (value_on outer.entry (without_tables context.now) (lent line.now) e)) exprs.now) }

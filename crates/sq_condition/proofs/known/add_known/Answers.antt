@@ -31,8 +31,8 @@ loop-expr-preserved c =
     let at : (k : Known Value) → c.in_ok-known.field-0 ≡ k → IsKnownAs quiet (value e) (Ok k) = (λ k is. subst (λ (x : Known Value). IsKnownAs quiet (value e) (Ok x)) is so) in
     elim c.match-branch-2.branch [
     | in-Value+in_ok-copy-in-Value+in_ok-push-in-Value+in-Chars-1 w ↦ subst (λ (v : Vec Value Global). AreAmongSoFar quiet value (take (i + 1) exprs) first v.items) (sym w.values-is)
-        (value_so_far quiet value exprs i e first values _ w.in_ok-copy-in-Value.field-0 w.in-Value.known within c.expr-item.is w.in_ok-push-in-Value.ensures.items (w.in_ok-copy-in-Value.ensures.value ∙ w.get.ensures) (at (known.Value w.in-Value.known) w.in-Value.is).0 before)
+        (value_so_far quiet value exprs i e first values _ w.in_ok-copy-in-Value.field-0 w.in-Value.known within c.expr-item.is w.in_ok-push-in-Value.ensures.items (w.in_ok-copy-in-Value.ensures.value ∙ w.get.ensures) (at (known.Value w.in-Value.known) w.in-Value.is) before)
     | in-Value+in_ok-copy-in-Value+in_ok-push-in-Value+in-Null-1 w ↦ subst (λ (v : Vec Value Global). AreAmongSoFar quiet value (take (i + 1) exprs) first v.items) (sym w.values-is)
-        (value_so_far quiet value exprs i e first values _ w.in_ok-copy-in-Value.field-0 w.in-Value.known within c.expr-item.is w.in_ok-push-in-Value.ensures.items (w.in_ok-copy-in-Value.ensures.value ∙ w.get.ensures) (at (known.Value w.in-Value.known) w.in-Value.is).0 before)
+        (value_so_far quiet value exprs i e first values _ w.in_ok-copy-in-Value.field-0 w.in-Value.known within c.expr-item.is w.in_ok-push-in-Value.ensures.items (w.in_ok-copy-in-Value.ensures.value ∙ w.get.ensures) (at (known.Value w.in-Value.known) w.in-Value.is) before)
     | in-Null w ↦ subst (λ (v : Vec Value Global). AreAmongSoFar quiet value (take (i + 1) exprs) first v.items) (sym w.values-is) (null_so_far quiet value exprs i e first values within c.expr-item.is (at known.Null w.in-Null.is) before)
     ]
