@@ -38,6 +38,7 @@ pub mod ReadTables
 pub mod Right
 pub mod RightLines
 pub mod SamePlaces
+pub mod SoughtRows
 pub mod SourceDepths
 pub mod Subqueries
 pub mod TableIndexes
