@@ -4,6 +4,7 @@ pub mod Around
 pub mod BesideTables
 pub mod Conditions
 pub mod Depths
+pub mod DroppedRows
 pub mod FoundRows
 pub mod Grouped
 pub mod Growing
