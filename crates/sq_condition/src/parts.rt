@@ -1,6 +1,6 @@
 //! The parts of what tests say that a column is equal to: expressions and subqueries.
 
-ghost use Rattle.std.specs.Prelude.{◌≡◌, ◌≤◌, ℕ, IfOk, IfSome, List, true, ◌++◌};
+ghost use Rattle.std.specs.Prelude.{◌≡◌, ◌≤◌, ℕ, IfOk, IfSome, true};
 ghost use Rattle.std.specs.List.{AllByRecursion};
 ghost use Rattle.sq_expression.specs.Sources.{Sources};
 ghost use Rattle.sq_condition.specs.Memo.{Meant};
