@@ -1,5 +1,5 @@
 -- Left open: that the loop keeps its invariant; answered by KnownValues.
-use Rattle.std.proofs.Common.{◌≡◌, ℕ, Ok, get_or, sym, subst, ◌∙◌}
+use Rattle.std.proofs.Common.{ℕ, Ok, get_or, sym, subst, ◌∙◌}
 use Rattle.std.proofs.lemmas.Grind.{get_or_default_zero}
 use Rattle.sq_expression.specs.Sources.{without_tables}
 use Rattle.sq_value.specs.declared.value.Value.{Value}

@@ -1,5 +1,5 @@
 -- Left open: the key of one value; answered by KnownValues.
-use Rattle.std.proofs.Common.{◌≡◌, ◌∷◌, [], Ok, ◌∙◌, ap, subst}
+use Rattle.std.proofs.Common.{◌∷◌, [], Ok, ◌∙◌, ap, subst}
 use Rattle.sq_value.specs.declared.value.Value.{Value}
 use Rattle.sq_expression.specs.Frame.{lent}
 use Rattle.sq_expression.specs.Sources.{without_tables}
