@@ -8,6 +8,7 @@ pub mod BesideTables
 pub mod Conditions
 pub mod Depths
 pub mod Dropped
+pub mod DroppedRows
 pub mod FoundRows
 pub mod Grouped
 pub mod Growing
