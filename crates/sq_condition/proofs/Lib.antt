@@ -3,6 +3,8 @@ pub mod Alike
 pub mod AlikeConds
 pub mod AmongValues
 pub mod Around
+pub mod AskedRows
+pub mod AskedValues
 pub mod Behind
 pub mod BesideTables
 pub mod Conditions

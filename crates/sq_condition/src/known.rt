@@ -1,10 +1,9 @@
 //! Values that are known before a row is.
 
-ghost use Rattle.std.specs.Prelude.{◌≡◌, ◌<◌, ◌++◌, ◌∷◌, [], true, false, not, length, List, None, Option, IfErr, IfOk, IfSome, Result, Ok};
+ghost use Rattle.std.specs.Prelude.{◌≡◌, ◌<◌, ◌∷◌, [], true, false, not, length, None, Option, IfErr, IfOk, IfSome, Result, Ok};
 ghost use Rattle.std.specs.List.{AllByRecursion};
 ghost use Rattle.std.specs.Borrow.{Bor};
 ghost use Rattle.sq_value.specs.SetFunctions.{is_null as is_null_value};
-ghost use Rattle.sq_value.specs.declared.value.Value.{Value as AnyValue};
 ghost use Rattle.sq_meaning.specs.Expression as meaning;
 ghost use Rattle.sq_meaning.specs.Environment.{Line};
 ghost use Rattle.sq_store.specs.Keys.{key_at, keys_at};

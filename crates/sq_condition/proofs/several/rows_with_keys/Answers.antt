@@ -1,5 +1,5 @@
 -- Left open for rows_with_keys: that the loop keeps its invariant; answered by AddedRows.
-use Rattle.std.proofs.Common.{◌∙◌, List, ap, map, take}
+use Rattle.std.proofs.Common.{◌∙◌, ap, map, take}
 use Rattle.sq_store.specs.Content.{table_at}
 use Rattle.sq_store.specs.Found.{has_one_of, numbered_row}
 use Rattle.sq_store.specs.Keys.{key_at}
