@@ -3,7 +3,7 @@ use Rattle.std.proofs.Common.{◌≡◌, ◌<◌, ℕ, Bool, true, false, true�
 use Rattle.std.specs.Prelude.{not, slice_get}
 use Rattle.sq_value.specs.declared.truth.Truth.{Truth}
 use Rattle.sq_value.specs.declared.truth.Truth.TheVariants.{False, Unknown, True}
-use Rattle.sq_meaning.specs.Environment.{Line, Row}
+use Rattle.sq_meaning.specs.Environment.{Row}
 use Rattle.sq_meaning.specs.Query.{truth}
 use Rattle.sq_meaning.specs.Status.{Outcome}
 use Rattle.sq_store.specs.declared.table.Numbered.{Numbered as StoredRow}

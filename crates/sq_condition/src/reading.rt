@@ -70,7 +70,8 @@ pub(crate) fn no_rows_at<'m, S: Store>(
     table: TablePlace,
     reading: &Reading<'_, 'm, S>,
 ) -> Result<Vec<&'m Row>, Fault>
-    ensures { HasRowsBut (λ row. ⊤) result (table_rows (sources S.content_now S.key_columns reading.now) table) }
+    ensures { HasRowsBut (λ row. ⊤) result
+        (table_rows (sources S.content_now S.key_columns reading.now) table) }
 {
     match table {
         TablePlace::Base(place) => no_base_rows(place, reading),
