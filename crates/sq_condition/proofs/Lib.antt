@@ -5,6 +5,7 @@ pub mod AmongValues
 pub mod Around
 pub mod AskedRows
 pub mod AskedValues
+pub mod Beginnings
 pub mod Behind
 pub mod BesideTables
 pub mod Conditions
