@@ -26,10 +26,12 @@ pub mod Lone
 pub mod Membership
 pub mod NamedSources
 pub mod NoFunctions
+pub mod NeverMet
 pub mod NotTrue
 pub mod OneItem
 pub mod OnlyOne
 pub mod Outs
+pub mod OtherValues
 pub mod OwnTests
 pub mod PartsAdded
 pub mod Phases
@@ -50,4 +52,3 @@ pub mod Turns
 pub mod Unwanted
 pub mod WalkedRows
 pub mod Wanted
-pub mod NeverMet
