@@ -5,6 +5,7 @@
 mod asked;
 mod comparison;
 mod condition;
+mod fixed;
 mod item;
 mod known;
 mod members;

@@ -17,6 +17,7 @@ returns-in-Value-clause-known g c = λ noted.
       terms_are = ap (λ t. t.now) c.before_lines-sought.ensures.terms;
       item_is = c.before_lines-sought.ensures.item;
       known_is = c.before_lines-sought.ensures.known;
+      unfixed = c.before_lines-sought.ensures.unfixed;
       unshown = c.before_lines-sought.ensures.unshown;
       quiet = c.before_lines-sought.ensures.quiet;
     } in
