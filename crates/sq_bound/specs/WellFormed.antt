@@ -16,7 +16,7 @@ use Rattle.sq_bound.specs.Expression.{PlacedExpr, expr_of}
 use Rattle.sq_bound.specs.Fits.{IsColumnOf, under}
 use Rattle.sq_bound.specs.Joined.{joined_kinds, specifications_of}
 use Rattle.sq_bound.specs.Keyed.{is_plain_base}
-use Rattle.sq_bound.specs.Noted.{CondIsNoted, SelectIsNoted}
+use Rattle.sq_bound.specs.Noted.{CondIsNoted, SelectIsNoted, HasNotes}
 use Rattle.sq_bound.specs.Numbered.{CondWith, HaveNumbers, SelectWith}
 use Rattle.sq_bound.specs.SetFunction.{call_of}
 use Rattle.sq_bound.specs.declared.condition.BoundCond.{BoundCond}
@@ -193,6 +193,7 @@ pub record IsTable (columns : TableKinds) (t : TableDesc) : Type 0 where
 pub record IsTarget (columns : TableKinds) (parameters : List Kind) (t : Target) : Type 0 where
   pub leaf : IsLeaf columns t.leaf
   pub condition : IfSome t.condition (IsCond columns parameters (of_base t.leaf.table) [])
+  pub notes : IfSome t.condition HasNotes
 
 -- an updatable query, whose columns have these kinds
 abbrev pub IsUpdatable : TableKinds → List Kind → List Kind → UpdatableQuery → Type 0

@@ -7,6 +7,7 @@ use Rattle.sq_meaning.specs.Status as status
 use Rattle.sq_meaning.specs.Syntax.{Clause, Cond, absent, present}
 use Rattle.sq_meaning.specs.Tables.{Declared}
 use Rattle.sq_bound.specs.Condition.{PlacedCond}
+use Rattle.sq_bound.specs.Noted.{HasNotes}
 use Rattle.sq_bound.specs.WellFormed.{IsCond, TableKinds, of_base_at}
 use Rattle.sq_bound.specs.declared.condition.BoundCond.{BoundCond}
 use Rattle.sq_bound.specs.declared.condition.TablePlace.TheVariants.{Base}
@@ -19,7 +20,7 @@ use Rattle.sq_binding.specs.PlacedQuery.{clause_placed, cond_placed}
 use Rattle.sq_binding.specs.Scope.{FromItem}
 use Rattle.sq_binding.specs.Seen.{cond_seen}
 use Rattle.sq_binding.specs.Select.{Surroundings}
-use Rattle.sq_binding.proofs.Standing.BoundLaws.{cond_is_so, cond_is_written}
+use Rattle.sq_binding.proofs.Standing.BoundLaws.{cond_has_notes, cond_is_so, cond_is_written}
 use Rattle.sq_binding.proofs.Faultless.Clean.{steps_of}
 use Rattle.sq_binding.proofs.Standing.Levels.{AreLevels, IsItemOver, MayStandAt, NamesKnow, kinds_declared}
 use Rattle.sq_binding.proofs.Inductions.Parts.{IfFound, IsPart}
@@ -63,6 +64,20 @@ module _ (kinds : TableKinds) (names : NamedTables) (parameters : List Declared)
       let e : NumberedClause.present s.step.part ≡ x.part = cc in
       let both : NumberedClause.present (cond_seen c) ≡ NumberedClause.present s.step.part = same ∙ sym e in
       cond_on_rows text counts s.step first s.first c cc
+
+  -- what is noted of its tests is true
+  cond_noted_on_rows : (text : Cond Named) (counts : Counts) (x : Found NumberedCond) → cond_bound here text counts ≡ Ok x → (c : BoundCond) → cond_seen c ≡ x.part → HasNotes c
+  cond_noted_on_rows text counts x is c same = cond_has_notes kinds here counts text x is c same (omega arith, tt)
+
+  pub clause_noted_on_rows : (text : Clause Named) (counts : Counts) (x : Found NumberedClause) → clause_bound here text counts ≡ Ok x → (c : Option BoundCond) → clause_seen c ≡ x.part → IfSome c HasNotes
+  clause_noted_on_rows text counts x is None same = tt
+  clause_noted_on_rows absent counts x is (Some c) same =
+      let e : NumberedClause.absent ≡ x.part = cc in absurd (let e2 : NumberedClause.absent ≡ NumberedClause.present (cond_seen c) = e ∙ sym same in cc)
+  clause_noted_on_rows (present text) counts x is (Some c) same =
+      let s = steps_of (cond_bound here text counts) (λ x. found_spec.then_joined x (pure (NumberedClause.present x.part) (found_spec.after counts x))) x is in
+      let e : NumberedClause.present s.step.part ≡ x.part = cc in
+      let both : NumberedClause.present (cond_seen c) ≡ NumberedClause.present s.step.part = same ∙ sym e in
+      cond_noted_on_rows text counts s.step s.first c cc
 
   -- what it becomes
   pub cond_written : (text : Cond Named) (counts : Counts) (x : Found NumberedCond) → counts.functions ≡ 0 → cond_bound here text counts ≡ Ok x → (c : BoundCond) → cond_seen c ≡ x.part → CondIs (cond_placed here text) c

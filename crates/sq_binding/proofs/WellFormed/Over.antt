@@ -37,7 +37,7 @@ use Rattle.sq_binding.specs.Names.{NamesMean, Stands, StandsUnder, declared, lea
 use Rattle.sq_binding.specs.SeenQuery.{clause_seen, target_seen, updatable_seen}
 use Rattle.sq_binding.specs.Written.{ClauseIs, IsUpdatableOf, leaf_item}
 use Rattle.sq_binding.proofs.WellFormed.Named.{base_is, kinds_of_declared, leaf_is_over, leaf_stands, names_know}
-use Rattle.sq_binding.proofs.WellFormed.OnRows.{clause_on_rows, clause_written}
+use Rattle.sq_binding.proofs.WellFormed.OnRows.{clause_noted_on_rows, clause_on_rows, clause_written}
 use Rattle.sq_binding.proofs.WellFormed.PlainText.{IsPlainText, is_plain_text}
 use Rattle.sq_binding.proofs.WellFormed.Shown as shown
 use Rattle.sq_binding.proofs.WellFormed.Shown.{HaveKinds, leaf_kinds, positions_there, shown_at, shown_leaves}
@@ -195,6 +195,9 @@ module _ (known : KnownTables) (user : Name) (selects grants : TableName → Boo
           condition =
               subst (λ (place : ℕ). IfSome t.condition (IsCond kinds (kinds_of_parameters parameters) (of_base_at place) [])) (sym (ap (λ (u : Under). u.base) leaf_is))
               (subst (λ (ks : List Kind). IfSome t.condition (IsCond kinds ks (of_base_at u.base) [])) (kinds_of_declared parameters) on_base);
+          notes =
+              clause_noted_on_rows kinds names.tables (declared parameters) (names_know bases kinds known mean selects grants) u.base (item_at_leaf (table_at r k u)) (leaf_is_over bases kinds k.columns u stands (item_at_leaf (table_at r k u)) refl)
+              text counts clause is_clause t.condition condition_is;
         }
 
         pub target_is_written : ClauseIs (clause_placed (of_lines (leaf_item r k ∷ []) (outside known parameters)) text) t.condition

@@ -1,6 +1,6 @@
 -- A walk over the rows of a target that names them by a key comes to one row at most: the one with the key, if it stands among the rows
 -- that are left and is meant.
-use Rattle.std.proofs.Common.{◌≡◌, ◌∙◌, ℕ, ◌+◌, ◌<◌, ◌≤◌, Bool, true, false, nat_eq, nat_le, nat_lt, List, [], ◌∷◌, Option, Some, None, arith, filter, find, refl, ap, subst, Ok}
+use Rattle.std.proofs.Common.{◌≡◌, ◌∙◌, ℕ, ◌+◌, ◌<◌, ◌≤◌, Bool, true, false, nat_eq, nat_le, nat_lt, List, [], ◌∷◌, Option, Some, None, arith, filter, find, inr, refl, ap, subst, Ok}
 use Rattle.std.specs.Prelude.{if◌then◌else◌}
 use Rattle.std.specs.List.{AllByRecursion, list_any}
 use Rattle.std.specs.Option.{option_map}
@@ -15,15 +15,23 @@ use Rattle.sq_store.specs.Rising.{all_rising, rising_between}
 use Rattle.sq_store.specs.declared.table.Numbered.{Numbered}
 use Rattle.sq_store.proofs.Rises.{rows_rise_at}
 use Rattle.sq_meaning.proofs.AnswerLaws.{all_weaker}
+use Rattle.sq_meaning.specs.Environment.{Row}
+use Rattle.sq_meaning.specs.Query.{is_true}
+use Rattle.sq_meaning.specs.WellFormed.{IsRowOf}
 use Rattle.sq_bound.specs.Fits.{IsBase, keys_of_bases, not_nulls_hold}
-use Rattle.sq_bound.specs.WellFormed.{TableKinds}
+use Rattle.sq_bound.specs.Noted.{HasNotes}
+use Rattle.sq_bound.specs.WellFormed.{TableKinds, base_kinds}
+use Rattle.sq_expression.specs.Fault.{IsRight}
 use Rattle.sq_bound.specs.declared.names.BaseTable.{BaseTable}
 use Rattle.sq_bound.specs.declared.query.Target.{Target}
 use Rattle.sq_query.specs.Meant.{IsKeyUnder}
+use Rattle.sq_query.specs.Named.{AreSureBases}
 use Rattle.sq_query.specs.Row.{truth_on_row}
 use Rattle.sq_query.specs.Target.{are_true, conditions_of}
 use Rattle.sq_query.specs.declared.key.KnownKey.{KnownKey}
+use Rattle.sq_query.proofs.Keys.NamedRows.{quiet_right}
 use Rattle.sq_query.proofs.Keys.OnlyOne.{AtMostOne, found_is}
+use Rattle.sq_query.proofs.Keys.TargetNotes.{own_noted}
 use Rattle.sq_query.proofs.Targets.TargetSearch.{none_without, one_with}
 use Rattle.sq_session.specs.Fetch.{row_on}
 use Rattle.sq_session.specs.Walk.{AreRowsUnder, IsQuietWith, first_meant, is_meant, is_yes, no_tables}
@@ -92,13 +100,22 @@ module _ (columns : TableKinds) (bases : List BaseTable) (content : Content) (ke
   abbrev pub walk_finds : Option Numbered → Option Numbered
   walk_finds = if_meant has_it walk_means stands_from stands_before
 
+  noted : HasNotes k.own
+  noted = own_noted columns quiet.parameters t k.own quiet.is_target k.is_own
+
+  sure : AreSureBases no_tables
+  sure place = inr refl
+
+  right : (row : Row) → IsRowOf (base_kinds t.leaf.table) row → IsRight (is_true (truth_on_row no_tables values user row k.own))
+  right = quiet_right no_tables columns quiet.parameters values user quiet.given t quiet.is_target quiet.quiet k.own k.is_own
+
   pub first_by_key : first_meant (conditions_of t) values user from mark (table_at content t.base).rows ≡ walk_finds (with_key (table_at content t.base) (key_at keys t.base known.key) known.values)
   first_by_key =
       found_with has_it walk_means stands_from stands_before (table_at content t.base).rows
       (all_weaker (λ (r : Numbered). has_it r ≡ false → are_true (truth_on_row no_tables values user r.row) (conditions_of t) ≡ Ok false) (λ (r : Numbered). has_it r ≡ false → walk_means r ≡ false)
       (λ r out lacks. ap is_yes (out lacks)) (table_at content t.base).rows
-      (none_without no_tables columns quiet.parameters values user quiet.given bases content keys t known k quiet.is_target base keys_are nulls rows_are keyed))
-      (one_with no_tables columns quiet.parameters values user quiet.given bases content keys t known k quiet.is_target base keys_are nulls rows_are keyed)
+      (none_without no_tables columns quiet.parameters values user quiet.given bases content keys t known k quiet.is_target base keys_are nulls noted sure right rows_are keyed))
+      (one_with no_tables columns quiet.parameters values user quiet.given bases content keys t known k quiet.is_target base keys_are nulls noted sure right rows_are keyed)
 
 -- ---- numbers
 
