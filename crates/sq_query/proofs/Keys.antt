@@ -1,7 +1,4 @@
 -- A condition names a row by a key, and a search by the key finds what a scan of all rows finds.
-pub mod AddedRows
-pub mod EqualTests
-pub mod ExprRows
 pub mod KeyColumns
 pub mod KeyLacked
 pub mod KeyNames
@@ -11,12 +8,13 @@ pub mod KeyTests
 pub mod KeyValues
 pub mod KeyedRows
 pub mod KeysOn
-pub mod KeysSearch
 pub mod KnownKeys
-pub mod NamedRows
+pub mod LineValues
 pub mod NamedTests
 pub mod NotedKeys
 pub mod OnlyOne
 pub mod Searched
+pub mod NamedRows
 pub mod ShortestKnown
 pub mod SingleRows
+pub mod TargetNotes

@@ -1,6 +1,6 @@
+pub mod FilledKeys
 pub mod Keys
 pub mod Targets
-pub mod FoundByKey
 pub mod PlainViews
 pub mod Needs
 pub mod ByUnion

@@ -10,6 +10,7 @@ pub mod KnownQueries
 pub mod MeantTables
 pub mod NeededViews
 pub mod NoSubquery
+pub mod Outside
 pub mod ReadAs
 pub mod ReadRows
 pub mod ReadTables

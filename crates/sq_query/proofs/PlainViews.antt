@@ -1,14 +1,23 @@
 -- What plain views show of the rows underneath, and of some of them.
 pub mod AskedCells
+pub mod AskedItems
 pub mod AskedRows
 pub mod AskedViews
 pub mod Classes
+pub mod ColumnsThere
 pub mod FewRows
+pub mod Hidden
+pub mod LeftOut
+pub mod OneItem
+pub mod OneTable
+pub mod OverRows
 pub mod QuietExprs
+pub mod ReadViews
+pub mod Serving
+pub mod ShownColumns
+pub mod ShownRows
 pub mod SureRows
-pub mod Thinned
 pub mod ThroughViews
-pub mod ViewItems
 pub mod ViewPaths
 pub mod ViewsThere
 pub mod Wanted

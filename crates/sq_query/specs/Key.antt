@@ -17,6 +17,7 @@ use Rattle.sq_meaning.specs.WellFormed.{HasValue, IsDeclaredAt, WellFormedCond, 
 use Rattle.sq_bound.specs.Condition.{PlacedCond, cond_of, test_of}
 use Rattle.sq_bound.specs.Expression.{expr_of}
 use Rattle.sq_bound.specs.Keyed.{names_key}
+use Rattle.sq_bound.specs.Noted.{HasNotes}
 use Rattle.sq_bound.specs.WellFormed.{Levels, TableKinds}
 use Rattle.sq_bound.specs.declared.condition.BoundCond.{BoundCond, out-BoundCond}
 use Rattle.sq_bound.specs.declared.condition.BoundConj.{BoundConj, out-BoundConj}
@@ -25,10 +26,9 @@ use Rattle.sq_bound.specs.declared.condition.TablePlace.{TablePlace}
 use Rattle.sq_bound.specs.declared.condition.TablePlace.TheVariants.{Base}
 use Rattle.sq_bound.specs.declared.expression.BoundExpr.{BoundExpr}
 use Rattle.sq_bound.specs.declared.query.Target.{Target}
-use Rattle.sq_query.specs.Named.{IsFalseBut, IsNamedByOne, IsOneOf}
+use Rattle.sq_query.specs.Named.{IsTrueOnlyWith, IsOneOf}
 use Rattle.sq_query.specs.Row.{outside}
 use Rattle.sq_query.specs.declared.key.KnownKey.{KnownKey}
-use Rattle.sq_query.specs.declared.key.KnownKeys.{KnownKeys}
 
 -- a test `column = e`
 abbrev pub IsEquality : ℕ → BoundExpr → BoundTest → Type 0
@@ -92,21 +92,15 @@ Stands columns parameters t c =
 abbrev pub StandsOn : TableKinds → List Kind → TablePlace → BoundCond → Type 0
 StandsOn columns parameters t own = Stands columns parameters t (cond_of [] own)
 
--- a key of the base table at a place by whose columns a condition on its rows names them, and the values of the columns
+-- A key of the base table at a place by whose columns a condition on its rows names them, and the values of the columns: if the tests of the
+-- condition are noted as they are, it is true of no row that has another value in one of them.
 pub record IsKeyOn (place : ℕ) (own : BoundCond) (content : Content) (keys : List Keys)
     (parameters : List Value) (user : Name) (known : KnownKey) : Type 0 where
   pub table : place < length content
   pub key : known.key < length (keys_at keys place)
-  pub named : AllZip (IsOneOf (IsFalseBut (Base place) parameters user (cond_of [] own)))
+  pub named : HasNotes own
+      → AllZip (IsOneOf (IsTrueOnlyWith (Base place) parameters user (cond_of [] own)))
       (key_at keys place known.key) known.values
-
--- a key of one column of the base table at a place, by values of which a condition on its rows names them
-pub record AreKeysOn (place : ℕ) (own : BoundCond) (content : Content) (keys : List Keys)
-    (parameters : List Value) (user : Name) (known : KnownKeys) : Type 0 where
-  pub table : place < length content
-  pub key : known.key < length (keys_at keys place)
-  pub named : IsNamedByOne (IsFalseBut (Base place) parameters user (cond_of [] own))
-      (key_at keys place known.key) known.values.items
 
 -- the key that is noted for a target: by it the target's own condition names a row
 pub record IsKeyOf (t : Target) (content : Content) (keys : List Keys) (parameters : List Value) (user : Name)

@@ -12,7 +12,7 @@ use Rattle.sq_query.specs.Key.{IsKeyOn}
 use Rattle.sq_query.specs.declared.key.KnownKey.{KnownKey}
 
 -- A key by which a target's own condition names a row of the base table, with its values, where the conditions of the views between are
--- never a fault: on each row without the key they have a truth, and the own condition is false.
+-- never a fault: on each row without the key they have a truth, and the own condition is not true.
 pub record IsKeyUnder (t : Target) (content : Content) (keys : List Keys) (parameters : List Value)
     (user : Name) (known : KnownKey) : Type 0 where
   pub own : BoundCond

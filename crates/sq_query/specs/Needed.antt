@@ -15,13 +15,9 @@ use Rattle.sq_bound.specs.declared.names.BaseTable.{BaseTable}
 use Rattle.sq_bound.specs.declared.query.BoundQuery.{BoundQuery}
 use Rattle.sq_query.specs.declared.needed.Needed.{Needed}
 
--- these base tables and no view
-abbrev pub NeedsBases : List ℕ → Needed → Type 0
-NeedsBases places needed = (needed.bases.items ≡ places) × (needed.views.items ≡ [])
-
 -- no table at all
 abbrev pub NeedsNone : Needed → Type 0
-NeedsNone needed = NeedsBases [] needed
+NeedsNone needed = (needed.bases.items ≡ []) × (needed.views.items ≡ [])
 
 -- the places of the base tables, and those of the views
 abbrev pub places_in : Needed → List ℕ × List ℕ

@@ -9,6 +9,7 @@ use Rattle.sq_tree.specs.declared.expr.SetFunction.TheVariants.{Count, Sum, Avg,
 use Rattle.sq_meaning.specs.Environment.{Row}
 use Rattle.sq_meaning.specs.Quiet.{is_quiet_expr}
 use Rattle.sq_meaning.specs.Status.{Outcome, ◌>>=◌, well_formed}
+use Rattle.sq_bound.specs.Condition.{select_of}
 use Rattle.sq_bound.specs.Expression.{expr_of}
 use Rattle.sq_bound.specs.Keyed.{own_column}
 use Rattle.sq_bound.specs.Names.{option_all}
@@ -22,8 +23,8 @@ use Rattle.sq_bound.specs.declared.condition.TablePlace.TheVariants.{Base, View}
 use Rattle.sq_bound.specs.declared.expression.BoundExpr.{BoundExpr}
 use Rattle.sq_bound.specs.declared.expression.SetFunctionCall.{SetFunctionCall}
 use Rattle.sq_bound.specs.declared.expression.SetFunctionCall.TheVariants.{CountRows, Over}
-use Rattle.sq_expression.specs.Fault.{IsRight}
-use Rattle.sq_query.specs.Specification.{IsOver, with_rows}
+use Rattle.sq_query.specs.Needed.{ReadsInside}
+use Rattle.sq_query.specs.Over.{IsOver, with_rows}
 use Rattle.sq_query.specs.Table.{rows_of_view}
 
 -- the column of its only table that an expression is
@@ -112,6 +113,17 @@ AreShown queries [] own columns = own ≡ columns
 AreShown queries (view ∷ views) own columns =
     (between : List ℕ) × AreShown queries views own between × AsksAt queries view between columns
 
+-- for each column of the base table the one by which the first view is asked where the table is asked by it
+abbrev pub AreColumnsShown : List BoundSpecification → List ℕ → List (Option ℕ) → Type 0
+AreColumnsShown queries views shown =
+    (own column : ℕ) → slice_get shown own ≡ Some (Some column)
+    → AreShown queries views (own ∷ []) (column ∷ [])
+
+-- a view stands in an item, in no other item and in no subquery
+pub record IsAlone (q : BoundSpecification) (item view : ℕ) : Type 0 where
+  pub once : (other : ℕ) → slice_get (out-BoundSpecification q).from.tables other ≡ Some (View view) → other ≡ item
+  pub apart : ReadsInside (λ t. t ≡ View view → ⊥) (select_of q)
+
 module _ (own : List Row) (tables : TablePlace → Outcome (List Row)) (user : Name)
     (queries : List BoundSpecification) (base : ℕ) where
   -- what the first of these views shows, through the others, of these rows of the base table
@@ -121,7 +133,7 @@ module _ (own : List Row) (tables : TablePlace → Outcome (List Row)) (user : N
       well_formed (slice_get queries view)
       >>= rows_of_view (with_rows (first_of views base) (shown_of views) tables) user
 
-  -- what each of these views shows of the rows does not end with 42000
-  abbrev pub AreRight : List ℕ → Type 0
-  AreRight [] = ⊤
-  AreRight (view ∷ views) = IsRight (shown_of (view ∷ views)) × AreRight views
+  -- each of these views shows rows of them, and ends with no status
+  abbrev pub AreThere : List ℕ → Type 0
+  AreThere [] = ⊤
+  AreThere (view ∷ views) = ((rows : List Row) × (shown_of (view ∷ views) ≡ Ok rows)) × AreThere views

@@ -1,18 +1,15 @@
 -- The tables that a statement reads, by their places.
-use Rattle.std.specs.Prelude.{◌≡◌, ℕ, find, nat_eq, nat_lt, if◌then◌else◌, List, [], length, map, slice_get, Vec, Ok}
+use Rattle.std.specs.Prelude.{◌≡◌, ℕ, List, [], map, slice_get, Vec, Ok}
 use Rattle.std.specs.Borrow.{Bor}
-use Rattle.std.specs.List.{AllByRecursion}
 use Rattle.std.specs.declared.alloc.Global.{Global}
 use Rattle.sq_value.specs.declared.domain.Kind.{Kind}
-use Rattle.sq_store.specs.Content.{Content, table_at}
+use Rattle.sq_store.specs.Content.{Content}
 use Rattle.sq_store.specs.declared.table.Numbered.{Numbered}
-use Rattle.sq_store.specs.declared.table.Table.{Table}
 use Rattle.sq_lex.specs.declared.name.Name.{Name}
 use Rattle.sq_meaning.specs.Environment.{Row, outermost}
 use Rattle.sq_meaning.specs.Placed.{by_place}
 use Rattle.sq_meaning.specs.Query.{rows}
-use Rattle.sq_meaning.specs.Status.{Outcome, ◌>>=◌, well_formed, not_well_formed}
-use Rattle.sq_meaning.specs.Tables.{rows_in}
+use Rattle.sq_meaning.specs.Status.{Outcome, ◌>>=◌, well_formed}
 use Rattle.sq_meaning.specs.WellFormed.{AreRowsOf, HasValue}
 use Rattle.sq_bound.specs.Condition.{select_of}
 use Rattle.sq_bound.specs.declared.condition.BoundSpecification.{BoundSpecification}
@@ -21,19 +18,11 @@ use Rattle.sq_bound.specs.declared.condition.TablePlace.{TablePlace}
 use Rattle.sq_bound.specs.declared.condition.TablePlace.TheVariants.{Base, View}
 use Rattle.sq_bound.specs.declared.names.View.{View as BoundView}
 use Rattle.sq_expression.specs.Fault.{IsRight}
-use Rattle.sq_expression.specs.Frame.{lent, view_outcome}
 use Rattle.sq_query.specs.Needed.{AreKnown, IsClosed, IsNeeded}
 use Rattle.sq_query.specs.declared.needed.Needed.{Needed}
-use Rattle.sq_expression.specs.declared.table.BaseRows.{BaseRows}
-use Rattle.sq_expression.specs.declared.table.ViewRows.{ViewRows}
-use Rattle.sq_query.specs.declared.view.Tables.{Tables}
+pub use Rattle.sq_condition.specs.Stored.{stored_rows, table_there}
 
 -- ---- in the store
-
--- a base table by its place
-abbrev pub table_there : Content → ℕ → Outcome Table
-table_there content place =
-    if nat_lt place (length content) then Ok (table_at content place) else not_well_formed
 
 abbrev pub numbered_row : ℕ × Bor Row → Numbered
 numbered_row found = record { number = found.0; row = found.1.now }
@@ -44,23 +33,6 @@ numbered_in rows = map numbered_row rows.items
 -- the numbered rows of a base table
 abbrev pub stored_numbered : Content → ℕ → Outcome (List Numbered)
 stored_numbered content place = table_there content place >>= λ found. Ok found.rows
-
--- the rows of a base table
-abbrev pub stored_rows : Content → ℕ → Outcome (List Row)
-stored_rows content place = table_there content place >>= λ found. Ok (rows_in found)
-
--- the rows of a base table, and its place
-abbrev pub stored_base : Content → ℕ → Outcome (ℕ × List Row)
-stored_base content place = table_there content place >>= λ found. Ok (place, rows_in found)
-
-abbrev pub base_seen : BaseRows → ℕ × List Row
-base_seen base = (base.place, lent base.rows.items)
-
-abbrev pub bases_in : Vec BaseRows Global → List (ℕ × List Row)
-bases_in bases = map base_seen bases.items
-
-abbrev pub bases_of : Tables → List (ℕ × List Row)
-bases_of tables = bases_in tables.bases
 
 -- tables of which each base table has the rows of the store
 abbrev pub AreOfStore : Content → (TablePlace → Outcome (List Row)) → Type 0
@@ -77,16 +49,6 @@ pub record AreMeant (queries : List BoundSpecification) (content : Content) (use
   pub bases : AreOfStore content tables
   pub views : (place : ℕ) → tables (View place)
       ≡ (well_formed (slice_get queries place) >>= rows_of_view tables user)
-
--- the rows of the tables among these, as they were read
-abbrev pub rows_among : List BaseRows → List ViewRows → TablePlace → Outcome (List Row)
-rows_among bases views (Base place) =
-    well_formed (find (λ t. nat_eq t.place place) bases) >>= λ t. Ok (lent t.rows.items)
-rows_among bases views (View place) =
-    well_formed (find (λ t. nat_eq t.place place) views) >>= λ t. view_outcome t.rows.items t.failure
-
-abbrev pub rows_read : Tables → TablePlace → Outcome (List Row)
-rows_read tables = rows_among tables.bases.items tables.views.items
 
 -- What is needed can be read: its tables are known and what their views need is there, too, a view has the rows of its
 -- query, and no known table ends with 42000.
@@ -108,19 +70,6 @@ ReadsAsMeant needed found tables = (at : TablePlace) → IsNeeded needed at → 
 -- where the kinds of a table's columns are known, its rows have values of them
 abbrev pub AreRowsAt : TableKinds → TablePlace → List Row → Type 0
 AreRowsAt columns place rows = (kinds : List Kind) → columns place ≡ Ok kinds → AreRowsOf kinds rows
-
-abbrev pub IsBaseOf : TableKinds → BaseRows → Type 0
-IsBaseOf columns base = AreRowsAt columns (Base base.place) (lent base.rows.items)
-
--- a view whose query ended with a status has no rows
-abbrev pub IsViewOf : TableKinds → ViewRows → Type 0
-IsViewOf columns view = AreRowsAt columns (View view.place) view.rows.items
-
-abbrev pub AreBasesOf : TableKinds → List BaseRows → Type 0
-AreBasesOf columns bases = AllByRecursion (IsBaseOf columns) bases
-
-abbrev pub AreViewsOf : TableKinds → List ViewRows → Type 0
-AreViewsOf columns views = AllByRecursion (IsViewOf columns) views
 
 -- a view at its place has the columns of its query, which reads earlier views alone (11.19)
 abbrev pub IsViewAt : TableKinds → ℕ → BoundView → Type 0

@@ -30,7 +30,7 @@ use Rattle.sq_query.specs.MayRead.{MayRead}
 use Rattle.sq_query.specs.Row.{IsOnRow, outside, truth_on_row}
 use Rattle.sq_condition.specs.Subquery.{KnowsCond}
 use Rattle.sq_query.specs.Table.{numbered_in, stored_numbered}
-use Rattle.sq_expression.specs.declared.context.Context.{Context}
+use Rattle.sq_expression.specs.Sources.{Sources}
 use Rattle.sq_expression.specs.declared.fault.Fault.{Fault}
 
 abbrev pub and_own : List BoundCond → Option BoundCond → List BoundCond
@@ -61,6 +61,10 @@ abbrev pub is_true_of : (TablePlace → Outcome (List Row)) → List Value → N
     → Outcome Bool
 is_true_of tables parameters user c r =
     is_true (truth (by_place tables) (cond_of [] c) (outside (r.row ∷ []) parameters user))
+
+-- the same over what is read in a call
+abbrev pub is_true_in : Sources → BoundCond → Numbered → Outcome Bool
+is_true_in context = is_true_of context.tables context.parameters context.user
 
 -- the rows for which each condition in turn is true, over all rows
 abbrev pub chosen : {X : Type 0} → (X → Numbered → Outcome Bool) → List X → List Numbered
@@ -124,7 +128,7 @@ HasTargetRows = ShowsTargetRows numbered_in
 -- ---- conditions
 
 -- the subqueries of each condition are known
-abbrev pub AreKnownIn : Context → List BoundCond → Type 0
+abbrev pub AreKnownIn : Sources → List BoundCond → Type 0
 AreKnownIn context conditions = AllByRecursion (λ c. (meant : Meant) × KnowsCond context c meant) conditions
 
 -- well-formed conditions on the rows of a base table, the kinds of whose columns are known

@@ -6,38 +6,22 @@
 //! (`specs/WellFormed.antt` of `sq_bound`), and no public call ends so for what is well formed.
 #![tactic(auto)]
 
-mod around;
-mod asked;
-mod elsewhere;
 mod few_rows;
-mod inner;
 mod inputs;
-mod item_hows;
-mod items;
 mod key;
-mod known;
-mod lookup;
 mod meant;
-mod named;
-mod named_exprs;
-mod named_keys;
 mod needed;
 mod order;
-mod outside;
 mod plain_view;
 mod row;
 mod scan;
-mod several;
+mod shown;
 mod single_row;
-mod sought;
 mod specification;
 mod table;
 mod target;
-mod through;
 mod union;
-mod valued;
 mod view;
-mod view_items;
 mod way;
 mod ways;
 

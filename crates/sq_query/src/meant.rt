@@ -1,6 +1,7 @@
 //! The rows of a base table that a target means: found by a key, by several, or by a search over all rows.
 
-ghost use Rattle.std.specs.Prelude.{◌≡◌, ◌<◌, ◌≤◌, ◌+◌, ◌∷◌, [], List, if◌then◌else◌, length, map, IfErr, IfOk, IfSome, IsSome, true};
+ghost use Rattle.std.specs.Prelude.{◌≡◌, ◌<◌, ◌≤◌, ◌+◌, ◌∷◌, [], List, length, map, option_to_list, IfErr, IfOk, IfSome, IsSome, false, true};
+ghost use Rattle.std.specs.List.{AllByRecursion};
 ghost use Rattle.sq_value.specs.declared.domain.Kind.{Kind};
 ghost use Rattle.sq_value.specs.declared.value.Value.{Value as AnyValue};
 ghost use Rattle.sq_store.specs.Content.{table_at};
@@ -8,35 +9,42 @@ ghost use Rattle.sq_store.specs.Keys.{keys_at};
 ghost use Rattle.sq_meaning.specs.Status.{Outcome, and_then};
 ghost use Rattle.sq_meaning.specs.WellFormed.{IsRowOf};
 ghost use Rattle.sq_bound.specs.Fits.{IsBase, keys_of_bases, not_nulls_hold};
-ghost use Rattle.sq_bound.specs.WellFormed.{IsTarget, TableKinds};
+ghost use Rattle.sq_bound.specs.Condition.{cond_of};
+ghost use Rattle.sq_bound.specs.Noted.{AreNotedTests};
+ghost use Rattle.sq_bound.specs.WellFormed.{IsTarget, TableKinds, base_kinds};
 ghost use Rattle.sq_bound.specs.declared.condition.TablePlace.{TablePlace};
 ghost use Rattle.sq_expression.specs.Fault.{MeetsAs};
 ghost use Rattle.sq_query.specs.FewRows.{few_numbered};
-ghost use Rattle.sq_query.specs.Inner.{HasKeys};
+ghost use Rattle.sq_condition.specs.Asked.{HasAsked, IsNeverMet};
+ghost use Rattle.sq_condition.specs.Memo.{Meant};
+ghost use Rattle.sq_condition.specs.Named.{KnowsTerms};
+ghost use Rattle.sq_query.specs.HasKeys.{HasKeys, HasNoNullKeys, read_in};
+ghost use Rattle.sq_query.specs.NamedRows.{HasNamedTarget, IsOfStore};
 ghost use Rattle.sq_query.specs.Keyed.{IsKeyedTarget, IsKeyedUnder, ReadsNoTable};
 ghost use Rattle.sq_query.specs.MayRead.{MayEnd, MayRead};
 ghost use Rattle.sq_query.specs.Meant.{IsKeyUnder};
-ghost use Rattle.sq_query.specs.Needed.{FindsConds};
+ghost use Rattle.sq_query.specs.Needed.{FindsConds, ReadsCond};
 ghost use Rattle.sq_query.specs.Table.{numbered_row, stored_numbered};
-ghost use Rattle.sq_query.specs.Target.{AreNumbersOf, AreRowsThere, IsChosenAsMeant, ShowsTargetRows, conditions_of, is_true_of, numbers_chosen, numbers_in};
+ghost use Rattle.sq_query.specs.Target.{AreNumbersOf, AreRowsThere, IsChosenAsMeant, ShowsTargetRows, chosen, conditions_of, is_true_of, numbers_chosen, numbers_in};
 
 use crate::few_rows::FewRows;
 use crate::inputs::Inputs;
-use crate::key::{KnownKey, known_key};
-use crate::named_keys::key_of_condition;
-use crate::several::rows_by_values;
+use crate::key::{KnownKey, key_of_condition, known_key};
+use crate::needed::Needed;
+use crate::scan::{rows_among, rows_by_scan};
 use crate::target::meets_target;
-use sq_bound::{Names, Target};
+use sq_bound::{BoundCond, BoundConj, Names, Target};
+use sq_condition::{Memo, Numbered, Reading, named_rows};
 use sq_expression::{Context, Fault};
 use sq_store::{Meter, Store};
 use sq_value::Row;
 use std::alloc::Global;
+use std::mem::replace;
 
 /// The rows that a target means, with their numbers, which rise: each condition in turn is true of them, over all rows.
-/// If the target names one row by a key, no other row is looked at: on each of them one of the first tests of its own
-/// condition, the tests of the key's columns, is false. It decides before a later test can end with a status or reads a
-/// table, and the conditions of views between have a truth. So it is with several values of a key of one column. The meter
-/// counts the rows that are read.
+/// If the target names one row by a key, no other row is looked at: its own condition is true of none of them and ends with
+/// no status on them, and the conditions of views between have a truth. If the own condition names rows otherwise, those
+/// alone are looked at. The meter counts the rows that are read.
 pub fn rows_of<'a, N: Names, S: Store>(
     alloc: Global,
     names: &N,
@@ -73,8 +81,6 @@ pub fn rows_of<'a, N: Names, S: Store>(
         alloc,
         user: inputs.user,
         parameters: &*inputs.parameters,
-        bases: &[],
-        views: &[],
     };
     match key_under(target, store, &call)? {
         Some(known) => {
@@ -82,7 +88,7 @@ pub fn rows_of<'a, N: Names, S: Store>(
             drop(known);
             rows
         }
-        None => FewRows::listed(rows_by_values(names, &*target, store, &call, meter)),
+        None => rows_by_tests(names, &*target, store, &call, meter),
     }
 }
 
@@ -154,8 +160,6 @@ pub fn key_of<S: Store>(
         alloc,
         user: inputs.user,
         parameters: &*inputs.parameters,
-        bases: &[],
-        views: &[],
     };
     key_under(target, store, &call)
 }
@@ -278,4 +282,132 @@ fn numbers(alloc: Global, rows: &[(u64, &Row)]) -> Result<Vec<u64>, Fault>
         numbers.push(found.0)?;
     }
     Ok(numbers)
+}
+
+/// The rows that a target means, where no key is noted that names one: those among the rows that its own condition names, or among all.
+fn rows_by_tests<'a, N: Names, S: Store>(
+    names: &N,
+    target: &Target,
+    store: &'a S,
+    call: &Context<'_>,
+    meter: &mut Meter,
+) -> Result<FewRows<'a>, Fault>
+    requires finds { FindsConds (N.base_tables names.now) (N.column_kinds names.now)
+        (conditions_of target.now) }
+    requires base { IsBase (N.base_tables names.now) target.now.leaf.table }
+    requires keys { HasKeys (N.base_tables names.now) (S.content_now store.now) (S.key_columns store.now) }
+    ensures { ShowsTargetRows few_numbered result (N.base_tables names.now) (N.view_queries names.now)
+        (N.column_kinds names.now) (S.content_now store.now) call.now.user call.now.parameters.now
+        target.now }
+{
+    match rows_named(target, store, call, meter)? {
+        Some(Numbered::One(found)) => one_among(names, target, found, store, call, meter),
+        Some(Numbered::Listed(rows)) => {
+            FewRows::listed(rows_among(names, target, Ok(rows), store, call, meter))
+        }
+        None => FewRows::listed(rows_by_scan(names, target, store, call, meter)),
+    }
+}
+
+/// The row that was found, if a target means it.
+fn one_among<'a, N: Names, S: Store>(
+    names: &N,
+    target: &Target,
+    found: Option<(u64, &'a Row)>,
+    store: &'a S,
+    call: &Context<'_>,
+    meter: &mut Meter,
+) -> Result<FewRows<'a>, Fault>
+    requires finds { FindsConds (N.base_tables names.now) (N.column_kinds names.now)
+        (conditions_of target.now) }
+    requires keys { HasKeys (N.base_tables names.now) (S.content_now store.now) (S.key_columns store.now) }
+    ensures { (parameters : List Kind) (tables : TablePlace → Outcome (List (List AnyValue)))
+        → MayRead (N.base_tables names.now) (N.view_queries names.now) (N.column_kinds names.now)
+        (S.content_now store.now) call.now.user call.now.parameters.now parameters tables
+        → IsTarget (N.column_kinds names.now) parameters target.now
+        → AllByRecursion (λ r. IsRowOf (base_kinds target.now.leaf.table) r.row)
+        (map numbered_row (option_to_list found.entry))
+        → MeetsAs few_numbered result (chosen (is_true_of tables call.now.parameters.now call.now.user)
+        (conditions_of target.now) (map numbered_row (option_to_list found.entry))) }
+{
+    match found {
+        Some(found) => {
+            let is_chosen = meets_target(&*names, &*target, &*found.1, true, &*store, &*call, meter)?;
+            Ok(FewRows::one_if(call.alloc, is_chosen, found))
+        }
+        None => Ok(FewRows::none(call.alloc)),
+    }
+}
+
+/// The rows of the base table that a target's own condition names; `None` if it names none, one of its subqueries reads a view, or the
+/// condition of a view between may end with a status on another row.
+fn rows_named<'a, S: Store>(
+    target: &Target,
+    store: &'a S,
+    call: &Context<'_>,
+    meter: &mut Meter,
+) -> Result<Option<Numbered<'a>>, Fault>
+    requires there { target.now.base < length (S.content_now store.now) }
+    requires keys { HasNoNullKeys (S.content_now store.now) (S.key_columns store.now) }
+    ensures { HasNamedTarget result target.now (S.content_now store.now) (S.key_columns store.now) call.now }
+{
+    let Some(own) = &target.condition else {
+        return Ok(None);
+    };
+    if !target.leaf.get().is_quiet {
+        return Ok(None);
+    }
+    if reads_view(call.alloc, own)? {
+        return Ok(None);
+    }
+    rows_of_terms(own.terms.as_slice(), target.base, store, call, meter)
+}
+
+/// Whether a subquery of a condition reads a view.
+fn reads_view(alloc: Global, condition: &BoundCond) -> Result<bool, Fault>
+    ensures bases { IfOk result (λ reads. reads ≡ false → ReadsCond IsOfStore (cond_of [] condition.now)) }
+    ensures memory { IfErr result (λ fault. fault ≡ Fault.NoMemory) }
+{
+    let needed = Needed::of_condition(alloc, condition)?;
+    let has_none = has_no_view(&needed);
+    drop(needed);
+    Ok(!has_none)
+}
+
+/// Whether no view is needed.
+fn has_no_view(needed: &Needed) -> bool
+    ensures { result ≡ true → needed.now.views.items ≡ [] }
+{
+    needed.views.is_empty()
+}
+
+/// The rows of a base table that terms, joined by OR, name. Their subqueries are evaluated over base tables alone.
+fn rows_of_terms<'a, S: Store>(
+    terms: &[BoundConj],
+    base: usize,
+    store: &'a S,
+    call: &Context<'_>,
+    meter: &mut Meter,
+) -> Result<Option<Numbered<'a>>, Fault>
+    requires there { base < length (S.content_now store.now) }
+    requires keys { HasNoNullKeys (S.content_now store.now) (S.key_columns store.now) }
+    ensures named { (meant : Meant) → AllByRecursion AreNotedTests terms.now
+        → KnowsTerms (read_in (S.content_now store.now) (S.key_columns store.now) [] call.now) terms.now meant
+        → HasAsked (IsNeverMet terms.now (read_in (S.content_now store.now) (S.key_columns store.now) [] call.now))
+        result (table_at (S.content_now store.now) base) }
+    ensures memory { IfErr result (λ fault. fault ≡ Fault.NoMemory) }
+{
+    let reading = Reading {
+        context: Context {
+            alloc: call.alloc,
+            user: call.user,
+            parameters: call.parameters,
+        },
+        store,
+        views: &[],
+    };
+    let mut memo = Memo::new(call.alloc, replace(meter, Meter::new()), true);
+    let named = named_rows(terms, base, &reading, &mut memo);
+    *meter = memo.into_meter();
+    named
 }

@@ -8,20 +8,14 @@ ghost use Rattle.sq_bound.specs.Expression.{PlacedExpr};
 ghost use Rattle.sq_bound.specs.WellFormed.{BasesAreThere, TableKinds};
 ghost use Rattle.sq_meaning.specs.Target.{has_subquery, clause_has_subquery};
 ghost use Rattle.sq_query.specs.Needed.{Adds, AddsBefore, AreKnown, IsClosed, IsClosedAt, IsNeeded, NeedsMore, ReadsCond, ReadsInside, ReadsSelect, NeedsNone, clause_tables, cond_tables, inside_tables, places_in, specification_tables, with_place, with_table};
-ghost use Rattle.sq_query.specs.Inner.{around_tables, lines_tables, terms_tables, tests_tables};
-ghost use Rattle.sq_query.specs.Items.{is_left};
 ghost use Rattle.sq_query.specs.Table.{IsViewAt};
-ghost use Rattle.sq_query.specs.ViewItems.{is_hidden};
 ghost use Rattle.sq_bound.specs.declared.condition.TablePlace.{TablePlace as AnyPlace};
 ghost use Rattle.sq_bound.specs.declared.condition.TablePlace.TheVariants as at_place;
 
-use crate::items::is_found;
-use crate::view_items::is_shown;
 use sq_bound::{
     BoundCond, BoundConj, BoundSpecification, BoundTest, Names, Predicate, TableBody, TablePlace,
     View,
 };
-use sq_expression::{BaseRows, ViewRows};
 use std::alloc::{AllocError, Global};
 
 /// The places of the base tables and views that stand in FROM clauses, subqueries and views included.
@@ -84,14 +78,6 @@ impl Needed {
         Ok(needed)
     }
 
-    pub(crate) fn copied(&self, alloc: Global) -> Result<Needed, AllocError>
-        ensures { IfOk result (λ copy. places_in copy ≡ places_in self.now) }
-    {
-        let bases = self.bases.as_slice().to_vec(alloc)?;
-        let views = self.views.as_slice().to_vec(alloc)?;
-        Ok(Needed { bases, views })
-    }
-
     /// Whether a table is among them.
     pub(crate) fn contains(&self, table: TablePlace) -> bool
         ensures yes { result ≡ true → IsNeeded self.now table }
@@ -109,27 +95,6 @@ impl Needed {
         ensures some { result ≡ false → NeedsNone self.now → ⊥ }
     {
         self.bases.is_empty() && self.views.is_empty()
-    }
-
-    /// Those of them whose rows were not found.
-    pub(crate) fn without(mut self, found: &[BaseRows<'_>]) -> Needed
-        ensures none { NeedsNone self → NeedsNone result }
-        ensures fewer { (table : AnyPlace) → IsNeeded result table → IsNeeded self table }
-        ensures left { (table : AnyPlace) → IsNeeded self table → is_left found.now table ≡ true
-            → IsNeeded result table }
-    {
-        self.bases.retain(|base| !is_found(*base, found));
-        self
-    }
-
-    /// Those of them that are none of these views.
-    pub(crate) fn without_views(mut self, shown: &[ViewRows]) -> Needed
-        ensures fewer { (table : AnyPlace) → IsNeeded result table → IsNeeded self table }
-        ensures left { (table : AnyPlace) → IsNeeded self table → is_hidden shown.now table ≡ true
-            → IsNeeded result table }
-    {
-        self.views.retain(|view| !is_shown(*view, shown));
-        self
     }
 
     /// No view stands behind this place.
@@ -176,56 +141,6 @@ impl Needed {
         ensures closed { OnOk result (IsClosedAt (N.view_queries names.now) self.new place) }
     {
         self.add_of_specification(&view_at(names, place).query)
-    }
-
-    /// Adds the tables of a query specification but those of the subqueries of its WHERE clause.
-    pub(crate) fn add_around(&mut self, query: &BoundSpecification) -> Result<(), AllocError>
-        ensures { OnOk result (Adds self.old (around_tables (select_of query.now)) self.new) }
-    {
-        self.add_each(query.from.tables.as_slice())?;
-        match &query.grouping {
-            Some(grouping) => self.add_of_optional(&grouping.having),
-            None => Ok(()),
-        }
-    }
-
-    /// Adds the tables of a query specification but those of the subqueries of its HAVING clause.
-    pub(crate) fn add_of_lines(&mut self, query: &BoundSpecification) -> Result<(), AllocError>
-        ensures { OnOk result (Adds self.old (lines_tables (select_of query.now)) self.new) }
-    {
-        self.add_each(query.from.tables.as_slice())?;
-        self.add_of_optional(&query.condition)
-    }
-
-    fn add_each(&mut self, tables: &[TablePlace]) -> Result<(), AllocError>
-        ensures { OnOk result (Adds self.old tables.now self.new) }
-    {
-        for table in tables {
-            self.add(*table)?;
-        }
-        Ok(())
-    }
-
-    /// Adds the tables of the subqueries of terms.
-    pub(crate) fn add_of_terms(&mut self, terms: &[BoundConj]) -> Result<(), AllocError>
-        ensures { (functions : List PlacedExpr)
-            → OnOk result (Adds self.old (terms_tables functions terms.now) self.new) }
-    {
-        for term in terms {
-            self.add_of_tests(term)?;
-        }
-        Ok(())
-    }
-
-    /// Adds the tables of the subqueries of tests.
-    pub(crate) fn add_of_each(&mut self, tests: &[BoundTest]) -> Result<(), AllocError>
-        ensures { (functions : List PlacedExpr)
-            → OnOk result (Adds self.old (tests_tables functions tests.now) self.new) }
-    {
-        for test in tests {
-            self.add_of_predicate(&test.predicate)?;
-        }
-        Ok(())
     }
 
     pub(crate) fn add(&mut self, table: TablePlace) -> Result<(), AllocError>

@@ -1,22 +1,22 @@
 //! Plain views, whose queries are over one table alone and never end with a status: the base table under one, through views between.
 
-ghost use Rattle.std.specs.Prelude.{◌≡◌, ◌&&◌, [], ℕ, IfOk, IfSome, IsSome, nat_eq, true};
+ghost use Rattle.std.specs.Prelude.{◌≡◌, ◌⊎◌, ◌∷◌, ◌&&◌, [], ℕ, List, IfOk, IfSome, IsSome, Some, nat_eq, slice_get, slice_set, true};
 ghost use Rattle.std.specs.List.{list_all};
 ghost use Rattle.sq_meaning.specs.WellFormed.{HasValue};
 ghost use Rattle.sq_meaning.specs.Quiet.{is_quiet_expr};
+ghost use Rattle.sq_bound.specs.Condition.{select_of};
 ghost use Rattle.sq_bound.specs.Expression.{expr_of};
 ghost use Rattle.sq_bound.specs.Names.{option_all};
 ghost use Rattle.sq_bound.specs.Quiet.{is_quiet_cond};
 ghost use Rattle.sq_bound.specs.WellFormed.{BasesAreThere};
 ghost use Rattle.sq_bound.specs.declared.condition.BoundSpecification.{out-BoundSpecification};
+ghost use Rattle.sq_bound.specs.declared.condition.TablePlace.{TablePlace as AnyPlace};
 ghost use Rattle.sq_bound.specs.declared.condition.TablePlace.TheVariants as at_place;
-ghost use Rattle.sq_query.specs.Specification.{IsOver};
-ghost use Rattle.sq_query.specs.Asked.{AreAsked, AreThrough, IsThrough, IsUnderneath};
-ghost use Rattle.sq_query.specs.Shown.{Asks, IsPlainOver, Shows, is_grouped_by, is_quiet_beside, is_sure_call, is_sure_grouping, is_unwritten, stays_in_range};
+ghost use Rattle.sq_query.specs.Needed.{IsNeeded, ReadsInside};
+ghost use Rattle.sq_query.specs.Over.{IsOver};
+ghost use Rattle.sq_query.specs.Shown.{AreColumnsShown, AreShown, Asks, IsAlone, IsPath, IsPlainOver, Shows, is_grouped_by, is_quiet_beside, is_sure_call, is_sure_grouping, is_unwritten, stays_in_range};
 
-use crate::asked::{Asked, itself};
-use crate::needed::view_at;
-use crate::specification::only_table;
+use crate::needed::{Needed, view_at};
 use sq_bound::{
     BoundCond, BoundExpr, BoundSpecification, Grouping, Names, Place, SetFunctionCall, TablePlace,
     is_quiet_cond, own_column,
@@ -24,82 +24,39 @@ use sq_bound::{
 use sq_tree::SetFunction;
 use std::alloc::{AllocError, Global};
 
-/// The base table under a plain view, and for each column of the view the one by which the table is asked if the view is asked by the column.
-#[derive(Drop)]
-pub(crate) struct Underneath {
-    pub base: usize,
-    pub columns: Vec<Option<usize>>,
-}
-
 /// The base table under a plain view, whose query is over it alone, or over another such view.
-pub(crate) fn base_under<N: Names>(
-    alloc: Global,
-    names: &N,
-    view: usize,
-) -> Result<Option<Underneath>, AllocError>
+pub(crate) fn base_under<N: Names>(names: &N, view: usize) -> Option<usize>
     requires there { BasesAreThere (N.base_tables names.now) (N.column_kinds names.now) }
     requires known { HasValue (N.column_kinds names.now (at_place.View view)) }
-    ensures { IfOk result (λ found. IfSome found
-        (IsUnderneath (N.column_kinds names.now) (N.view_queries names.now) view)) }
+    ensures { IfSome result (λ base. (views : List ℕ)
+        × IsPath (N.column_kinds names.now) (N.view_queries names.now) (view ∷ views) base) }
+{
+    let table = plain_over(&view_at(names, view).query)?;
+    match table {
+        TablePlace::Base(base) => Some(base),
+        TablePlace::View(under) => base_under(names, under),
+    }
+}
+
+/// The base table under a plain view, and the column of it by which it is asked where the view is asked by a column.
+pub(crate) fn column_under<N: Names>(
+    names: &N,
+    view: usize,
+    column: usize,
+) -> Option<(usize, usize)>
+    requires there { BasesAreThere (N.base_tables names.now) (N.column_kinds names.now) }
+    requires known { HasValue (N.column_kinds names.now (at_place.View view)) }
+    ensures { IfSome result (λ found. (views : List ℕ)
+        × IsPath (N.column_kinds names.now) (N.view_queries names.now) (view ∷ views) found.0
+        × AreShown (N.view_queries names.now) (view ∷ views) (found.1 ∷ []) (column ∷ [])) }
 {
     let query = &view_at(names, view).query;
-    match plain_over(query) {
-        Some(TablePlace::Base(base)) => {
-            let columns = columns_asked(alloc, query, &itself(base))?;
-            Ok(Some(Underneath { base, columns }))
-        }
-        Some(TablePlace::View(under)) => match base_under(alloc, names, under)? {
-            Some(next) => beneath(alloc, query, next),
-            None => Ok(None),
-        },
-        None => Ok(None),
+    let table = plain_over(query)?;
+    let shown = column_asked(query, column)?;
+    match table {
+        TablePlace::Base(base) => Some((base, shown)),
+        TablePlace::View(under) => column_under(names, under, shown),
     }
-}
-
-/// What is under a view whose query is over one with this under it.
-fn beneath(
-    alloc: Global,
-    query: &BoundSpecification,
-    next: Underneath,
-) -> Result<Option<Underneath>, AllocError>
-    ensures { IfOk result (λ found. IfSome found (λ under. (under.base ≡ next.base)
-        × AreAsked query.now next.columns.items under.columns.items)) }
-{
-    let base = next.base;
-    let asked = Asked {
-        base,
-        through: Some(next.columns.as_slice()),
-    };
-    let columns = columns_asked(alloc, query, &asked);
-    drop(next);
-    Ok(Some(Underneath {
-        base,
-        columns: columns?,
-    }))
-}
-
-/// For each column of a view the one by which the base table is asked, if its query is over an item for which the table is asked.
-fn columns_asked(
-    alloc: Global,
-    query: &BoundSpecification,
-    asked: &Asked<'_>,
-) -> Result<Vec<Option<usize>>, AllocError>
-    ensures { IfOk result (λ columns. AreThrough query.now asked.now.through columns.items) }
-{
-    let count = query.list.as_slice().len();
-    let mut columns = Vec::with_capacity(alloc, count)?;
-    for column in 0..count {
-        columns.push(own_asked(query, column, asked))?;
-    }
-    Ok(columns)
-}
-
-/// The column by which the base table is asked if the view is asked by this column.
-fn own_asked(query: &BoundSpecification, column: usize, asked: &Asked<'_>) -> Option<usize>
-    ensures { IfSome result (λ own. IsThrough query.now asked.now.through own column) }
-{
-    let between = column_asked(query, column)?;
-    asked.own(between)
 }
 
 /// The column of the only table of a view's query by which that is asked where the view is asked by a column.
@@ -158,6 +115,96 @@ fn plain_over(query: &BoundSpecification) -> Option<TablePlace>
         Some(table)
     } else {
         None
+    }
+}
+
+/// The only table in the FROM clause of a query specification.
+pub(crate) fn only_table(query: &BoundSpecification) -> Option<TablePlace>
+    ensures over { IfSome result (IsOver query.now) }
+    ensures found { (table : AnyPlace) → IsOver query.now table → IsSome result }
+{
+    match query.from.tables.as_slice() {
+        [table] => Some(*table),
+        _ => None,
+    }
+}
+
+/// For each column of the base table under a plain view the one by which the view is asked where the table is asked by it.
+pub(crate) fn columns_shown<N: Names>(
+    alloc: Global,
+    names: &N,
+    view: usize,
+    base: usize,
+) -> Result<Vec<Option<usize>>, AllocError>
+    requires there { BasesAreThere (N.base_tables names.now) (N.column_kinds names.now) }
+    requires known { HasValue (N.column_kinds names.now (at_place.View view)) }
+    ensures { (views : List ℕ) → IsPath (N.column_kinds names.now) (N.view_queries names.now) (view ∷ views) base
+        → IfOk result (λ shown. AreColumnsShown (N.view_queries names.now) (view ∷ views) shown.items) }
+{
+    let Some(table) = names.bases().get(base) else {
+        return Ok(Vec::new(alloc));
+    };
+    let mut shown = Vec::from_elem(alloc, None, table.get().columns.len())?;
+    for column in 0..view_at(names, view).query.list.len() {
+        if let Some((_, own)) = column_under(names, view, column) {
+            show_column(own, column, &mut shown);
+        }
+    }
+    Ok(shown)
+}
+
+/// A column is asked by the first one that shows it.
+fn show_column(own: usize, column: usize, shown: &mut Vec<Option<usize>>)
+    ensures { (shown.new.items ≡ shown.old.items)
+        ⊎ (shown.new.items ≡ slice_set shown.old.items own (Some column)) }
+{
+    if own < shown.len() && shown[own].is_none() {
+        shown[own] = Some(column);
+    }
+}
+
+/// The view in an item of a query specification, if it stands in no other item and in no subquery, of which these are the tables.
+pub(crate) fn view_alone(query: &BoundSpecification, item: usize, inner: &Needed) -> Option<usize>
+    ensures at { IfSome result (λ view.
+        slice_get (out-BoundSpecification query.now).from.tables item ≡ Some (at_place.View view)) }
+    ensures alone { ReadsInside (IsNeeded inner.now) (select_of query.now)
+        → IfSome result (IsAlone query.now item) }
+{
+    let tables = query.from.tables.as_slice();
+    match tables.get(item) {
+        Some(TablePlace::View(view)) => {
+            if is_once(*view, item, tables) && !inner.contains(TablePlace::View(*view)) {
+                Some(*view)
+            } else {
+                None
+            }
+        }
+        _ => None,
+    }
+}
+
+/// Whether a view stands in no other item than this one.
+fn is_once(view: usize, item: usize, tables: &[TablePlace]) -> bool
+    ensures { result ≡ true → (other : ℕ) → slice_get tables.now other ≡ Some (at_place.View view)
+        → other ≡ item }
+{
+    let mut other = 0;
+    while other < tables.len() {
+        if other != item && is_view(view, tables[other]) {
+            return false;
+        }
+        other += 1;
+    }
+    true
+}
+
+/// Whether a table is the view at this place.
+fn is_view(view: usize, table: TablePlace) -> bool
+    ensures { table ≡ at_place.View view → result ≡ true }
+{
+    match table {
+        TablePlace::View(own) => own == view,
+        TablePlace::Base(_) => false,
     }
 }
 

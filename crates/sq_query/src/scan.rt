@@ -15,25 +15,27 @@ ghost use Rattle.sq_bound.specs.Expression.{PlacedExpr};
 ghost use Rattle.sq_bound.specs.WellFormed.{IsTarget, TableKinds};
 ghost use Rattle.sq_bound.specs.declared.condition.TablePlace.{TablePlace};
 ghost use Rattle.sq_expression.specs.Fault.{MeansAs, Meets, MeetsAs};
-ghost use Rattle.sq_expression.specs.Frame.{table_rows};
 ghost use Rattle.sq_query.specs.MayRead.{MayRead};
 ghost use Rattle.sq_condition.specs.Memo.{Meant};
 ghost use Rattle.sq_query.specs.Needed.{AreKnown, FindsConds, IsNeeded, NeedsNone, ReadsCond};
 ghost use Rattle.sq_condition.specs.Subquery.{KnowsCond, Remembers};
 ghost use Rattle.sq_query.specs.Table.{numbered_row, numbered_in, stored_numbered};
-ghost use Rattle.sq_query.specs.Target.{AreKnownIn, AreOnBase, conditions_of, HasRows, HasTargetRows, is_true_of, chosen};
+ghost use Rattle.sq_query.specs.Target.{AreKnownIn, AreOnBase, conditions_of, HasRows, HasTargetRows, is_true_in, is_true_of, chosen};
+ghost use Rattle.sq_condition.specs.Reading.{sources};
+ghost use Rattle.sq_query.specs.HasKeys.{HasKeys, HasNoNullKeys};
 
 use crate::needed::Needed;
 use crate::row::truth_on;
 use crate::table::numbered_rows;
 use crate::target::levels_of;
-use crate::view::tables_of;
+use crate::view::views_of;
 use sq_bound::{BoundCond, Names, Target};
-use sq_condition::Memo;
+use sq_condition::{Memo, Reading};
 use sq_expression::{Context, Fault};
 use sq_store::{Meter, Store};
 use sq_value::{Row, Truth};
 use std::alloc::{AllocError, Global};
+use std::mem::replace;
 
 /// The rows that meet each condition in turn, over all rows.
 pub(crate) fn rows_by_scan<'a, N: Names, S: Store>(
@@ -43,7 +45,8 @@ pub(crate) fn rows_by_scan<'a, N: Names, S: Store>(
     call: &Context<'_>,
     meter: &mut Meter,
 ) -> Result<Vec<(u64, &'a Row)>, Fault>
-    requires { FindsConds (N.base_tables names.now) (N.column_kinds names.now) (conditions_of target.now) }
+    requires finds { FindsConds (N.base_tables names.now) (N.column_kinds names.now) (conditions_of target.now) }
+    requires keys { HasKeys (N.base_tables names.now) (S.content_now store.now) (S.key_columns store.now) }
     ensures plain { HasRows result target.now
         (S.content_now store.now) call.now.parameters.now call.now.user }
     ensures meant { HasTargetRows result (N.base_tables names.now) (N.view_queries names.now)
@@ -63,7 +66,8 @@ pub(crate) fn rows_among<'a, N: Names, S: Store>(
     call: &Context<'_>,
     meter: &mut Meter,
 ) -> Result<Vec<(u64, &'a Row)>, Fault>
-    requires { FindsConds (N.base_tables names.now) (N.column_kinds names.now) (conditions_of target.now) }
+    requires finds { FindsConds (N.base_tables names.now) (N.column_kinds names.now) (conditions_of target.now) }
+    requires keys { HasKeys (N.base_tables names.now) (S.content_now store.now) (S.key_columns store.now) }
     ensures plain { (o : Outcome (List Numbered)) → MeetsAs numbered_in rows.entry o
         → list_any (λ c. has_subquery (cond_of [] c)) (conditions_of target.now) ≡ false
         → (tables : TablePlace → Outcome (List (List AnyValue)))
@@ -92,7 +96,8 @@ fn rows_meeting<'a, N: Names, S: Store>(
     call: &Context<'_>,
     meter: &mut Meter,
 ) -> Result<Vec<(u64, &'a Row)>, Fault>
-    requires { FindsConds (N.base_tables names.now) (N.column_kinds names.now) (map (λ b. b.now) levels.now) }
+    requires finds { FindsConds (N.base_tables names.now) (N.column_kinds names.now) (map (λ b. b.now) levels.now) }
+    requires keys { HasKeys (N.base_tables names.now) (S.content_now store.now) (S.key_columns store.now) }
     ensures plain { (o : Outcome (List Numbered)) → MeetsAs numbered_in rows.entry o
         → list_any (λ c. has_subquery (cond_of [] c)) (map (λ b. b.now) levels.now) ≡ false
         → (tables : TablePlace → Outcome (List (List AnyValue)))
@@ -109,16 +114,18 @@ fn rows_meeting<'a, N: Names, S: Store>(
         → MeetsAs numbered_in result (and_then o
         (chosen (is_true_of tables call.now.parameters.now call.now.user) (map (λ b. b.now) levels.now))) }
 {
-    let needed = needed_tables(call.alloc, levels);
-    let tables = tables_of(names, needed, store, call, meter)?;
-    let context = Context {
-        alloc: call.alloc,
-        user: call.user,
-        parameters: &*call.parameters,
-        bases: tables.bases.as_slice(),
-        views: tables.views.as_slice(),
+    let needed = needed_tables(call.alloc, levels)?;
+    let views = views_of(names, needed, true, &*store, call, meter)?;
+    let reading = Reading {
+        context: Context {
+            alloc: call.alloc,
+            user: call.user,
+            parameters: &*call.parameters,
+        },
+        store: &*store,
+        views: views.as_slice(),
     };
-    choose_rows(levels, rows, &context)
+    choose_rows(levels, rows, &reading, meter)
 }
 
 /// The tables that the conditions read.
@@ -141,89 +148,94 @@ fn needed_tables(alloc: Global, conditions: &[&BoundCond]) -> Result<Needed, All
 }
 
 /// The rows for which each condition in turn is true, over all rows.
-fn choose_rows<'a>(
+fn choose_rows<'a, S: Store>(
     levels: &[&BoundCond],
     rows: Result<Vec<(u64, &'a Row)>, Fault>,
-    context: &Context<'_>,
+    reading: &Reading<'_, '_, S>,
+    meter: &mut Meter,
 ) -> Result<Vec<(u64, &'a Row)>, Fault>
+    requires { HasNoNullKeys (S.content_now reading.now.store.now) (S.key_columns reading.now.store.now) }
     ensures plain { (o : Outcome (List Numbered)) → MeetsAs numbered_in rows.entry o
         → list_any (λ c. has_subquery (cond_of [] c)) (map (λ b. b.now) levels.now) ≡ false
         → (tables : TablePlace → Outcome (List (List AnyValue)))
         → MeetsAs numbered_in result
-        (and_then o (chosen (is_true_of tables context.now.parameters.now context.now.user)
+        (and_then o (chosen (is_true_of tables reading.now.context.parameters.now reading.now.context.user)
         (map (λ b. b.now) levels.now))) }
     ensures known { (o : Outcome (List Numbered)) → MeetsAs numbered_in rows.entry o
-        → AreKnownIn context.now (map (λ b. b.now) levels.now)
-        → MeansAs numbered_in result (and_then o (chosen
-        (is_true_of (table_rows context.now) context.now.parameters.now context.now.user)
-        (map (λ b. b.now) levels.now))) }
+        → AreKnownIn (sources S.content_now S.key_columns reading.now) (map (λ b. b.now) levels.now)
+        → MeansAs numbered_in result (and_then o
+        (chosen (is_true_in (sources S.content_now S.key_columns reading.now)) (map (λ b. b.now) levels.now))) }
 {
     let all = rows?;
-    chosen_by_all(levels, all, context)
+    chosen_by_all(levels, all, reading, meter)
 }
 
-fn chosen_by_all<'a>(
+fn chosen_by_all<'a, S: Store>(
     levels: &[&BoundCond],
     all: Vec<(u64, &'a Row)>,
-    context: &Context<'_>,
+    reading: &Reading<'_, '_, S>,
+    meter: &mut Meter,
 ) -> Result<Vec<(u64, &'a Row)>, Fault>
+    requires { HasNoNullKeys (S.content_now reading.now.store.now) (S.key_columns reading.now.store.now) }
     ensures plain { list_any (λ c. has_subquery (cond_of [] c)) (map (λ b. b.now) levels.now) ≡ false
         → (tables : TablePlace → Outcome (List (List AnyValue)))
         → MeetsAs numbered_in result
-        (chosen (is_true_of tables context.now.parameters.now context.now.user) (map (λ b. b.now) levels.now)
-        (numbered_in all.entry)) }
-    ensures known { AreKnownIn context.now (map (λ b. b.now) levels.now)
-        → MeansAs numbered_in result
-        (chosen (is_true_of (table_rows context.now) context.now.parameters.now context.now.user)
+        (chosen (is_true_of tables reading.now.context.parameters.now reading.now.context.user)
         (map (λ b. b.now) levels.now) (numbered_in all.entry)) }
+    ensures known { AreKnownIn (sources S.content_now S.key_columns reading.now) (map (λ b. b.now) levels.now)
+        → MeansAs numbered_in result
+        (chosen (is_true_in (sources S.content_now S.key_columns reading.now)) (map (λ b. b.now) levels.now)
+        (numbered_in all.entry)) }
 {
     let mut rows = all;
     for condition in levels {
-        rows = chosen_by(condition, rows.as_slice(), context)?;
+        rows = chosen_by(condition, rows.as_slice(), reading, meter)?;
     }
     Ok(rows)
 }
 
-fn chosen_by<'a>(
+fn chosen_by<'a, S: Store>(
     condition: &BoundCond,
     rows: &[(u64, &'a Row)],
-    context: &Context<'_>,
+    reading: &Reading<'_, '_, S>,
+    meter: &mut Meter,
 ) -> Result<Vec<(u64, &'a Row)>, Fault>
+    requires { HasNoNullKeys (S.content_now reading.now.store.now) (S.key_columns reading.now.store.now) }
     ensures plain { has_subquery (cond_of [] condition.now) ≡ false
         → (tables : TablePlace → Outcome (List (List AnyValue)))
         → MeetsAs numbered_in result
-        (kept (is_true_of tables context.now.parameters.now context.now.user condition.now)
+        (kept (is_true_of tables reading.now.context.parameters.now reading.now.context.user condition.now)
         (map numbered_row rows.now)) }
-    ensures known { (meant : Meant) → KnowsCond context.now condition.now meant
+    ensures known { (meant : Meant)
+        → KnowsCond (sources S.content_now S.key_columns reading.now) condition.now meant
         → MeansAs numbered_in result
-        (kept (is_true_of (table_rows context.now) context.now.parameters.now context.now.user condition.now)
-        (map numbered_row rows.now)) }
+        (kept (is_true_in (sources S.content_now S.key_columns reading.now) condition.now) (map numbered_row rows.now)) }
 {
-    let mut memo = Memo::new(context.alloc);
-    let chosen = chosen_with(&*condition, rows, &*context, &mut memo);
-    drop(memo);
+    let mut memo = Memo::new(reading.context.alloc, replace(meter, Meter::new()), true);
+    let chosen = chosen_with(condition, rows, reading, &mut memo);
+    *meter = memo.into_meter();
     chosen
 }
 
-fn chosen_with<'a, 'm>(
+fn chosen_with<'a, 'm, S: Store + 'm>(
     condition: &BoundCond,
     rows: &[(u64, &'a Row)],
-    context: &Context<'m>,
+    reading: &Reading<'_, 'm, S>,
     memo: &mut Memo<'m>,
 ) -> Result<Vec<(u64, &'a Row)>, Fault>
     ensures plain { has_subquery (cond_of [] condition.now) ≡ false
         → (tables : TablePlace → Outcome (List (List AnyValue)))
         → MeetsAs numbered_in result
-        (kept (is_true_of tables context.now.parameters.now context.now.user condition.now)
+        (kept (is_true_of tables reading.now.context.parameters.now reading.now.context.user condition.now)
         (map numbered_row rows.now)) }
-    ensures known { Remembers context.now (KnowsCond context.now condition.now) memo.old memo.new
+    ensures known { Remembers (sources S.content_now S.key_columns reading.now)
+        (KnowsCond (sources S.content_now S.key_columns reading.now) condition.now) memo.old memo.new
         (MeansAs numbered_in result
-        (kept (is_true_of (table_rows context.now) context.now.parameters.now context.now.user
-        condition.now) (map numbered_row rows.now))) }
+        (kept (is_true_in (sources S.content_now S.key_columns reading.now) condition.now) (map numbered_row rows.now))) }
 {
-    let mut chosen = Vec::new(context.alloc);
+    let mut chosen = Vec::new(reading.context.alloc);
     for found in rows {
-        let truth = truth_on(condition, found.1, context, memo);
+        let truth = truth_on(condition, found.1, reading, memo);
         push_if_true(truth, *found, &mut chosen)?;
     }
     Ok(chosen)

@@ -4,54 +4,12 @@ ghost use Rattle.std.specs.Prelude.{◌≡◌, [], Ok};
 ghost use Rattle.sq_meaning.specs.Status.{each};
 ghost use Rattle.sq_expression.specs.Fault.{MeetsAs};
 ghost use Rattle.sq_expression.specs.Group.{rows_of_line};
-ghost use Rattle.sq_query.specs.Table.{numbered_in, stored_numbered, stored_rows, stored_base, bases_in};
+ghost use Rattle.sq_query.specs.Table.{numbered_in, stored_numbered};
 
-use sq_expression::{BaseRows, Fault};
+use sq_expression::Fault;
 use sq_store::{Meter, Store};
 use sq_value::Row;
 use std::alloc::Global;
-
-/// The rows of these base tables.
-pub(crate) fn base_tables<'a, S: Store>(
-    alloc: Global,
-    store: &'a S,
-    places: &[usize],
-    meter: &mut Meter,
-) -> Result<Vec<BaseRows<'a>>, Fault>
-    ensures rows { MeetsAs bases_in result (each (stored_base (S.content_now store.now)) places.now) }
-    ensures none { places.now ≡ [] → meter.new ≡ meter.old }
-{
-    let mut tables = Vec::new(alloc);
-    for place in places {
-        let rows = base_rows(alloc, store, *place, meter)?;
-        tables.push(BaseRows {
-            place: *place,
-            rows,
-        })?;
-    }
-    Ok(tables)
-}
-
-/// The rows of a base table, by rising numbers.
-fn base_rows<'a, S: Store>(
-    alloc: Global,
-    store: &'a S,
-    table: usize,
-    meter: &mut Meter,
-) -> Result<Vec<&'a Row>, Fault>
-    ensures { MeetsAs rows_of_line result (stored_rows (S.content_now store.now) table) }
-{
-    if table >= store.table_count() {
-        return Err(Fault::NOT_WELL_FORMED);
-    }
-    let mut rows = Vec::new(alloc);
-    let mut number = 0;
-    while let Some((found, row)) = store.next_from(table, number, meter) {
-        rows.push(row)?;
-        number = found + 1;
-    }
-    Ok(rows)
-}
 
 /// The rows of a base table with their numbers, which rise.
 pub(crate) fn numbered_rows<'a, S: Store>(

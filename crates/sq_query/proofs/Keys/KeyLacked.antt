@@ -42,7 +42,7 @@ use Rattle.sq_query.specs.Row.{outside}
 use Rattle.sq_query.proofs.Needs.AnyTables.{truth_over, value_over}
 use Rattle.sq_query.proofs.Keys.KeyTests.{column_is}
 use Rattle.sq_query.proofs.Keys.KeyedRows.{inputs_are}
-use Rattle.sq_query.proofs.FoundByKey.LineValues.{same_anywhere}
+use Rattle.sq_query.proofs.Keys.LineValues.{same_on_line}
 use Rattle.sq_bound.specs.Fits.{lacks_value}
 use Rattle.sq_bound.specs.NotNull.{is_not_null}
 use Rattle.sq_bound.specs.declared.names.BaseColumn.{BaseColumn}
@@ -183,7 +183,7 @@ module _ (tables : TablePlace → Outcome (List Row)) (columns : TableKinds) (pa
       → truth (by_place tables) (compare Equal (column (record { depth = zero; item = item; column = n })) e) here ≡ Ok False
   test_false item n e v quiet well is v_is column_not lacks =
       let at : Outcome Value = value_at here (record { depth = zero; item = item; column = n }) in
-      let known_value : value (by_place tables) e here ≡ Ok v = same_anywhere tables values caller [] (row ∷ []) e v is in
+      let known_value : value (by_place tables) e here ≡ Ok v = same_on_line tables values caller (row ∷ []) e v is in
       let step : truth (by_place tables) (compare Equal (column (record { depth = zero; item = item; column = n })) e) here ≡ and_then at (λ x. Ok (comparison Equal x v)) =
       ap (λ (o : Outcome Value). and_then at (λ x. and_then o (λ y. Ok (comparison Equal x y)))) known_value in
       let agrees = places_agree no_tables columns parameters (λ t. none_fit (columns t)) in

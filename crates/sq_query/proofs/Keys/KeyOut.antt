@@ -15,27 +15,25 @@ use Rattle.sq_value.specs.declared.value.Value.{Value}
 use Rattle.sq_tree.specs.declared.cond.Comparison.TheVariants as comparison
 use Rattle.sq_meaning.specs.Status.{Outcome, well_formed}
 use Rattle.sq_meaning.specs.Syntax.{added, between, bracketed, column, compare, compare_quantified, compare_subquery, conds, conjunction, count_rows, disjunction, exists, in_list, in_subquery, is_null, like, literal, negated, parameter, scaled, set_function, signed, user}
-use Rattle.sq_meaning.specs.Environment.{Env, Line, Row, Scope}
+use Rattle.sq_meaning.specs.Environment.{Env, Row}
 use Rattle.sq_meaning.specs.Placed.{by_place}
-use Rattle.sq_meaning.specs.Query.{all_truth, and_also, or_else, truth}
+use Rattle.sq_meaning.specs.Query.{all_truth, and_also, is_true, or_else, truth}
 use Rattle.sq_meaning.specs.Quiet.{is_quiet, is_quiet_expr}
 use Rattle.sq_meaning.specs.WellFormed.{Has, HasValue, IsRowOf}
 use Rattle.sq_bound.specs.Condition.{PlacedCond, cond_of, test_of}
 use Rattle.sq_bound.specs.Expression.{PlacedExpr, expr_of}
 use Rattle.sq_bound.specs.Keyed.{column_named, is_constant, names_key, names_one_of, start_with_key}
-use Rattle.sq_bound.specs.WellFormed.{Levels, TableKinds}
+use Rattle.sq_bound.specs.WellFormed.{TableKinds}
 use Rattle.sq_bound.specs.declared.condition.BoundCond.{BoundCond}
 use Rattle.sq_bound.specs.declared.condition.BoundConj.{out-BoundConj}
 use Rattle.sq_bound.specs.declared.condition.BoundTest.{BoundTest}
 use Rattle.sq_bound.specs.declared.condition.TablePlace.{TablePlace}
-use Rattle.sq_bound.specs.declared.condition.TablePlace.TheVariants.{Base, View}
 use Rattle.sq_bound.proofs.QuietRows.{no_tables}
 use Rattle.sq_bound.proofs.QuietTruths.{both_left, both_right}
-use Rattle.sq_query.specs.Around.{beneath}
+use Rattle.sq_expression.specs.Fault.{IsRight}
 use Rattle.sq_query.specs.Key.{IsComparedWith, IsNamedBy, Stands, StandsOn}
-use Rattle.sq_query.specs.Named.{HasOther, IsFalseBut, IsLineOf, IsOneOf, StandsOnLines}
+use Rattle.sq_query.specs.Named.{AreSureBases, HasOther, IsOneOf, IsTrueOnlyWith}
 use Rattle.sq_query.specs.Row.{outside}
-use Rattle.sq_query.specs.Sought.{IsRowAmong, nothing_around}
 use Rattle.sq_query.proofs.Keys.KeyLacked.{IsTestOn, all_also, first_false, lacked, test_answers, test_false}
 use Rattle.sq_query.proofs.Keys.KeyNames.{firsts_name}
 use Rattle.sq_query.proofs.Keys.KeyValues.{all_contained, all_first, among, none_among, term_tree, tests_stand}
@@ -182,43 +180,19 @@ zip_weaker P Q so [] (y ∷ ys) all = absurd all
 zip_weaker P Q so (x ∷ xs) [] all = absurd all
 zip_weaker P Q so (x ∷ xs) (y ∷ ys) all = (so x y all.0, zip_weaker P Q so xs ys all.1)
 
--- nothing is known of a row
-nothing_known : (t : TablePlace) (row : Row) → IsRowAmong [] t row
-nothing_known (Base n) row = tt
-nothing_known (View n) row = tt
-
 module _ (values : List Value) (caller : Name) (t : TablePlace) (c : PlacedCond) where
-  -- it is false of each row with other values in a column
-  abbrev IsFalseOnRow : ℕ → List Value → Type 0
-  IsFalseOnRow n vs =
-      (tables : TablePlace → Outcome (List Row)) (columns : TableKinds) (parameters : List Kind) (row : Row) → IsRowOf parameters values → Stands columns parameters t c → Has (λ ks. IsRowOf ks row) (columns t) → HasOther row n vs
-      → truth (by_place tables) c (outside (row ∷ []) values caller) ≡ Ok False
-
-  pub on_row : (n : ℕ) (vs : List Value) → IsFalseBut t values caller c n vs → IsFalseOnRow n vs
-  on_row n vs h tables columns parameters row given stands fits other =
-      h columns parameters [] tables [] (row ∷ []) row (record { given = given; is_around = refl; rows_around = λ f. tt; fits = (fits, tt); among = (nothing_known t row, tt) }) stands tt refl other
-
-  of_row : (n : ℕ) (vs : List Value) → IsFalseOnRow n vs → IsFalseBut t values caller c n vs
-  of_row n vs h columns parameters levels tables scopes line row on stands known at other = by levels scopes line on stands at
-    where
-      by : (ls : Levels) (ss : List (Scope (Unit {0}))) (l : Line) → IsLineOf (t ∷ []) [] nothing_around columns parameters ls values ss l → StandsOnLines columns parameters ls (t ∷ []) c → slice_get l 0 ≡ Some row → truth (by_place tables) c (beneath ss l values caller) ≡ Ok False
-      by ls (x ∷ ss) l is well there = let none : x ∷ ss ≡ [] = is.is_around in absurd cc
-      by (x ∷ ls) [] l is well there = absurd (is.rows_around no_tables)
-      by [] [] [] is well there = absurd is.fits
-      by [] [] (r ∷ []) is well there = let same : r ≡ row = cc in h tables columns parameters r is.given well is.fits.0 (subst (λ (x : Row). HasOther x n vs) (sym same) other)
-      by [] [] (r ∷ x ∷ l) is well there = absurd is.fits.1
-
-  -- it is false of each row that lacks the values
-  pub false_without : (key : List ℕ) (wanted : List Value) → AllZip (IsOneOf (IsFalseBut t values caller c)) key wanted
+  -- it is not true of a row that lacks the values
+  pub not_without : (key : List ℕ) (wanted : List Value) → AllZip (IsOneOf (IsTrueOnlyWith t values caller c)) key wanted
       → (tables : TablePlace → Outcome (List Row)) (columns : TableKinds) (parameters : List Kind) (row : Row) → IsRowOf parameters values → Stands columns parameters t c → Has (λ ks. IsRowOf ks row) (columns t)
       → ((n : ℕ) (x : Value) → Contains key n → well_formed (slice_get row n) ≡ Ok x → is_null_value x ≡ false) → pointwise is_same wanted (in_columns row key) ≡ false
-      → truth (by_place tables) c (outside (row ∷ []) values caller) ≡ Ok False
-  false_without key wanted all tables columns parameters row given stands fits not_null lacks =
-      let found = lacked {R = IsOneOf (IsFalseBut t values caller c)} key wanted row all lacks in
-      on_row found.0 (found.1 ∷ []) found.3 tables columns parameters row given stands fits (record { not_null = λ x there. not_null found.0 x found.2 there; differs = (found.4, tt) })
+      → AreSureBases tables → IsRight (is_true (truth (by_place tables) c (outside (row ∷ []) values caller)))
+      → is_true (truth (by_place tables) c (outside (row ∷ []) values caller)) ≡ Ok false
+  not_without key wanted all tables columns parameters row given stands fits not_null lacks sure right =
+      let found = lacked {R = IsOneOf (IsTrueOnlyWith t values caller c)} key wanted row all lacks in
+      found.3 columns parameters tables row given fits stands (record { not_null = λ x there. not_null found.0 x found.2 there; differs = (found.4, tt) }) sure right
 
 -- so do the first tests of its only term
-pub named_so : (values : List Value) (caller : Name) (t : TablePlace) (own : BoundCond) (key : List ℕ) (wanted : List Value) → IsNamedBy key own values caller wanted → AllZip (IsOneOf (IsFalseBut t values caller (cond_of [] own))) key wanted
+pub named_so : (values : List Value) (caller : Name) (t : TablePlace) (own : BoundCond) (key : List ℕ) (wanted : List Value) → IsNamedBy key own values caller wanted → AllZip (IsOneOf (IsTrueOnlyWith t values caller (cond_of [] own))) key wanted
 named_so values caller t own key wanted k =
-    zip_weaker (IsComparedWith (take (length key) (out-BoundConj k.term).tests) values caller) (IsOneOf (IsFalseBut t values caller (cond_of [] own)))
-    (λ n v c. of_row values caller t (cond_of [] own) n (v ∷ []) (λ tables columns parameters row given stands fits other. column_false tables columns parameters values caller given t own key wanted k stands row fits n v c other)) key wanted k.compared
+    zip_weaker (IsComparedWith (take (length key) (out-BoundConj k.term).tests) values caller) (IsOneOf (IsTrueOnlyWith t values caller (cond_of [] own)))
+    (λ n v c columns parameters tables row given fits stands other sure right. ap is_true (column_false tables columns parameters values caller given t own key wanted k stands row fits n v c other)) key wanted k.compared

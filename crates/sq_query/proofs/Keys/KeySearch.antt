@@ -1,5 +1,5 @@
--- What a search by a key finds is what a search over all rows finds: on each row without the key one of the first tests is false, and
--- those before it have a truth.
+-- What a search by a key finds is what a search over all rows finds: the condition is true of no row without the key, and ends with no
+-- status on it.
 use Rattle.std.proofs.Common.{◌≡◌, ℕ, Bool, true, false, List, [], ◌∷◌, length, cond, find, nat_eq, slice_get, Option, Some, None, refl, sym, ap, subst, ◌∙◌, arith, Ok, Err}
 use Rattle.std.specs.Prelude.{if◌then◌else◌}
 use Rattle.std.specs.Cmp.Lexicographic.{pointwise}
@@ -19,6 +19,7 @@ use Rattle.sq_meaning.specs.Placed.{by_place}
 use Rattle.sq_meaning.specs.Query.{is_true, truth}
 use Rattle.sq_meaning.specs.WellFormed.{Has, IsRowOf}
 use Rattle.sq_bound.specs.Condition.{cond_of}
+use Rattle.sq_bound.specs.Noted.{HasNotes}
 use Rattle.sq_bound.specs.Fits.{has_its_values, keys_of_bases, not_nulls_hold}
 use Rattle.sq_bound.specs.WellFormed.{TableKinds, base_kinds}
 use Rattle.sq_bound.specs.declared.condition.BoundCond.{BoundCond}
@@ -26,12 +27,14 @@ use Rattle.sq_bound.specs.declared.condition.TablePlace.{TablePlace}
 use Rattle.sq_bound.specs.declared.condition.TablePlace.TheVariants.{Base}
 use Rattle.sq_bound.specs.declared.names.BaseTable.{BaseTable}
 use Rattle.sq_condition.proofs.Conditions.{neither_left, neither_right}
+use Rattle.sq_expression.specs.Fault.{IsRight}
 use Rattle.sq_query.specs.Key.{IsKeyOn, StandsOn}
+use Rattle.sq_query.specs.Named.{AreSureBases}
 use Rattle.sq_query.specs.Row.{outside}
 use Rattle.sq_query.specs.Target.{is_true_of}
 use Rattle.sq_query.specs.declared.key.KnownKey.{KnownKey}
 use Rattle.sq_query.proofs.Keys.KeyColumns.{key_not_null, key_value, rows_have_values}
-use Rattle.sq_query.proofs.Keys.KeyOut.{all_both, false_without}
+use Rattle.sq_query.proofs.Keys.KeyOut.{all_both, not_without}
 use Rattle.sq_query.proofs.Keys.OnlyOne.{AtMostOne, at_most_one, distinct_at}
 
 -- ---- lists
@@ -76,15 +79,16 @@ module _ {A : Type 0} (test : A → Outcome Bool) (has : A → Bool) where
 
 module _ (tables : TablePlace → Outcome (List Row)) (columns : TableKinds) (parameters : List Kind) (values : List Value) (caller : Name) (given : IsRowOf parameters values)
     (bases : List BaseTable) (content : Content) (keys : List Keys) (place : ℕ) (b : BaseTable) (own : BoundCond) (known : KnownKey) (k : IsKeyOn place own content keys values caller known)
-    (at : slice_get bases place ≡ Some b) (kinds_are : columns (Base place) ≡ Ok (base_kinds b)) (stands : StandsOn columns parameters (Base place) own) (keys_are : keys ≡ keys_of_bases bases) (nulls : not_nulls_hold bases content ≡ true) where
+    (at : slice_get bases place ≡ Some b) (kinds_are : columns (Base place) ≡ Ok (base_kinds b)) (stands : StandsOn columns parameters (Base place) own) (keys_are : keys ≡ keys_of_bases bases) (nulls : not_nulls_hold bases content ≡ true)
+    (noted : HasNotes own) (sure : AreSureBases tables) (right : (row : Row) → IsRowOf (base_kinds b) row → IsRight (is_true (truth (by_place tables) (cond_of [] own) (outside (row ∷ []) values caller)))) where
   abbrev own_columns : List ℕ
   own_columns = key_at keys place known.key
 
   left_out : (row : Row) → IsRowOf (base_kinds b) row → has_its_values b row ≡ true → pointwise is_same known.values (in_columns row own_columns) ≡ false
       → is_true (truth (by_place tables) (cond_of [] own) (outside (row ∷ []) values caller)) ≡ Ok false
   left_out row is_row has_values lacks =
-      ap is_true (false_without values caller (Base place) (cond_of [] own) own_columns known.values k.named tables columns parameters row given stands (subst (Has (λ ks. IsRowOf ks row)) (sym kinds_are) is_row)
-      (key_value b own_columns row (key_not_null bases keys place b known.key keys_are at k.key) has_values) lacks)
+      not_without values caller (Base place) (cond_of [] own) own_columns known.values (k.named noted) tables columns parameters row given stands (subst (Has (λ ks. IsRowOf ks row)) (sym kinds_are) is_row)
+      (key_value b own_columns row (key_not_null bases keys place b known.key keys_are at k.key) has_values) lacks sure (right row is_row)
 
   -- ---- over all rows
 

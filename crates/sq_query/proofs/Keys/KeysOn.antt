@@ -1,33 +1,37 @@
 -- The keys of a base table by which a condition on its rows names them.
-use Rattle.std.proofs.Common.{◌≡◌, ◌∙◌, ℕ, ◌<◌, List, [], ◌∷◌, length, Option, Some, None, Result, sym, ap, subst, Ok, Err}
-use Rattle.std.specs.Prelude.{⊤, IfOk, IfSome}
+use Rattle.std.proofs.Common.{◌≡◌, ◌∙◌, ℕ, ◌<◌, List, [], ◌∷◌, length, Option, Some, None, Result, sym, ap, subst, refl, Ok, Err}
+use Rattle.std.specs.Prelude.{IfOk, IfSome, slice_get, false}
 use Rattle.std.specs.List.{AllZip}
 use Rattle.sq_lex.specs.declared.name.Name.{Name}
+use Rattle.sq_value.specs.Comparison.{is_same}
+use Rattle.sq_value.specs.SetFunctions.{is_null}
 use Rattle.sq_value.specs.declared.value.Value.{Value}
+use Rattle.sq_value.specs.laws.ValueOrder.{same_equiv}
 use Rattle.sq_store.specs.Content.{Content}
 use Rattle.sq_store.specs.Keys.{Keys, key_at, keys_at}
 use Rattle.sq_meaning.specs.Environment.{Row}
-use Rattle.sq_meaning.specs.Status.{Outcome}
-use Rattle.sq_bound.specs.Condition.{cond_of}
-use Rattle.sq_bound.specs.WellFormed.{TableKinds}
-use Rattle.sq_bound.specs.declared.condition.BoundCond.{BoundCond}
+use Rattle.sq_meaning.specs.Placed.{by_place}
+use Rattle.sq_meaning.specs.Query.{is_true, truth}
+use Rattle.sq_meaning.specs.Status.{Outcome, well_formed}
+use Rattle.sq_bound.specs.Condition.{PlacedCond, cond_of}
+use Rattle.sq_bound.specs.Noted.{HasNotes}
+use Rattle.sq_bound.specs.declared.condition.BoundCond.{BoundCond, out-BoundCond}
 use Rattle.sq_bound.specs.declared.condition.TablePlace.{TablePlace}
 use Rattle.sq_bound.specs.declared.condition.TablePlace.TheVariants.{Base}
+use Rattle.sq_bound.proofs.ConditionLaws.{cond_of-out}
+use Rattle.sq_condition.specs.Asked.{HasAnother, IsKeyOfTerms, IsMetOnlyWith}
+use Rattle.sq_condition.specs.Known.{SharesCall}
+use Rattle.sq_condition.specs.declared.known.KnownKey.{KnownKey as KeyOfTests}
+use Rattle.sq_expression.specs.Fault.{IsRight}
+use Rattle.sq_expression.specs.Sources.{Sources, without_tables}
+use Rattle.sq_expression.specs.declared.context.Context.{Context}
 use Rattle.sq_expression.specs.declared.fault.Fault.{Fault}
-use Rattle.sq_expression.specs.declared.table.BaseRows.{BaseRows}
-use Rattle.sq_query.specs.Key.{AreKeysOn, IsKeyOn, IsNamedBy}
-use Rattle.sq_query.specs.Asked.{IsFalseThrough}
-use Rattle.sq_query.specs.Named.{AreKeysBy, IsFalseBut, IsFalseOf, IsFalseOn, IsKeyBy, IsOneOf}
-use Rattle.sq_query.specs.Sought.{IsOfRow, nothing_around}
-use Rattle.sq_query.specs.declared.around.Around.{Around}
-use Rattle.sq_query.specs.declared.asked.Asked.{Asked}
+use Rattle.sq_query.specs.Key.{IsKeyOn, IsNamedBy}
+use Rattle.sq_query.specs.Named.{AreSureBases, HasOther, IsOneOf, IsTrueOnlyWith}
+use Rattle.sq_query.specs.Row.{outside}
 use Rattle.sq_query.specs.declared.key.KnownKey.{KnownKey}
-use Rattle.sq_query.specs.declared.key.KnownKeys.{KnownKeys}
-use Rattle.sq_query.specs.declared.named.Sure.TheVariants.{Unnoted}
-use Rattle.sq_query.specs.declared.sought.Sought.{Sought}
-use Rattle.sq_query.proofs.FoundByKey.AskedColumns.{at_itself, through_none}
-use Rattle.sq_query.proofs.Keys.KeyOut.{named_so, zip_weaker}
-use Rattle.sq_query.proofs.Keys.NamedRows.{none_trusted_in}
+use Rattle.sq_query.proofs.Keys.KeyOut.{named_so}
+use Rattle.sq_query.proofs.Keys.KeyTests.{in_row}
 
 -- a condition that names a row by the columns of a key does so by a key of the base table
 pub key_on : (place : ℕ) (own : BoundCond) (content : Content) (keys : List Keys) (parameters : List Value) (user : Name) (key : ℕ) (columns : List ℕ) (r : Result (Option KnownKey) Fault) → place < length content
@@ -40,59 +44,51 @@ key_on place own content keys parameters user key columns (Ok (Some known)) ther
   record {
     table = there;
     key = subst (λ (k : ℕ). k < length (keys_at keys place)) (sym h.0) within;
-    named = named_so parameters user (Base place) own (key_at keys place known.key) known.values
+    named = λ noted. named_so parameters user (Base place) own (key_at keys place known.key) known.values
         (subst (λ (cs : List ℕ). IsNamedBy cs own parameters user known.values) (are ∙ ap (key_at keys place) (sym h.0)) h.1);
   },
 )
 
--- a key of a base table whose columns are these
-pub key_named : (IsFalse : ℕ → List Value → Type 0) (keys : List Keys) (place key : ℕ) (columns : List ℕ) (r : Result (Option KnownKey) Fault) → key < length (keys_at keys place) → columns ≡ key_at keys place key
-    → IfOk r (λ found. IfSome found (λ known. (known.key ≡ key) × AllZip (IsOneOf IsFalse) columns known.values)) → IfOk r (λ found. IfSome found (IsKeyBy IsFalse keys place))
-key_named IsFalse keys place key columns (Err e) within are h = tt
-key_named IsFalse keys place key columns (Ok None) within are h = tt
-key_named IsFalse keys place key columns (Ok (Some known)) within are h = record {
-  key = subst (λ (k : ℕ). k < length (keys_at keys place)) (sym h.0) within;
-  named = subst (λ (cs : List ℕ). AllZip (IsOneOf IsFalse) cs known.values) (are ∙ ap (key_at keys place) (sym h.0)) h.1;
-}
+-- ---- by tests
 
--- a condition that names rows of a table alone, of which nothing is known
-module _ (place : ℕ) (own : BoundCond) (content : Content) (keys : List Keys) (parameters : List Value) (user : Name) (s : Sought) (is : IsOfRow (Base place ∷ []) s) (there : place < length content) where
-  abbrev Known : TableKinds → (TablePlace → Outcome (List Row)) → Type 0
-  Known columns tables = ⊤
+-- a row that has another value in a column has another, or lacks the column
+another : (row : Row) (n : ℕ) (v : Value) → HasOther row n (v ∷ []) → HasAnother row n v
+another row n v other = by (slice_get row n) refl
+  where
+    by : (o : Option Value) → slice_get row n ≡ o → IfSome o (λ x. (is_null x ≡ false) × (is_same x v ≡ false))
+    by None e = tt
+    by (Some x) e =
+        let there : well_formed (slice_get row n) ≡ Ok x = ap well_formed e in
+        (other.not_null x there, same_equiv.symm x v ∙ ap (is_same v) (sym (in_row row n x there)) ∙ other.differs.0)
 
-  row_false : (n : ℕ) (vs : List Value) → IsFalseOf s Unnoted parameters user own n vs → IsFalseBut (Base place) parameters user (cond_of [] own) n vs
-  row_false n vs h =
-      subst (λ (item : ℕ). IsFalseOn item (Base place ∷ []) [] nothing_around parameters user Known (cond_of [] own) n vs) is.item
-      (subst (λ (ts : List TablePlace). IsFalseOn s.item ts [] nothing_around parameters user Known (cond_of [] own) n vs) is.tables_are
-      (subst (λ (found : List BaseRows). IsFalseOn s.item s.tables.now found nothing_around parameters user Known (cond_of [] own) n vs) is.none
-      (subst (λ (a : Around). IsFalseOn s.item s.tables.now s.found.now a parameters user Known (cond_of [] own) n vs) is.outside
-      (λ columns kinds levels tables scopes line row on stands known at other. h columns kinds levels tables scopes line row on stands (none_trusted_in own columns tables) at other))))
+-- what is zipped for each of some things is zipped with what follows from all of them
+zip_each : {X A B : Type 0} (some : X) (P : X → A → B → Type 0) (Q : A → B → Type 0) → ((a : A) (b : B) → ((x : X) → P x a b) → Q a b) → (xs : List A) (ys : List B) → ((x : X) → AllZip (P x) xs ys) → AllZip Q xs ys
+zip_each some P Q so [] [] h = tt
+zip_each some P Q so [] (b ∷ ys) h = absurd (h some)
+zip_each some P Q so (a ∷ xs) [] h = absurd (h some)
+zip_each some P Q so (a ∷ xs) (b ∷ ys) h = (so a b (λ x. (h x).0), zip_each some P Q so xs ys (λ x. (h x).1))
 
-  key_itself : (r : Result (Option KnownKey) Fault) → IfOk r (λ found. IfSome found (IsKeyBy (IsFalseThrough None (IsFalseOf s Unnoted parameters user own)) keys place)) → IfOk r (λ found. IfSome found (IsKeyOn place own content keys parameters user))
-  key_itself (Err e) h = tt
-  key_itself (Ok None) h = tt
-  key_itself (Ok (Some known)) h = record {
+-- the tables of a call, whatever they are
+abbrev Full : Context → Type 0
+Full call = (full : Sources) × SharesCall (without_tables call) full
+
+module _ (call : Context) (place : ℕ) (own : BoundCond) where
+  abbrev over : (tables : TablePlace → Outcome (List Row)) → AreSureBases tables → Sources
+  over tables sure = record { user = call.user; parameters = call.parameters.now; tables = tables; sure = sure; keys = λ base. [] }
+
+  -- terms that are met with one value alone are a condition that is true only with it
+  only_with : (n : ℕ) (v : Value) → ((full : Full call) → IsMetOnlyWith (out-BoundCond own).terms full.0 n v) → IsTrueOnlyWith (Base place) call.parameters.now call.user (cond_of [] own) n (v ∷ [])
+  only_with n v met columns kinds tables row given fits stands other sure right =
+      subst (λ (c : PlacedCond). IsRight (is_true (truth (by_place tables) c (outside (row ∷ []) call.parameters.now call.user))) → is_true (truth (by_place tables) c (outside (row ∷ []) call.parameters.now call.user)) ≡ Ok false)
+      (sym (cond_of-out [] own)) (met (over tables sure, (refl, refl)) (row ∷ []) row refl (another row n v other)) right
+
+  pub key_of_tests : (content : Content) (keys : List Keys) (found : KeyOfTests) → place < length content → found.key < length (keys_at keys place)
+      → (HasNotes own → IsKeyOfTerms (out-BoundCond own).terms (without_tables call) (keys_at keys place) found)
+      → IsKeyOn place own content keys call.parameters.now call.user (record { key = found.key; values = found.values })
+  key_of_tests content keys found there within h = record {
     table = there;
-    key = h.key;
-    named = zip_weaker (IsOneOf (IsFalseThrough None (IsFalseOf s Unnoted parameters user own))) (IsOneOf (IsFalseBut (Base place) parameters user (cond_of [] own)))
-        (λ n v f. row_false n (v ∷ []) (through_none (IsFalseOf s Unnoted parameters user own) n (v ∷ []) f)) (key_at keys place known.key) known.values h.named;
+    key = within;
+    named = λ noted. zip_each {X = Full call} (without_tables call, (refl, refl)) (λ full n v. IsMetOnlyWith (out-BoundCond own).terms full.0 n v)
+        (IsOneOf (IsTrueOnlyWith (Base place) call.parameters.now call.user (cond_of [] own))) only_with (key_at keys place found.key) found.values
+        (λ full. (h noted).named full.0 full.1);
   }
-
-  pub key_of_row : (a : Asked) → a.base ≡ place → a.through ≡ None → (r : Result (Option KnownKey) Fault)
-      → IfOk r (λ found. IfSome found (IsKeyBy (IsFalseThrough a.through (IsFalseOf s Unnoted parameters user own)) keys a.base)) → IfOk r (λ found. IfSome found (IsKeyOn place own content keys parameters user))
-  key_of_row a at none r h =
-      key_itself r (at_itself a place (λ p through. IfOk r (λ found. IfSome found (IsKeyBy (IsFalseThrough through (IsFalseOf s Unnoted parameters user own)) keys p))) at none h)
-
-  keys_itself : (r : Result (Option KnownKeys) Fault) → IfOk r (λ found. IfSome found (AreKeysBy (IsFalseThrough None (IsFalseOf s Unnoted parameters user own)) keys place)) → IfOk r (λ found. IfSome found (AreKeysOn place own content keys parameters user))
-  keys_itself (Err e) h = tt
-  keys_itself (Ok None) h = tt
-  keys_itself (Ok (Some known)) h = record {
-    table = there;
-    key = h.key;
-    named = (h.named.0, h.named.1, row_false h.named.0 known.values.items (through_none (IsFalseOf s Unnoted parameters user own) h.named.0 known.values.items h.named.2));
-  }
-
-  pub keys_of_row : (a : Asked) → a.base ≡ place → a.through ≡ None → (r : Result (Option KnownKeys) Fault)
-      → IfOk r (λ found. IfSome found (AreKeysBy (IsFalseThrough a.through (IsFalseOf s Unnoted parameters user own)) keys a.base)) → IfOk r (λ found. IfSome found (AreKeysOn place own content keys parameters user))
-  keys_of_row a at none r h =
-      keys_itself r (at_itself a place (λ p through. IfOk r (λ found. IfSome found (AreKeysBy (IsFalseThrough through (IsFalseOf s Unnoted parameters user own)) keys p))) at none h)

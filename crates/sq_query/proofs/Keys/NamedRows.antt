@@ -1,346 +1,270 @@
--- Which conditions name the rows of an item by values of a column: a test that says what the column is equal to, on either side; IN with a
--- list of values; such a test in brackets; AND, by one of its tests, where those before it have a truth on each line; OR, by all of its terms
--- (ISO/IEC 9075:1992, 8.2, 8.4 and 8.12).
-use Rattle.std.proofs.Common.{◌≡◌, ◌∙◌, ◌+◌, ◌<◌, ◌⊎◌, inl, inr, ℕ, zero, suc, Bool, false, true, not, ◌&&◌, List, [], ◌∷◌, ◌++◌, length, map, take, slice_index_or, Option, Some, None, Result, Vec, Global, slice_get, refl, sym, ap, subst, arith, Ok, Err}
-use Rattle.std.specs.Prelude.{IfOk, IfSome, if◌then◌else◌}
-use Rattle.std.proofs.lemmas.List.{take_more}
-use Rattle.std.specs.List.{AllByRecursion, AllZip}
+-- Where rows are left out of which a target's own condition is not true, the target means the same rows among those that are left.
+use Rattle.std.proofs.Common.{◌≡◌, ◌∙◌, inl, inr, ℕ, ◌<◌, Bool, true, false, List, [], ◌∷◌, ◌++◌, length, Option, Some, None, Result, refl, sym, ap, subst, Ok, Err}
+use Rattle.std.specs.Prelude.{IfErr, if◌then◌else◌, nat_eq, not}
+use Rattle.std.specs.List.{AllByRecursion, list_any}
 use Rattle.sq_lex.specs.declared.name.Name.{Name}
-use Rattle.sq_value.specs.Comparison.{is_same}
 use Rattle.sq_value.specs.declared.domain.Kind.{Kind}
-use Rattle.sq_value.specs.declared.truth.Truth.TheVariants.{False}
+use Rattle.sq_value.specs.declared.truth.Truth.{Truth}
 use Rattle.sq_value.specs.declared.value.Value.{Value}
-use Rattle.sq_value.specs.declared.value.Value.TheVariants.{Null}
-use Rattle.sq_tree.specs.declared.cond.Comparison.{Comparison}
-use Rattle.sq_tree.specs.declared.cond.Comparison.TheVariants.{Equal}
-use Rattle.sq_meaning.specs.Environment.{Env, Line, Row, Scope, alone}
-use Rattle.sq_meaning.specs.Expression.{value}
-use Rattle.sq_meaning.specs.Kind.{Kinds}
-use Rattle.sq_meaning.specs.Placed.{Placed, by_place}
-use Rattle.sq_meaning.specs.Query.{or_else, truth}
-use Rattle.sq_meaning.specs.Quiet.{is_quiet, is_quiet_expr}
-use Rattle.sq_meaning.specs.Status.{Outcome}
-use Rattle.sq_meaning.specs.Sure.{is_sure}
-use Rattle.sq_meaning.specs.Syntax.{column, compare, conds, conjunction, disjunction, in_list}
-use Rattle.sq_meaning.specs.Target.{has_subquery}
-use Rattle.sq_meaning.specs.WellFormed.{HasValue, IsDeclaredAt, IsEnvOf, kinds_by_place, of_lines}
-use Rattle.sq_meaning.proofs.AnswerLaws.{all_appended, all_weaker}
-use Rattle.sq_meaning.proofs.QueryKinds.{truth_of_kinds}
-use Rattle.sq_meaning.proofs.ReadingKinds.{env_by_place, places_agree}
-use Rattle.sq_meaning.proofs.SureLaws.{sure_truth}
-use Rattle.sq_bound.specs.Condition.{PlacedCond, cond_of, conj_of, not_if, predicate_of, test_of}
-use Rattle.sq_bound.specs.Expression.{PlacedExpr, expr_of}
-use Rattle.sq_bound.specs.Keyed.{AreEqualled}
-use Rattle.sq_bound.specs.Noted.{may_fail}
-use Rattle.sq_bound.specs.WellFormed.{Levels, TableKinds}
+use Rattle.sq_store.specs.Content.{Content, table_at}
+use Rattle.sq_store.specs.Keys.{Keys}
+use Rattle.sq_store.specs.declared.table.Numbered.{Numbered}
+use Rattle.sq_meaning.specs.Environment.{Row}
+use Rattle.sq_meaning.specs.Placed.{by_place}
+use Rattle.sq_meaning.specs.Query.{is_true, truth}
+use Rattle.sq_meaning.specs.Status.{Outcome, and_then, kept}
+use Rattle.sq_meaning.specs.WellFormed.{Has, HasValue, IsDeclaredAt, IsRowOf, WellFormedCond, kinds_by_place}
+use Rattle.sq_meaning.proofs.AnswerLaws.{all_weaker}
+use Rattle.sq_bound.specs.Condition.{PlacedCond, cond_of}
+use Rattle.sq_bound.specs.Names.{option_all}
+use Rattle.sq_bound.specs.Noted.{HasNotes}
+use Rattle.sq_bound.specs.Quiet.{are_quiet_conds, is_quiet_cond}
+use Rattle.sq_bound.specs.WellFormed.{IsCond, IsTarget, IsViewQuery, TableKinds, base_kinds, of_base, of_base_at}
 use Rattle.sq_bound.specs.declared.condition.BoundCond.{BoundCond, out-BoundCond}
-use Rattle.sq_bound.specs.declared.condition.BoundConj.{BoundConj, out-BoundConj}
-use Rattle.sq_bound.specs.declared.condition.BoundTest.{BoundTest}
-use Rattle.sq_bound.specs.declared.condition.Predicate.{Predicate}
-use Rattle.sq_bound.specs.declared.condition.Predicate.TheVariants as bound
+use Rattle.sq_bound.specs.declared.condition.BoundSpecification.{BoundSpecification}
 use Rattle.sq_bound.specs.declared.condition.TablePlace.{TablePlace}
-use Rattle.sq_bound.specs.declared.expression.BoundExpr.{BoundExpr}
-use Rattle.sq_bound.proofs.ColumnTests.{compared}
-use Rattle.sq_bound.proofs.ConditionLaws.{cond_of-out, conj_of-out, predicate_of-InList, test_of-out}
-use Rattle.sq_bound.proofs.QuietLaws.{quiet-Compare, quiet-Null}
+use Rattle.sq_bound.specs.declared.condition.TablePlace.TheVariants.{Base, View}
+use Rattle.sq_bound.specs.declared.names.BaseTable.{BaseTable}
+use Rattle.sq_bound.specs.declared.query.Target.{Target}
+use Rattle.sq_bound.proofs.ConditionLaws.{cond_of-out}
+use Rattle.sq_bound.proofs.Nested.{cond_held}
 use Rattle.sq_bound.proofs.QuietRows.{no_tables}
-use Rattle.sq_bound.proofs.QuietTruths.{both_left, both_right, has_truth, quiet_plain, valued_so}
-use Rattle.sq_expression.specs.Frame.{inputs_of}
+use Rattle.sq_bound.proofs.QuietTruths.{both_right}
+use Rattle.sq_condition.specs.Asked.{HasAsked, IsNeverMet, numbered_rows}
+use Rattle.sq_condition.specs.Memo.{Meant}
+use Rattle.sq_condition.specs.Named.{KnowsTerms}
+use Rattle.sq_condition.specs.Item.{Thins}
+use Rattle.sq_condition.specs.Subquery.{IsKnown}
+use Rattle.sq_condition.specs.declared.asked.Numbered.{Numbered as Found}
+use Rattle.sq_expression.specs.Fault.{IsRight, Meets}
+use Rattle.sq_expression.specs.Frame.{reading, table_rows}
+use Rattle.sq_expression.specs.Sources.{Sources}
+use Rattle.sq_expression.specs.declared.context.Context.{Context}
 use Rattle.sq_expression.specs.declared.fault.Fault.{Fault}
-use Rattle.sq_query.specs.Around.{beneath}
-use Rattle.sq_query.specs.Named.{AreTrusted, AreTrustedIn, HasOther, IsBracketed, IsColumnOf, IsEqualTo, IsFalseAt, IsFalseBy, IsFalseOf, IsLineOf, IsOneOf, IsPassed, IsSureTest, IsTrusted, StandsOnLines, sure_within}
-use Rattle.sq_query.specs.Sought.{IsAmongOnLines, IsSameOnLines}
-use Rattle.sq_query.specs.Union.{AreFitting}
-use Rattle.sq_query.specs.declared.named.Sure.{Sure}
-use Rattle.sq_query.specs.declared.named.Sure.TheVariants.{All, Noted, Unnoted}
-use Rattle.sq_query.specs.declared.sought.Sought.{Sought}
-use Rattle.sq_query.proofs.Needs.AnyTables.{truth_over}
-use Rattle.sq_query.proofs.Keys.EqualTests.{bracketed_tree, false_left, test_false}
-use Rattle.sq_query.proofs.ByUnion.JoinedTerms.{all_left, all_right}
-use Rattle.sq_query.proofs.Keys.KeyLacked.{all_also, also_false, none_fit, stops}
-use Rattle.sq_query.proofs.Keys.KeyOut.{all_is}
-use Rattle.sq_query.proofs.Keys.KeyValues.{all_contained}
-use Rattle.sq_query.proofs.Keys.KeyedRows.{inputs_are}
+use Rattle.sq_expression.specs.declared.fault.Fault.TheVariants as fault
+use Rattle.sq_query.specs.HasKeys.{read_in}
+use Rattle.sq_query.specs.MayRead.{MayRead}
+use Rattle.sq_query.specs.NamedRows.{HasNamedTarget, IsNamedTarget, IsOfStore}
+use Rattle.sq_query.specs.Needed.{IsNeeded, ReadsCond}
+use Rattle.sq_query.specs.Row.{outside, truth_on_row}
+use Rattle.sq_query.specs.Target.{and_own, are_true, chosen, conditions_of, is_true_of, rows_of_target}
+use Rattle.sq_query.specs.declared.needed.Needed.{Needed}
+use Rattle.sq_query.proofs.Keys.KeyLacked.{test_answers}
+use Rattle.sq_query.proofs.Keys.KeyTests.{if_some}
+use Rattle.sq_query.proofs.Keys.KeyedRows.{there_so}
+use Rattle.sq_query.proofs.Keys.SingleRows.{true_right}
+use Rattle.sq_query.proofs.Keys.TargetNotes.{own_noted}
+use Rattle.sq_query.proofs.Needs.KindsOfTables.{KindsAreOf}
+use Rattle.sq_query.proofs.Needs.KnownQueries.{known_cond_of}
+use Rattle.sq_query.proofs.Needs.NeededViews.{cond_reads_weaker}
+use Rattle.sq_query.proofs.Needs.ReadRows.{truth_answers}
+use Rattle.sq_query.proofs.Needs.SameTables.{same_truth}
+use Rattle.sq_query.proofs.Targets.KnownConditions.{rows_fit}
+use Rattle.sq_query.proofs.Targets.TargetSearch.{HaveAnswers, HaveTruths, is_passed, kept_passing, passing, passing_all, tested, truth_there, view_truths}
 
--- what holds of the first elements and of the next one
-all_more : {A : Type 0} (P : A → Type 0) (xs : List A) (i : ℕ) (x : A) → i < length xs → x ≡ slice_index_or xs i x → P x → AllByRecursion P (take i xs) → AllByRecursion P (take (i + 1) xs)
-all_more {A} P xs i x within at holds all =
-    subst (AllByRecursion P) (sym (take_more xs i x within ∙ ap (λ (y : A). take i xs ++ y ∷ []) (sym at))) (all_appended P (take i xs) (x ∷ []) all (holds, tt))
+-- ---- lists
 
--- ---- what is known of tests beforehand
+-- what holds of all holds of those that are left
+pub all_of_left : {A : Type 0} (P Out : A → Type 0) (xs left : List A) → Thins Out xs left → AllByRecursion P xs → AllByRecursion P left
+all_of_left {A} P Out [] left h all = subst (AllByRecursion P) (sym h) tt
+all_of_left P Out (x ∷ xs) left (inl (out, h)) all = all_of_left P Out xs left h all.1
+all_of_left {A} P Out (x ∷ xs) left (inr (rest, is, h)) all = subst (AllByRecursion P) (sym is) (all.0, all_of_left P Out xs rest h all.1)
 
--- the tests of a condition that never ends with a status
-sure_tests : (columns : TableKinds) (tables : TablePlace → Outcome (List Row)) (test : BoundTest) → IsSureTest test columns tables → (tests : List BoundTest) → is_sure may_fail (conjunction (conds (map (test_of []) tests))) ≡ true → AreTrusted All tests columns tables
-sure_tests columns tables test s [] h = tt
-sure_tests columns tables test s (x ∷ tests) h =
-    let later : Bool = is_sure may_fail (conjunction (conds (map (test_of []) tests))) in
-    (record { fitting = s.fitting; bases = s.bases; sure = both_left (is_sure may_fail (test_of [] x)) later h }, sure_tests columns tables test s tests (both_right (is_sure may_fail (test_of [] x)) later h))
+-- what is out among elements of which something holds
+thins_with : {A : Type 0} (P Out Other : A → Type 0) → ((x : A) → P x → Out x → Other x) → (xs left : List A) → AllByRecursion P xs → Thins Out xs left → Thins Other xs left
+thins_with P Out Other so [] left all h = h
+thins_with P Out Other so (x ∷ xs) left all (inl (out, h)) = inl (so x all.0 out, thins_with P Out Other so xs left all.1 h)
+thins_with P Out Other so (x ∷ xs) left all (inr (rest, is, h)) = inr (rest, is, thins_with P Out Other so xs rest all.1 h)
 
-sure_terms : (columns : TableKinds) (tables : TablePlace → Outcome (List Row)) (test : BoundTest) → IsSureTest test columns tables → (terms : List BoundConj) → is_sure may_fail (disjunction (conds (map (conj_of []) terms))) ≡ true
-    → AllByRecursion (λ term. AreTrusted All (out-BoundConj term).tests columns tables) terms
-sure_terms columns tables test s [] h = tt
-sure_terms columns tables test s (x ∷ terms) h =
-    let later : Bool = is_sure may_fail (disjunction (conds (map (conj_of []) terms))) in
-    (sure_tests columns tables test s (out-BoundConj x).tests (sym (ap (is_sure may_fail) (conj_of-out [] x)) ∙ both_left (is_sure may_fail (conj_of [] x)) later h), sure_terms columns tables test s terms (both_right (is_sure may_fail (conj_of [] x)) later h))
+module _ {A : Type 0} (test : A → Outcome Bool) where
+  abbrev added_by : A → Outcome (List A) → Bool → Outcome (List A)
+  added_by x o passes = and_then o (λ ys. Ok (if passes then x ∷ ys else ys))
 
-sure_inside : (columns : TableKinds) (tables : TablePlace → Outcome (List Row)) (own : BoundCond) (test : BoundTest) → IsBracketed own test → IsSureTest test columns tables → AreTrustedIn All own columns tables
-sure_inside columns tables own test is s =
-    sure_terms columns tables test s (out-BoundCond own).terms (sym (ap (is_sure may_fail) (bracketed_tree test own is ∙ cond_of-out [] own)) ∙ s.sure)
+  itself : (o : Outcome (List A)) → and_then o (λ ys. let is : Outcome (List A) = Ok ys in is) ≡ o
+  itself (Ok ys) = refl
+  itself (Err s) = refl
 
-none_trusted : (columns : TableKinds) (tables : TablePlace → Outcome (List Row)) (tests : List BoundTest) → AreTrusted Unnoted tests columns tables
-none_trusted columns tables [] = tt
-none_trusted columns tables (x ∷ tests) = (tt, none_trusted columns tables tests)
+  kept_thinned : (xs left : List A) → Thins (λ x. test x ≡ Ok false) xs left → kept test xs ≡ kept test left
+  kept_thinned [] left h = ap (kept test) (sym h)
+  kept_thinned (x ∷ xs) left (inl (out, h)) = ap (λ (o : Outcome Bool). and_then o (added_by x (kept test xs))) out ∙ itself (kept test xs) ∙ kept_thinned xs left h
+  kept_thinned (x ∷ xs) left (inr (rest, is, h)) = ap (λ (o : Outcome (List A)). and_then (test x) (added_by x o)) (kept_thinned xs rest h) ∙ ap (kept test) (sym is)
 
-pub none_trusted_in : (own : BoundCond) (columns : TableKinds) (tables : TablePlace → Outcome (List Row)) → AreTrustedIn Unnoted own columns tables
-none_trusted_in own columns tables = terms (out-BoundCond own).terms
-  where
-    terms : (ts : List BoundConj) → AllByRecursion (λ term. AreTrusted Unnoted (out-BoundConj term).tests columns tables) ts
-    terms [] = tt
-    terms (x ∷ ts) = (none_trusted columns tables (out-BoundConj x).tests, terms ts)
+-- ---- conditions one after another
 
-trusted_within : (sure : Sure) (own : BoundCond) (test : BoundTest) → IsBracketed own test → (columns : TableKinds) (tables : TablePlace → Outcome (List Row)) → IsTrusted sure test columns tables → AreTrustedIn (sure_within sure test) own columns tables
-trusted_within All own test is columns tables h = sure_inside columns tables own test is h
-trusted_within Unnoted own test is columns tables h = none_trusted_in own columns tables
-trusted_within Noted own test is columns tables h = by test.can_fail refl
-  where
-    by : (b : Bool) → test.can_fail ≡ b → AreTrustedIn (if b then Unnoted else All) own columns tables
-    by true e = none_trusted_in own columns tables
-    by false e = sure_inside columns tables own test is (h e)
-
--- ---- what a search answers
-
-abbrev pub Found : (ℕ → List Value → Type 0) → ℕ → Option (Vec Value Global) → Type 0
-Found IsFalse n found = IfSome found (λ vs. IsFalse n vs.items)
-
--- the only one of some values
-pub only_found : (IsFalse : ℕ → List Value → Type 0) (n : ℕ) (vs : List Value) (o : Option Value) → IsFalse n vs → IfSome o (λ v. vs ≡ v ∷ []) → IfSome o (IsOneOf IsFalse n)
-only_found IsFalse n vs None h is = tt
-only_found IsFalse n vs (Some v) h is = subst (IsFalse n) is h
-
-module _ (s : Sought) (values : List Value) (user : Name) where
-  -- the same condition, written otherwise, where as much is known
-  alike : (Known Less : TableKinds → (TablePlace → Outcome (List Row)) → Type 0) → ((columns : TableKinds) (tables : TablePlace → Outcome (List Row)) → Known columns tables → Less columns tables) → (c d : PlacedCond) → c ≡ d → (n : ℕ) (vs : List Value)
-      → IsFalseAt s values user Less d n vs → IsFalseAt s values user Known c n vs
-  alike Known Less so c d is n vs h columns kinds levels tables scopes line row on stands known at other =
-      ap (λ (x : PlacedCond). truth (by_place tables) x (beneath scopes line values user)) is
-      ∙ h columns kinds levels tables scopes line row on (subst (StandsOnLines columns kinds levels s.tables.now) is stands) (so columns tables known) at other
-
-  -- ---- on a line
-
-  abbrev column_here : ℕ → PlacedExpr
-  column_here n = column (record { depth = zero; item = s.item; column = n })
-
-  module _ (columns : TableKinds) (kinds : List Kind) (levels : Levels) (tables : TablePlace → Outcome (List Row)) (scopes : List (Scope (Unit {0}))) (line : Line) (row : Row) (on : IsLineOf s.tables.now s.found.now s.around columns kinds levels values scopes line)
-      (at : slice_get line s.item ≡ Some row) where
-    abbrev here : Env (Unit {0})
-    here = beneath scopes line values user
-
-    abbrev Stand : PlacedCond → Type 0
-    Stand = StandsOnLines columns kinds levels s.tables.now
-
-    abbrev known_kinds : Kinds (Placed TablePlace)
-    known_kinds = kinds_by_place columns kinds
-
-    abbrev inner : Levels
-    inner = of_lines s.tables.now ∷ levels
-
-    env_is : (f : TablePlace → Outcome (List Row)) → IsEnvOf (by_place f) known_kinds (IsDeclaredAt kinds) inner here
-    env_is f =
-        env_by_place f columns kinds inner (alone [] line ∷ scopes) (inputs_of values) user (record { line = on.fits; group = tt }, on.rows_around f) (inputs_are kinds values on.given)
-
-    nothing_fits : AreFitting columns no_tables
-    nothing_fits t = none_fit (columns t)
-
-    -- a test that is passed has a truth
-    passed_truth : (sure : Sure) (test : BoundTest) → IsPassed sure test → IsTrusted sure test columns tables → Stand (test_of [] test) → HasValue (truth (by_place tables) (test_of [] test) here)
-    passed_truth sure test passed trusted stands = by (passed columns tables trusted)
-      where
-        c : PlacedCond
-        c = test_of [] test
-
-        by : IsSureTest test columns tables ⊎ (is_quiet c ≡ true) → HasValue (truth (by_place tables) c here)
-        by (inl t) =
-            valued_so (truth (by_place tables) c here) (sure_truth may_fail tables t.bases c t.sure here)
-            (truth_of_kinds (by_place tables) known_kinds (IsDeclaredAt kinds) (places_agree tables columns kinds t.fitting) c inner here (stands tables) (env_is tables))
-        by (inr quiet) =
-            subst HasValue (truth_over no_tables tables c here (quiet_plain c quiet))
-            (has_truth no_tables known_kinds (IsDeclaredAt kinds) (places_agree no_tables columns kinds nothing_fits) c inner here (stands no_tables) (env_is no_tables) quiet)
-
-    value_here : (e : BoundExpr) (v : Value) → IsSameOnLines s values user e v → value (by_place no_tables) (expr_of [] e) here ≡ Ok v
-    value_here e v known = known.0 no_tables scopes line on.is_around on.among
-
-    module _ (n : ℕ) where
-      -- a test `column = e` or `e = column`
-      equal_false : (e : BoundExpr) (test : BoundTest) (vs : List Value) → IsEqualTo s.item n e test → has_subquery (test_of [] test) ≡ false → IsAmongOnLines s values user e vs → Stand (test_of [] test) → HasOther row n vs
-          → truth (by_place tables) (test_of [] test) here ≡ Ok False
-      equal_false e test vs is plain known stands other =
-          let k = known no_tables scopes line on.is_around on.among in
-          let among = k.1 in
-          sym (truth_over no_tables tables (test_of [] test) here plain)
-          ∙ test_false no_tables columns kinds values user on.given nothing_fits levels scopes (on.rows_around no_tables) s.tables.now line on.fits s.item n row at k.0 k.3 other.not_null
-          (all_contained (λ v. is_same v (slice_index_or row n Null) ≡ false) vs among.0 k.0 other.differs among.1 among.2) e test is k.2 (stands no_tables)
-
-      -- a test `column IN (e, ..)`
-      none_equal : (es : List BoundExpr) (vs : List Value) → Stand (in_list (column_here n) (map (expr_of []) es)) → AllZip (IsSameOnLines s values user) es vs → HasOther row n vs → truth (by_place no_tables) (in_list (column_here n) (map (expr_of []) es)) here ≡ Ok False
-      none_equal [] vs stands known other = refl
-      none_equal (e ∷ es) [] stands known other = absurd known
-      none_equal (e ∷ es) (v ∷ vs) stands known other =
-          let first : truth (by_place no_tables) (compare Equal (column_here n) (expr_of [] e)) here ≡ Ok False =
-          false_left no_tables columns kinds values user on.given nothing_fits levels scopes (on.rows_around no_tables) s.tables.now line on.fits s.item n row at v known.0.1 other.not_null other.differs.0 (expr_of [] e)
-          (value_here e v known.0) ((stands no_tables).1.0) in
-          let later : truth (by_place no_tables) (in_list (column_here n) (map (expr_of []) es)) here ≡ Ok False =
-          none_equal es vs (λ rows_of. ((stands rows_of).0, (stands rows_of).1.1)) known.1 (record { not_null = other.not_null; differs = other.differs.1 }) in
-          λ i. or_else (first i) (later i)
-
-      module _ (vs : List Value) (other : HasOther row n vs) where
-        and_false : (sure : Sure) (tests : List BoundTest) (i : ℕ) (test : BoundTest) → i < length tests → slice_index_or tests i test ≡ test → AllByRecursion (IsPassed sure) (take i tests) → AreTrusted sure tests columns tables → IsFalseBy s sure values user test n vs
-            → Stand (conjunction (conds (map (test_of []) tests))) → all_also (λ x. truth (by_place tables) (test_of [] x) here) tests ≡ Ok False
-        and_false sure [] i test within there passed trusted names stands = absurd (omega arith)
-        and_false sure (x ∷ tests) zero test within there passed trusted names stands =
-            stops (truth (by_place tables) (test_of [] x) here) (all_also (λ y. truth (by_place tables) (test_of [] y) here) tests)
-            (subst (λ (y : BoundTest). IsFalseBy s sure values user y n vs) (sym there) names columns kinds levels tables scopes line row on (λ rows_of. (stands rows_of).0) trusted.0 at other)
-        and_false sure (x ∷ tests) (suc i) test within there passed trusted names stands =
-            also_false (truth (by_place tables) (test_of [] x) here) (all_also (λ y. truth (by_place tables) (test_of [] y) here) tests)
-            (passed_truth sure x passed.0 trusted.0 (λ rows_of. (stands rows_of).0))
-            (and_false sure tests i test (omega arith) there passed.1 trusted.1 names (λ rows_of. (stands rows_of).1))
-
-        or_false : (sure : Sure) (terms : List BoundConj) → AllByRecursion (λ term. IsFalseAt s values user (AreTrusted sure (out-BoundConj term).tests) (conj_of [] term) n vs) terms
-            → AllByRecursion (λ term. AreTrusted sure (out-BoundConj term).tests columns tables) terms → Stand (disjunction (conds (map (conj_of []) terms))) → truth (by_place tables) (disjunction (conds (map (conj_of []) terms))) here ≡ Ok False
-        or_false sure [] names trusted stands = refl
-        or_false sure (term ∷ terms) names trusted stands =
-            let first : truth (by_place tables) (conj_of [] term) here ≡ Ok False = names.0 columns kinds levels tables scopes line row on (λ rows_of. (stands rows_of).0) trusted.0 at other in
-            let later : truth (by_place tables) (disjunction (conds (map (conj_of []) terms))) here ≡ Ok False = or_false sure terms names.1 trusted.1 (λ rows_of. (stands rows_of).1) in
-            λ i. or_else (first i) (later i)
-
-  -- ---- what the search finds: a test `column = e` or `e = column`
-
-  plain_so : (e : BoundExpr) (n : ℕ) (test : BoundTest) → IsEqualTo s.item n e test → has_subquery (test_of [] test) ≡ false
-  plain_so e n test is = by is.sides
+module _ (test : Numbered → Outcome Bool) (Out : Numbered → Type 0) where
+  passing_thins : (xs left : List Numbered) → Thins Out xs left → Thins Out (passing test xs) (passing test left)
+  passing_thins [] left h = ap (passing test) h
+  passing_thins (x ∷ xs) left (inl (out, h)) = by (is_passed (test x)) (passing_thins xs left h)
     where
-      by : AreEqualled test is.own e ⊎ AreEqualled test e is.own → has_subquery (test_of [] test) ≡ false
-      by (inl sides) = ap has_subquery (compared test Equal is.own e sides.0 sides.1)
-      by (inr sides) = ap has_subquery (compared test Equal e is.own sides.0 sides.1)
+      by : (b : Bool) → Thins Out (passing test xs) (passing test left) → Thins Out (if b then x ∷ passing test xs else passing test xs) (passing test left)
+      by true later = inl (out, later)
+      by false later = later
+  passing_thins (x ∷ xs) left (inr (rest, is, h)) = subst (λ (l : List Numbered). Thins Out (passing test (x ∷ xs)) (passing test l)) (sym is) (by (is_passed (test x)) (passing_thins xs rest h))
+    where
+      by : (b : Bool) → Thins Out (passing test xs) (passing test rest) → Thins Out (if b then x ∷ passing test xs else passing test xs) (if b then x ∷ passing test rest else passing test rest)
+      by true later = inr (passing test rest, refl, later)
+      by false later = later
 
-  pub equal_names : (e : BoundExpr) (n : ℕ) (test : BoundTest) (vs : List Value) → IsEqualTo s.item n e test → IsAmongOnLines s values user e vs → IsFalseBy s Unnoted values user test n vs
-  equal_names e n test vs is h columns kinds levels tables scopes line row on stands known at other = equal_false columns kinds levels tables scopes line row on at n e test vs is (plain_so e n test is) h stands other
+module _ {X : Type 0} (truth_of : X → Numbered → Outcome Truth) where
+  -- the last is not true of what is left out, and the others have a truth on each
+  chosen_thinned : (own : X) (xs : List X) (all left : List Numbered) → HaveTruths truth_of all xs → Thins (λ r. tested truth_of own r ≡ Ok false) all left
+      → chosen (tested truth_of) (xs ++ own ∷ []) all ≡ chosen (tested truth_of) (xs ++ own ∷ []) left
+  chosen_thinned own [] all left truths thins = ap (λ (o : Outcome (List Numbered)). and_then o (chosen (tested truth_of) [])) (kept_thinned (tested truth_of own) all left thins)
+  chosen_thinned own (x ∷ xs) all left truths thins =
+      let test = tested truth_of x in
+      let Out : Numbered → Type 0 = λ r. tested truth_of own r ≡ Ok false in
+      let next : Outcome (List Numbered) → Outcome (List Numbered) = λ o. and_then o (chosen (tested truth_of) (xs ++ own ∷ [])) in
+      ap next (kept_passing test all truths.0)
+      ∙ chosen_thinned own xs (passing test all) (passing test left)
+      (all_weaker (λ y. HaveAnswers (tested truth_of y) all) (λ y. HaveAnswers (tested truth_of y) (passing test all)) (λ y. passing_all test (λ r. HasValue (tested truth_of y r)) all) xs truths.1)
+      (passing_thins test Out all left thins)
+      ∙ sym (ap next (kept_passing test left (all_of_left (λ r. HasValue (test r)) Out all left thins truths.0)))
 
-  pub equal_found : (e : BoundExpr) (n : ℕ) (test : BoundTest) (r : Result (Option (Vec Value Global)) Fault) → IsEqualTo s.item n e test → IfOk r (λ found. IfSome found (λ vs. IsAmongOnLines s values user e vs.items))
-      → IfOk r (Found (IsFalseBy s Unnoted values user test) n)
-  equal_found e n test (Err f) is h = tt
-  equal_found e n test (Ok None) is h = tt
-  equal_found e n test (Ok (Some vs)) is h = equal_names e n test vs.items is h
+  chosen_none : (xs : List X) → chosen (tested truth_of) xs [] ≡ Ok []
+  chosen_none [] = refl
+  chosen_none (x ∷ xs) = chosen_none xs
 
-  -- ---- IN
+  chosen_single : (xs : List X) (r : Numbered) → chosen (tested truth_of) xs (r ∷ []) ≡ and_then (are_true (λ x. truth_of x r) xs) (λ all. Ok (if all then r ∷ [] else []))
+  chosen_single [] r = refl
+  chosen_single (x ∷ xs) r = by (is_true (truth_of x r)) (chosen_single xs r)
+    where
+      by : (o : Outcome Bool) → chosen (tested truth_of) xs (r ∷ []) ≡ and_then (are_true (λ y. truth_of y r) xs) (λ all. Ok (if all then r ∷ [] else []))
+          → and_then (and_then o (λ passes. Ok (if passes then r ∷ [] else []))) (chosen (tested truth_of) xs)
+          ≡ and_then (and_then o (λ holds. if holds then are_true (λ y. truth_of y r) xs else Ok false)) (λ all. Ok (if all then r ∷ [] else []))
+      by (Ok true) later = later
+      by (Ok false) later = chosen_none xs
+      by (Err s) later = refl
 
-  list_tree : (test : BoundTest) (a : BoundExpr) (es : List BoundExpr) → test.negated ≡ false → test.predicate ≡ bound.InList false a es → test_of [] test ≡ in_list (expr_of [] a) (map (expr_of []) es)
-  list_tree test a es plain is = test_of-out [] test ∙ ap (λ (b : Bool). not_if b (predicate_of [] test.predicate)) plain ∙ ap (predicate_of []) is ∙ predicate_of-InList [] false a es
+-- ---- one row
 
-  pub list_names : (test : BoundTest) (a : BoundExpr) (es : List BoundExpr) (n : ℕ) (vs : List Value) → test.negated ≡ false → test.predicate ≡ bound.InList false a es → IsColumnOf s.item n a → AllZip (IsSameOnLines s values user) es vs → IsFalseBy s Unnoted values user test n vs
-  list_names test a es n vs plain is own known =
-      let c = in_list (column_here n) (map (expr_of []) es) in
-      alike (IsTrusted Unnoted test) (IsTrusted Unnoted test) (λ columns tables h. h) (test_of [] test) c (list_tree test a es plain is ∙ ap (λ (x : PlacedExpr). in_list x (map (expr_of []) es)) own) n vs
-      (λ columns kinds levels tables scopes line row on stands trusted at other.
-      sym (truth_over no_tables tables c (beneath scopes line values user) refl) ∙ none_equal columns kinds levels tables scopes line row on at n es vs stands known other)
+module _ (tables : TablePlace → Outcome (List Row)) (t : Target) (call : Context) where
+  abbrev truths_at : BoundCond → Numbered → Outcome Truth
+  truths_at c r = truth_on_row tables call.parameters.now call.user r.row c
 
-  pub list_found : (test : BoundTest) (written : Bool) (a : BoundExpr) (es : List BoundExpr) (n : ℕ) (r : Result (Option (Vec Value Global)) Fault) → test.negated ≡ false → written ≡ false → test.predicate ≡ bound.InList written a es → IsColumnOf s.item n a
-      → IfOk r (λ found. IfSome found (λ vs. AllZip (IsSameOnLines s values user) es vs.items)) → IfOk r (Found (IsFalseBy s Unnoted values user test) n)
-  list_found test written a es n (Err f) plain not is own h = tt
-  list_found test written a es n (Ok None) plain not is own h = tt
-  list_found test written a es n (Ok (Some vs)) plain not is own h = list_names test a es n vs.items plain (is ∙ ap (λ (b : Bool). bound.InList b a es) not) own h
+  abbrev pub chosen_among : List Numbered → Outcome (List Numbered)
+  chosen_among rows = chosen (is_true_of tables call.parameters.now call.user) (conditions_of t) rows
 
-  -- ---- a test, whatever is known of it, and one in brackets
+  -- none is chosen among none
+  pub none_chosen : (rows : List Numbered) → rows ≡ [] → chosen_among [] ≡ Ok rows
+  none_chosen rows none = chosen_none truths_at (conditions_of t) ∙ ap (λ (l : List Numbered). let o : Outcome (List Numbered) = Ok l in o) (sym none)
 
-  pub comparison_names : (sure : Sure) (test : BoundTest) (n : ℕ) (vs : List Value) → IsFalseBy s Unnoted values user test n vs → IsFalseBy s sure values user test n vs
-  comparison_names sure test n vs h = alike (IsTrusted sure test) (IsTrusted Unnoted test) (λ columns tables known. tt) (test_of [] test) (test_of [] test) refl n vs h
+  module _ (r : Numbered) where
+    row_chosen_at : (o : Outcome Bool) → are_true (truth_on_row tables call.parameters.now call.user r.row) (conditions_of t) ≡ o → chosen_among (r ∷ []) ≡ and_then o (λ all. Ok (if all then r ∷ [] else []))
+    row_chosen_at o e = chosen_single truths_at (conditions_of t) r ∙ ap (λ (x : Outcome Bool). and_then x (λ all. Ok (if all then r ∷ [] else []))) e
 
-  pub comparison_found : (sure : Sure) (test : BoundTest) (n : ℕ) (r : Result (Option (Vec Value Global)) Fault) → IfOk r (Found (IsFalseBy s Unnoted values user test) n) → IfOk r (Found (IsFalseBy s sure values user test) n)
-  comparison_found sure test n (Err f) h = tt
-  comparison_found sure test n (Ok None) h = tt
-  comparison_found sure test n (Ok (Some vs)) h = comparison_names sure test n vs.items h
+    pub row_chosen : (b : Bool) (rows : List Numbered) → Meets (Ok b) (are_true (truth_on_row tables call.parameters.now call.user r.row) (conditions_of t)) → rows ≡ (if b then r ∷ [] else []) → chosen_among (r ∷ []) ≡ Ok rows
+    row_chosen b rows said has = row_chosen_at (Ok b) said ∙ ap (λ (l : List Numbered). let o : Outcome (List Numbered) = Ok l in o) (sym has)
 
-  pub brackets_name : (sure within : Sure) (own : BoundCond) (test : BoundTest) (n : ℕ) (vs : List Value) → IsBracketed own test → within ≡ sure_within sure test → IsFalseOf s within values user own n vs → IsFalseBy s sure values user test n vs
-  brackets_name sure within own test n vs is are h =
-      alike (IsTrusted sure test) (AreTrustedIn (sure_within sure test) own) (trusted_within sure own test is) (test_of [] test) (cond_of [] own) (bracketed_tree test own is) n vs
-      (subst (λ (k : Sure). IsFalseOf s k values user own n vs) are h)
+    pub row_fails : (f : Fault) → Meets {A = Bool} (Err f) (are_true (truth_on_row tables call.parameters.now call.user r.row) (conditions_of t)) → Meets {A = List Numbered} (Err f) (chosen_among (r ∷ []))
+    row_fails fault.NoMemory said = tt
+    row_fails (fault.Status f) said = row_chosen_at _ said
 
-  pub brackets_found : (sure within : Sure) (own : BoundCond) (test : BoundTest) (n : ℕ) (r : Result (Option (Vec Value Global)) Fault) → IsBracketed own test → within ≡ sure_within sure test → IfOk r (Found (IsFalseOf s within values user own) n) → IfOk r (Found (IsFalseBy s sure values user test) n)
-  brackets_found sure within own test n (Err f) is are h = tt
-  brackets_found sure within own test n (Ok None) is are h = tt
-  brackets_found sure within own test n (Ok (Some vs)) is are h = brackets_name sure within own test n vs.items is are h
+-- ---- the rows that a target's own condition names
 
-  -- ---- AND
-
-  abbrev joined : List BoundTest → PlacedCond
-  joined tests = conjunction (conds (map (test_of []) tests))
-
-  pub test_names : (sure : Sure) (tests : List BoundTest) (i : ℕ) (test : BoundTest) (n : ℕ) (vs : List Value) → i < length tests → test ≡ slice_index_or tests i test → AllByRecursion (IsPassed sure) (take i tests) → IsFalseBy s sure values user test n vs
-      → IsFalseAt s values user (AreTrusted sure tests) (joined tests) n vs
-  test_names sure tests i test n vs within at passed h = λ columns kinds levels tables scopes line row on stands trusted there other.
-      all_is tables (beneath scopes line values user) tests ∙ and_false columns kinds levels tables scopes line row on there n vs other sure tests i test within (sym at) passed trusted h stands
-
-  pub test_found : (sure : Sure) (tests : List BoundTest) (i : ℕ) (test : BoundTest) (n : ℕ) (found : Option (Vec Value Global)) → i < length tests → test ≡ slice_index_or tests i test → AllByRecursion (IsPassed sure) (take i tests) → Found (IsFalseBy s sure values user test) n found
-      → Found (IsFalseAt s values user (AreTrusted sure tests) (joined tests)) n found
-  test_found sure tests i test n None within at passed h = tt
-  test_found sure tests i test n (Some vs) within at passed h = test_names sure tests i test n vs.items within at passed h
-
-  -- ---- OR
-
-  abbrev pub IsTermFalseBut : Sure → ℕ → List Value → BoundConj → Type 0
-  IsTermFalseBut sure n vs term = IsFalseAt s values user (AreTrusted sure (out-BoundConj term).tests) (conj_of [] term) n vs
-
-  pub terms_name : (sure : Sure) (own : BoundCond) (n : ℕ) (vs : List Value) → AllByRecursion (IsTermFalseBut sure n vs) (out-BoundCond own).terms → IsFalseOf s sure values user own n vs
-  terms_name sure own n vs names =
-      let terms = (out-BoundCond own).terms in
-      alike (AreTrustedIn sure own) (AreTrustedIn sure own) (λ columns tables h. h) (cond_of [] own) (disjunction (conds (map (conj_of []) terms))) (cond_of-out [] own) n vs
-      (λ columns kinds levels tables scopes line row on stands trusted at other. or_false columns kinds levels tables scopes line row on at n vs other sure terms names trusted stands)
-
-  -- with more values
-  with_more : (sure : Sure) (n : ℕ) (vs more : List Value) → ((row : Row) → HasOther row n more → HasOther row n vs) → (term : BoundConj) → IsTermFalseBut sure n vs term → IsTermFalseBut sure n more term
-  with_more sure n vs more so term h columns kinds levels tables scopes line row on stands known at other = h columns kinds levels tables scopes line row on stands known at (so row other)
-
-  -- one term more
-  pub term_more : (sure : Sure) (terms : List BoundConj) (i : ℕ) (term : BoundConj) (tests : List BoundTest) (n : ℕ) (vs more next : List Value) → i < length terms → term ≡ slice_index_or terms i term → tests ≡ (out-BoundConj term).tests → next ≡ vs ++ more
-      → IsFalseAt s values user (AreTrusted sure tests) (joined tests) n more → AllByRecursion (IsTermFalseBut sure n vs) (take i terms) → AllByRecursion (IsTermFalseBut sure n next) (take (i + 1) terms)
-  term_more sure terms i term tests n vs more next within at are grown names so_far =
-      let inside = (out-BoundConj term).tests in
-      let own : IsTermFalseBut sure n more term =
-      alike (AreTrusted sure inside) (AreTrusted sure inside) (λ columns tables h. h) (conj_of [] term) (joined inside) (conj_of-out [] term) n more
-      (subst (λ (ts : List BoundTest). IsFalseAt s values user (AreTrusted sure ts) (joined ts) n more) are names) in
-      subst (λ (ws : List Value). AllByRecursion (IsTermFalseBut sure n ws) (take (i + 1) terms)) (sym grown)
-      (all_more (IsTermFalseBut sure n (vs ++ more)) terms i term within at
-      (with_more sure n more (vs ++ more) (λ row other. record { not_null = other.not_null; differs = all_right (λ v. is_same v (slice_index_or row n Null) ≡ false) vs more other.differs }) term own)
-      (all_weaker (IsTermFalseBut sure n vs) (IsTermFalseBut sure n (vs ++ more))
-      (with_more sure n vs (vs ++ more) (λ row other. record { not_null = other.not_null; differs = all_left (λ v. is_same v (slice_index_or row n Null) ≡ false) vs more other.differs })) (take i terms) so_far))
-
--- ---- tests that have a truth
-
-quiet_test : (test : BoundTest) → is_quiet (predicate_of [] test.predicate) ≡ true → is_quiet (test_of [] test) ≡ true
-quiet_test test h = ap is_quiet (test_of-out [] test) ∙ by test.negated
+-- what reads no view reads base tables
+pub bases_alone : (needed : Needed) (c : PlacedCond) → needed.views.items ≡ [] → ReadsCond (IsNeeded needed) c → ReadsCond IsOfStore c
+bases_alone needed c none reads = cond_reads_weaker (IsNeeded needed) IsOfStore so c reads
   where
-    by : (written : Bool) → is_quiet (not_if written (predicate_of [] test.predicate)) ≡ true
-    by true = h
-    by false = h
+    not_among : (places : List ℕ) (n : ℕ) → places ≡ [] → list_any (λ other. nat_eq other n) places ≡ true → ⊥
+    not_among [] n e h = cc
+    not_among (p ∷ places) n e h = cc
 
-pub compared_quiet : (test : BoundTest) (op : Comparison) (a b : BoundExpr) → test.predicate ≡ bound.Compare op a b → is_quiet_expr (expr_of [] a) ≡ true → is_quiet_expr (expr_of [] b) ≡ true → is_quiet (test_of [] test) ≡ true
-compared_quiet test op a b is first second = quiet_test test (ap (λ (p : Predicate). is_quiet (predicate_of [] p)) is ∙ quiet-Compare op a b ∙ (λ i. first i && second i))
+    so : (t : TablePlace) → IsNeeded needed t → IsOfStore t
+    so (Base n) is = tt
+    so (View n) is = absurd (not_among needed.views.items n none is)
 
-pub null_quiet : (test : BoundTest) (written : Bool) (a : BoundExpr) → test.predicate ≡ bound.Null written a → is_quiet_expr (expr_of [] a) ≡ true → is_quiet (test_of [] test) ≡ true
-null_quiet test written a is quiet = quiet_test test (ap (λ (p : Predicate). is_quiet (predicate_of [] p)) is ∙ quiet-Null written a ∙ quiet)
+module _ (bases : List BaseTable) (views : List BoundSpecification) (columns : TableKinds) (content : Content) (call : Context) (kinds_of_bases : KindsAreOf columns bases)
+    (kinds_of_views : (place : ℕ) (kinds : List Kind) → columns (View place) ≡ Ok kinds → IsViewQuery columns views place kinds)
+    (parameters : List Kind) (tables : TablePlace → Outcome (List Row)) (may : MayRead bases views columns content call.user call.parameters.now parameters tables)
+    (t : Target) (well : IsTarget columns parameters t) (there : t.base < length content) where
+  abbrev truth_here : BoundCond → Numbered → Outcome Truth
+  truth_here c r = truth_on_row tables call.parameters.now call.user r.row c
 
-pub one_more : (sure : Sure) (tests : List BoundTest) (i : ℕ) (test : BoundTest) → i < length tests → test ≡ slice_index_or tests i test → IsPassed sure test → AllByRecursion (IsPassed sure) (take i tests) → AllByRecursion (IsPassed sure) (take (i + 1) tests)
-one_more sure tests i test within at passed all = all_more (IsPassed sure) tests i test within at passed all
+  abbrev pub IsRowHere : Numbered → Type 0
+  IsRowHere r = IsRowOf (base_kinds t.leaf.table) r.row
 
--- ---- tests that are passed
+  abbrev rows_here : List Numbered
+  rows_here = (table_at content t.base).rows
 
-not_fails : (b : Bool) → not b ≡ true → b ≡ false
-not_fails true h = cc
-not_fails false h = refl
+  kinds : columns (Base t.base) ≡ Ok (base_kinds t.leaf.table)
+  kinds = ap (λ (p : ℕ). columns (Base p)) t.is_under ∙ well.leaf.kinds_are
 
-pub passed_all : (sure : Sure) (test : BoundTest) → sure ≡ All → IsPassed sure test
-passed_all sure test is = subst (λ (k : Sure). IsPassed k test) (sym is) (λ columns tables h. inl h)
+  pub rows_are : AllByRecursion IsRowHere rows_here
+  rows_are = rows_fit bases views columns content call.user call.parameters.now kinds_of_bases kinds_of_views parameters tables may t.base there (base_kinds t.leaf.table) kinds
 
-pub passed_noted : (sure : Sure) (test : BoundTest) → sure ≡ Noted → not test.can_fail ≡ true → IsPassed sure test
-passed_noted sure test is h = subst (λ (k : Sure). IsPassed k test) (sym is) (λ columns tables trusted. inl (trusted (not_fails test.can_fail h)))
+  own_is : (own : BoundCond) → t.condition ≡ Some own → IsCond columns parameters (of_base t.leaf.table) [] own
+  own_is own is = if_some (IsCond columns parameters (of_base t.leaf.table) []) t.condition own well.condition is
 
-pub passed_quiet : (sure : Sure) (test : BoundTest) → is_quiet (test_of [] test) ≡ true → IsPassed sure test
-passed_quiet sure test h = λ columns tables trusted. inr h
+  -- whether the own condition is true of a row is right
+  pub own_right : (own : BoundCond) → t.condition ≡ Some own → (row : Row) → IsRowOf (base_kinds t.leaf.table) row → IsRight (is_true (truth_on_row tables call.parameters.now call.user row own))
+  own_right own is row is_row =
+      true_right (truth_on_row tables call.parameters.now call.user row own)
+      (truth_answers bases views columns content call.user call.parameters.now kinds_of_bases kinds_of_views parameters tables may row own
+      (record { place = t.leaf.table.place; well = own_is own is; fits = subst (Has (λ ks. IsRowOf ks row)) (sym well.leaf.kinds_are) is_row }))
+
+  module _ (keys : List Keys) (rows : Found) (n : IsNamedTarget t content keys call rows) where
+    abbrev full : Sources
+    full = read_in content keys [] call
+
+    same_place : (u : TablePlace) → IsOfStore u → table_rows full u ≡ tables u
+    same_place (Base p) is = sym (may.meant.bases p)
+    same_place (View p) is = absurd is
+
+    out : (r : Numbered) → IsRowHere r → IsNeverMet (out-BoundCond n.own).terms full r.row → tested truth_here n.own r ≡ Ok false
+    out r is_row never =
+        let env = outside (r.row ∷ []) call.parameters.now call.user in
+        subst (λ (o : Outcome Truth). IsRight (is_true o) → is_true o ≡ Ok false)
+        (ap (λ (c : PlacedCond). truth (reading full) c env) (sym (cond_of-out [] n.own))
+        ∙ same_truth (table_rows full) tables (cond_of [] n.own) (cond_reads_weaker IsOfStore (λ u. table_rows full u ≡ tables u) same_place (cond_of [] n.own) n.reads) env)
+        (never (r.row ∷ []) refl) (own_right n.own n.is_own r.row is_row)
+
+    thins : Thins (λ r. tested truth_here n.own r ≡ Ok false) rows_here (numbered_rows rows)
+    thins =
+        let own = own_is n.own n.is_own in
+        let known = known_cond_of full n.own own.notes own.numbers in
+        thins_with IsRowHere (λ r. IsNeverMet (out-BoundCond n.own).terms full r.row) (λ r. tested truth_here n.own r ≡ Ok false) out rows_here (numbered_rows rows) rows_are
+        (n.named known.0 (own_noted columns parameters t n.own well n.is_own) (cond_held (IsKnown full known.0) n.own known.1))
+
+    -- those that are named are rows of the table
+    pub named_fit : AllByRecursion IsRowHere (numbered_rows rows)
+    named_fit = all_of_left IsRowHere (λ r. tested truth_here n.own r ≡ Ok false) rows_here (numbered_rows rows) thins rows_are
+
+    -- the target means the same rows among them
+    pub named_search : rows_of_target tables content call.parameters.now call.user t ≡ chosen_among tables t call (numbered_rows rows)
+    named_search =
+        ap (λ (o : Outcome (List Numbered)). and_then o (chosen_among tables t call)) (there_so content t.base there)
+        ∙ ap (λ (own : Option BoundCond). chosen (is_true_of tables call.parameters.now call.user) (and_own t.leaf.conditions own) rows_here) n.is_own
+        ∙ chosen_thinned truth_here n.own t.leaf.conditions rows_here (numbered_rows rows)
+        (view_truths tables columns parameters call.parameters.now call.user may.inputs t.leaf.table well.leaf.kinds_are rows_here rows_are t.leaf.conditions well.leaf.conditions (sym t.leaf.quiet ∙ n.quiet)) thins
+        ∙ sym (ap (λ (own : Option BoundCond). chosen (is_true_of tables call.parameters.now call.user) (and_own t.leaf.conditions own) (numbered_rows rows)) n.is_own)
+
+-- what is found among the terms of the own condition is named by it
+pub named_target : (t : Target) (content : Content) (keys : List Keys) (call : Context) (own : BoundCond) (r : Result (Option Found) Fault) → t.condition ≡ Some own → t.leaf.is_quiet ≡ true → ReadsCond IsOfStore (cond_of [] own)
+    → ((meant : Meant) → HasNotes own → KnowsTerms (read_in content keys [] call) (out-BoundCond own).terms meant
+    → HasAsked (IsNeverMet (out-BoundCond own).terms (read_in content keys [] call)) r (table_at content t.base))
+    → IfErr r (λ f. f ≡ fault.NoMemory) → HasNamedTarget r t content keys call
+named_target t content keys call own (Err f) is quiet reads named memory = memory
+named_target t content keys call own (Ok None) is quiet reads named memory = tt
+named_target t content keys call own (Ok (Some rows)) is quiet reads named memory = record { own = own; is_own = is; quiet = quiet; reads = reads; named = named }
+
+pub none_negated : (b : Bool) → not b ≡ false → b ≡ true
+none_negated true h = refl
+none_negated false h = cc
+
+-- ---- a target whose conditions are never a fault, over whatever tables
+
+module _ (tables : TablePlace → Outcome (List Row)) (columns : TableKinds) (parameters : List Kind) (values : List Value) (caller : Name) (given : IsRowOf parameters values)
+    (t : Target) (well : IsTarget columns parameters t) (quiet : t.is_quiet ≡ true) where
+  quiet_own : (own : BoundCond) → t.condition ≡ Some own → is_quiet_cond own ≡ true
+  quiet_own own is =
+      sym (ap (option_all is_quiet_cond) is) ∙ both_right (are_quiet_conds t.leaf.conditions) (option_all is_quiet_cond t.condition) (sym t.quiet ∙ quiet)
+
+  -- whether the own condition is true of a row is right
+  pub quiet_right : (own : BoundCond) → t.condition ≡ Some own → (row : Row) → IsRowOf (base_kinds t.leaf.table) row → IsRight (is_true (truth_on_row tables values caller row own))
+  quiet_right own is row is_row =
+      let well_own = if_some (IsCond columns parameters (of_base t.leaf.table) []) t.condition own well.condition is in
+      let place = t.leaf.table.place in
+      let there = truth_there (truth_on_row tables values caller row own)
+      (test_answers tables columns parameters values caller row (Base place) (subst (Has (λ ks. IsRowOf ks row)) (sym well.leaf.kinds_are) is_row) given (cond_of [] own)
+      (subst (WellFormedCond (by_place no_tables) (kinds_by_place columns parameters) (IsDeclaredAt parameters) (of_base_at place)) (sym (well_own.is_tree [])) (well_own.stands no_tables)) (quiet_own own is)) in
+      λ fails. subst HasValue fails there

@@ -1,9 +1,8 @@
--- Where a query specification is over one table, of which WHERE keeps the same among some of its rows, it has the rows that it has over those alone.
-use Rattle.std.proofs.Common.{◌≡◌, ◌∙◌, ℕ, Bool, true, false, List, [], ◌∷◌, Option, Some, None, cond, find, map, slice_get, refl, sym, ap, subst, Ok, Err}
-use Rattle.std.specs.Prelude.{if◌then◌else◌, nat_eq, option_to_list}
+-- A query specification over one table, whose WHERE clause keeps of the table's rows what it keeps of the one with a key.
+use Rattle.std.proofs.Common.{◌≡◌, ◌∙◌, ℕ, Bool, true, List, [], ◌∷◌, Option, Some, None, map, slice_get, refl, sym, ap, subst, Ok}
+use Rattle.std.specs.Prelude.{option_to_list}
 use Rattle.std.specs.List.{AllByRecursion}
 use Rattle.std.specs.Option.{option_map}
-use Rattle.std.proofs.lemmas.Bool.{eq-eqb}
 use Rattle.std.proofs.lemmas.Simd.{map-map}
 use Rattle.sq_lex.specs.declared.name.Name.{Name}
 use Rattle.sq_value.specs.declared.domain.Kind.{Kind}
@@ -15,7 +14,7 @@ use Rattle.sq_store.specs.declared.table.Table.{Table}
 use Rattle.sq_meaning.specs.Environment.{Line, Row}
 use Rattle.sq_meaning.specs.Placed.{by_place}
 use Rattle.sq_meaning.specs.Query.{is_true, truth}
-use Rattle.sq_meaning.specs.Status.{Outcome, and_then, kept, well_formed}
+use Rattle.sq_meaning.specs.Status.{Outcome, and_then, kept}
 use Rattle.sq_meaning.specs.Syntax.{present}
 use Rattle.sq_meaning.specs.Tables.{rows_in}
 use Rattle.sq_meaning.specs.WellFormed.{IsDeclaredAt, IsRowOf, WellFormedSelect, kinds_by_place}
@@ -26,25 +25,21 @@ use Rattle.sq_bound.specs.WellFormed.{IsSelect, TableKinds, base_kinds}
 use Rattle.sq_bound.specs.declared.condition.BoundCond.{BoundCond}
 use Rattle.sq_bound.specs.declared.condition.BoundSpecification.{BoundSpecification, out-BoundSpecification}
 use Rattle.sq_bound.specs.declared.condition.TablePlace.{TablePlace}
-use Rattle.sq_bound.specs.declared.condition.TablePlace.TheVariants.{Base, View}
+use Rattle.sq_bound.specs.declared.condition.TablePlace.TheVariants.{Base}
 use Rattle.sq_bound.specs.declared.names.BaseTable.{BaseTable}
 use Rattle.sq_bound.proofs.ConditionLaws.{select_of-out}
 use Rattle.sq_condition.specs.Specification.{as_line}
-use Rattle.sq_expression.specs.Fault.{IsAnswered}
-use Rattle.sq_expression.specs.Frame.{lent, view_outcome}
-use Rattle.sq_expression.specs.declared.fault.Fault.{Fault}
-use Rattle.sq_expression.specs.declared.fault.Fault.TheVariants as fault
-use Rattle.sq_expression.specs.declared.table.BaseRows.{BaseRows}
-use Rattle.sq_expression.specs.declared.table.ViewRows.{ViewRows}
+use Rattle.sq_expression.specs.Fault.{IsRight}
+use Rattle.sq_bound.specs.Noted.{HasNotes}
 use Rattle.sq_query.specs.Key.{IsKeyOn, StandsOn}
 use Rattle.sq_query.specs.Keyed.{IsKeyedBy, IsKeyedSelect}
 use Rattle.sq_query.specs.Needed.{ReadsSelect}
 use Rattle.sq_query.specs.Row.{outside}
-use Rattle.sq_query.specs.Specification.{IsOver, IsOverBase, IsWhere, with_rows}
-use Rattle.sq_query.specs.Table.{AreOfStore, rows_among}
+use Rattle.sq_query.specs.Named.{AreSureBases}
+use Rattle.sq_query.specs.Over.{IsOver, IsOverBase, IsWhere}
+use Rattle.sq_query.specs.Table.{AreOfStore}
 use Rattle.sq_query.specs.Target.{is_true_of}
 use Rattle.sq_query.specs.declared.key.KnownKey.{KnownKey}
-use Rattle.sq_query.specs.declared.view.Tables.{Tables}
 use Rattle.sq_query.proofs.Keys.KeySearch.{decided, rows_kept}
 use Rattle.sq_query.proofs.Targets.WalkedRows.{there_within}
 
@@ -87,6 +82,7 @@ lines_on found = map-map as_line (λ (r : Numbered). r.row) found
 module _ (tables : TablePlace → Outcome (List Row)) (columns : TableKinds) (parameters : List Kind) (values : List Value) (caller : Name) (given : IsRowOf parameters values)
     (bases : List BaseTable) (content : Content) (keys : List Keys) (place : ℕ) (b : BaseTable) (own : BoundCond) (known : KnownKey) (k : IsKeyOn place own content keys values caller known)
     (at : slice_get bases place ≡ Some b) (kinds_are : columns (Base place) ≡ Ok (base_kinds b)) (stands : StandsOn columns parameters (Base place) own) (keys_are : keys ≡ keys_of_bases bases) (nulls : not_nulls_hold bases content ≡ true)
+    (noted : HasNotes own) (sure : AreSureBases tables) (right : (row : Row) → IsRowOf (base_kinds b) row → IsRight (is_true (truth (by_place tables) (cond_of [] own) (outside (row ∷ []) values caller))))
     (rows_are : AllByRecursion (λ (r : Numbered). IsRowOf (base_kinds b) r.row) (table_at content place).rows) (keyed : are_keyed keys content ≡ true) where
   abbrev pub all_rows : List Numbered
   all_rows = (table_at content place).rows
@@ -107,43 +103,11 @@ module _ (tables : TablePlace → Outcome (List Row)) (columns : TableKinds) (pa
   lines_kept =
       kept_map line_on test_on all_rows
       ∙ ap (λ (o : Outcome (List Numbered)). and_then o (λ found. Ok (map line_on found)))
-      (rows_kept tables columns parameters values caller given bases content keys place b own known k at kinds_are stands keys_are nulls rows_are keyed ∙ sym (only_kept row_test has_it found_row))
+      (rows_kept tables columns parameters values caller given bases content keys place b own known k at kinds_are stands keys_are nulls noted sure right rows_are keyed ∙ sym (only_kept row_test has_it found_row))
       ∙ sym (kept_map line_on test_on (option_to_list found_row))
 
   pub all_stored : AreOfStore content tables → tables (Base place) ≡ Ok (rows_in (table_at content place))
   all_stored stored = stored place ∙ ap (λ (o : Outcome Table). and_then o (λ t. Ok (rows_in t))) (there_within content place k.table)
-
--- ---- tables of which one has other rows
-
-pub with_own : (t : TablePlace) (own : Outcome (List Row)) (tables : TablePlace → Outcome (List Row)) → with_rows t own tables t ≡ own
-with_own (Base n) own tables = ap (λ (b : Bool). if b then own else tables (Base n)) (eq-eqb n n refl)
-with_own (View n) own tables = ap (λ (b : Bool). if b then own else tables (View n)) (eq-eqb n n refl)
-
--- ---- what was read
-
--- a base table that stands before the others is found first
-pub own_first : (own : BaseRows) (bases : List BaseRows) (views : List ViewRows) (place : ℕ) (found : List Row) → own.place ≡ place → lent own.rows.items ≡ found → rows_among (own ∷ bases) views (Base place) ≡ Ok found
-own_first own bases views place found at are =
-    ap (λ (b : Bool). and_then (well_formed (cond b (Some own) (find (λ t. nat_eq t.place place) bases))) (λ t. Ok (lent t.rows.items))) (eq-eqb own.place place at)
-    ∙ ap (λ (rs : List Row). let is : Outcome (List Row) = Ok rs in is) are
-
--- a view that stands before the others is found, and they are behind it
-module _ (own : ViewRows) (bases : List BaseRows) (views : List ViewRows) (place : ℕ) (found : Outcome (List Row)) (at : own.place ≡ place) (are : view_outcome own.rows.items own.failure ≡ found) where
-  pub view_first : rows_among bases (own ∷ views) (View place) ≡ found
-  view_first = ap (λ (b : Bool). and_then (well_formed (cond b (Some own) (find (λ t. nat_eq t.place place) views))) (λ t. view_outcome t.rows.items t.failure)) (eq-eqb own.place place at) ∙ are
-
-  behind_view : (tables : TablePlace → Outcome (List Row)) (t : TablePlace) → rows_among bases views t ≡ tables t → rows_among bases (own ∷ views) t ≡ with_rows (View place) found tables t
-  behind_view tables (Base n) h = h
-  behind_view tables (View n) h =
-      ap (λ (p : ℕ). and_then (well_formed (cond (nat_eq p n) (Some own) (find (λ t. nat_eq t.place n) views))) (λ t. view_outcome t.rows.items t.failure)) at ∙ by (nat_eq place n)
-    where
-      by : (b : Bool) → and_then (well_formed (cond b (Some own) (find (λ t. nat_eq t.place n) views))) (λ t. view_outcome t.rows.items t.failure) ≡ (if b then found else tables (View n))
-      by true = are
-      by false = h
-
--- a refusal of memory is an answer
-pub answered_memory : (e : Fault) → e ≡ fault.NoMemory → IsAnswered {A = Tables} (Err e)
-answered_memory e is = subst (λ (f : Fault). IsAnswered {A = Tables} (Err f)) (sym is) tt
 
 -- ---- one that names a row by a key whose values are known
 

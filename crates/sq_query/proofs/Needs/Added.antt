@@ -30,7 +30,6 @@ use Rattle.sq_bound.specs.declared.condition.BoundSpecification.{BoundSpecificat
 use Rattle.sq_bound.specs.declared.condition.Grouping.{Grouping}
 use Rattle.sq_bound.specs.declared.condition.TablePlace.{TablePlace}
 use Rattle.sq_bound.specs.declared.condition.TablePlace.TheVariants.{Base, View}
-use Rattle.sq_query.specs.Inner.{ReadsAround, ReadsLines, around_tables, lines_tables}
 use Rattle.sq_query.specs.Needed.{ReadsCond, ReadsConds, ReadsClause, ReadsInside, ReadsSelect, IsNeeded, AreKnown, NeedsMore, NeedsNone, places_in, with_table, cond_tables, conds_tables, clause_tables, inside_tables, select_tables, specification_tables, Adds}
 use Rattle.sq_query.specs.declared.needed.Needed.{Needed}
 
@@ -219,16 +218,6 @@ module _ (before after : Needed) where
 
   pub conds_needed : (cs : Conds (Placed TablePlace)) → Adds before (conds_tables cs) after → ReadsConds (IsNeeded after) cs
   conds_needed cs adds = conds_read (IsNeeded after) cs (own before after (conds_tables cs) adds)
-
-  pub around_needed : (q : PlacedSelect) → Adds before (around_tables q) after → ReadsAround (IsNeeded after) q
-  around_needed (select distinct list from filter by having) adds =
-      let all = own before after (from ++ clause_tables having) adds in
-      (all_left (IsNeeded after) from (clause_tables having) all, clause_read (IsNeeded after) having (all_right (IsNeeded after) from (clause_tables having) all))
-
-  pub lines_needed : (q : PlacedSelect) → Adds before (lines_tables q) after → ReadsLines (IsNeeded after) q
-  lines_needed (select distinct list from filter by having) adds =
-      let all = own before after (from ++ clause_tables filter) adds in
-      (all_left (IsNeeded after) from (clause_tables filter) all, clause_read (IsNeeded after) filter (all_right (IsNeeded after) from (clause_tables filter) all))
 
   pub cond_needed : (c : PlacedCond) → Adds before (cond_tables c) after → ReadsCond (IsNeeded after) c
   cond_needed c adds = cond_read (IsNeeded after) c (own before after (cond_tables c) adds)

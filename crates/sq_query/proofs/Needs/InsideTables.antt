@@ -7,7 +7,6 @@ use Rattle.sq_bound.specs.declared.condition.BoundSpecification.{BoundSpecificat
 use Rattle.sq_bound.specs.declared.condition.Grouping.{Grouping, out-Grouping}
 use Rattle.sq_bound.specs.declared.condition.TablePlace.{TablePlace}
 use Rattle.sq_bound.proofs.ConditionLaws.{groups_of-out, select_of-out}
-use Rattle.sq_query.specs.Inner.{around_tables, lines_tables}
 use Rattle.sq_query.specs.Needed.{clause_tables, inside_tables, select_tables, specification_tables}
 
 inside_by : (s : BoundSpecification) (groups : Groups) → groups_if (option_map groups_of (out-BoundSpecification s).grouping) ≡ groups
@@ -30,24 +29,3 @@ pub items_and_inside : (s : BoundSpecification) → specification_tables s ≡ (
 items_and_inside s =
     let from = (out-BoundSpecification s).from.tables in
     ap select_tables (select_of-out s) ∙ ap (λ (ts : List TablePlace). from ++ ts) (sym (ap inside_tables (select_of-out s)))
-
--- ---- without the subqueries of its WHERE clause
-
-around_by : (s : BoundSpecification) (groups : Groups) → groups_if (option_map groups_of (out-BoundSpecification s).grouping) ≡ groups
-    → around_tables (select_of s) ≡ (out-BoundSpecification s).from.tables ++ clause_tables groups.having
-around_by s groups is =
-    let o = out-BoundSpecification s in
-    ap around_tables (select_of-out s) ∙ ap (λ (g : Groups). o.from.tables ++ clause_tables g.having) is
-
-pub around_ungrouped : (s : BoundSpecification) → (out-BoundSpecification s).grouping ≡ None → around_tables (select_of s) ≡ (out-BoundSpecification s).from.tables ++ []
-around_ungrouped s is = around_by s no_groups (ap (λ (g : Option Grouping). groups_if (option_map groups_of g)) is)
-
-pub around_grouped : (s : BoundSpecification) (g : Grouping) → (out-BoundSpecification s).grouping ≡ Some g
-    → around_tables (select_of s) ≡ (out-BoundSpecification s).from.tables ++ clause_tables (clause_of (map call_of (out-Grouping g).set_functions) (out-Grouping g).having)
-around_grouped s g is =
-    around_by s (groups_by (out-Grouping g).columns (map call_of (out-Grouping g).set_functions) (clause_of (map call_of (out-Grouping g).set_functions) (out-Grouping g).having))
-    (ap (λ (h : Option Grouping). groups_if (option_map groups_of h)) is ∙ groups_of-out g)
-
--- without those of its HAVING clause
-pub items_and_lines : (s : BoundSpecification) → lines_tables (select_of s) ≡ (out-BoundSpecification s).from.tables ++ clause_tables (clause_of [] (out-BoundSpecification s).condition)
-items_and_lines s = ap lines_tables (select_of-out s)

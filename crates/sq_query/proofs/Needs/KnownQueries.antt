@@ -17,9 +17,9 @@ use Rattle.sq_expression.specs.Lines.{env_around}
 use Rattle.sq_condition.specs.Memo.{Meant, MeantRows}
 use Rattle.sq_condition.specs.Specification.{rows_meant}
 use Rattle.sq_condition.specs.Subquery.{IsKnown, KnowsCond, KnowsQuery}
-use Rattle.sq_expression.specs.declared.context.Context.{Context}
+use Rattle.sq_expression.specs.Sources.{Sources}
 
-module _ (context : Context) where
+module _ (context : Sources) where
   -- the rows of the query specification that a number names
   rows_of_named : Option BoundSpecification → MeantRows
   rows_of_named None = not_well_formed
@@ -30,7 +30,7 @@ module _ (context : Context) where
     meant_by n = rows_of_named (named n)
 
     same_anywhere : (q : BoundSpecification) (number : Option ℕ) → IfSome number (λ n. IsClosed (select_of q)) → IfSome number (λ n. named n ≡ Some q)
-        → IfSome number (λ n. (scopes : List (Scope (Unit {0}))) → rows (reading context) (select_of q) (record { scopes = scopes; inputs = inputs_of context.parameters.now; user = context.user }) ≡ meant_by n)
+        → IfSome number (λ n. (scopes : List (Scope (Unit {0}))) → rows (reading context) (select_of q) (record { scopes = scopes; inputs = inputs_of context.parameters; user = context.user }) ≡ meant_by n)
     unfolding rows_of_named meant_by
     same_anywhere q None closed is = tt
     same_anywhere q (Some n) closed is =

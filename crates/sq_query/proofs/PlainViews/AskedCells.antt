@@ -159,6 +159,22 @@ module _ (f : TablePlace → Outcome (List Row)) (env : Env (Unit {0})) where
               (cell_at scope so.0 v (own_there columns t so.0 (subst IsKnown tree known.0)) (ap (λ (x : PlacedExpr). value (by_place f) x (within scope env)) (sym tree) ∙ is)))
           at (suc m) shown v is vs later = later m shown
 
+      column_there : (p : Place) (n : ℕ) → p.column ≡ n → IsOwn p → IsKnown (column p) → HasValue (and_then (columns t) (λ ks. well_formed (slice_get ks n)))
+      column_there p n at own known =
+          let here : p ≡ record { depth = 0; item = 0; column = n } = λ i. record { depth = own.0 i; item = own.1 i; column = at i } in
+          subst (λ (q : Place). IsKnown (column q)) here known
+
+      -- the column of the table that is shown is there
+      pub shown_there : (bound : List BoundExpr) (n position : ℕ) → Shows bound n position → AllByRecursion IsKnown (map (expr_of functions) bound) → HasValue (and_then (columns t) (λ ks. well_formed (slice_get ks n)))
+      shown_there [] n position h known = absurd cc
+      shown_there (b ∷ bound) n zero h known =
+          let same = column_stays functions any_expr (λ x. tt) (λ x. tt) tt (λ x. tt) (λ x. tt) (λ s x y. tt) b n h in
+          let so = column_so (expr_of [] b) n h in
+          let tree : expr_of functions b ≡ column so.0 = same ∙ so.1 in
+          let k = subst IsKnown tree known.0 in
+          column_there so.0 n so.2 (own_there columns t so.0 k) k
+      shown_there (b ∷ bound) n (suc m) h known = shown_there bound n m h known.1
+
       pub shown_cells : (bound : List BoundExpr) (scope : Scope (Unit {0})) (row : Row) (ns positions : List ℕ) → AllZip (Shows bound) ns positions → AllByRecursion IsKnown (map (expr_of functions) bound)
           → each (λ e. value (by_place f) e (within scope env)) (map (expr_of functions) bound) ≡ Ok row → in_columns row positions ≡ in_columns (first_row scope.line) ns
       shown_cells bound scope row [] [] h known e = refl

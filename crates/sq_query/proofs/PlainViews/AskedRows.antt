@@ -16,8 +16,11 @@ use Rattle.sq_meaning.proofs.AnswerLaws.{all_firsts, all_true, all_weaker}
 use Rattle.sq_bound.specs.Condition.{PlacedClause}
 use Rattle.sq_bound.specs.Expression.{PlacedExpr}
 use Rattle.sq_bound.specs.declared.condition.TablePlace.{TablePlace}
-use Rattle.sq_query.proofs.Keys.KeyOut.{all_both}
 use Rattle.sq_query.proofs.PlainViews.Classes.{BeginsLike, classes_begin, classes_filtered, each_all, each_filtered, each_still, firsts_filtered, kept_filtered, map_filtered, ok, same_ok, then_there}
+
+all_both : {A : Type 0} (P Q R : A → Type 0) → ((x : A) → P x → Q x → R x) → (xs : List A) → AllByRecursion P xs → AllByRecursion Q xs → AllByRecursion R xs
+all_both P Q R so [] p q = tt
+all_both P Q R so (x ∷ xs) p q = (so x p.0 q.0, all_both P Q R so xs p.1 q.1)
 
 module _ (f : TablePlace → Outcome (List Row)) (list : SelectList (Placed TablePlace)) (having : PlacedClause) (env : Env (Unit {0})) (passes : Line → Bool) (is_wanted : Row → Bool) where
   abbrev heads : List (Unit {0})

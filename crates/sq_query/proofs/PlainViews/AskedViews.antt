@@ -1,6 +1,6 @@
 -- Asking the table of a plain view by columns asks the view by those that show them: over the rows of the table with wanted values there, the query
 -- of the view has those of its rows that have wanted values. And it never ends with a status (ISO/IEC 9075:1992, 7.6 to 7.9 and 11.19).
-use Rattle.std.proofs.Common.{◌≡◌, ◌∙◌, ℕ, Bool, true, false, ◌&&◌, ◌||◌, ◌++◌, List, [], ◌∷◌, Option, Some, None, filter, length, map, nat_eq, nat_lt, refl, sym, ap, subst, Ok}
+use Rattle.std.proofs.Common.{◌≡◌, ◌∙◌, ℕ, Bool, true, false, ◌&&◌, ◌||◌, ◌++◌, List, [], ◌∷◌, Option, Some, None, filter, length, map, slice_get, nat_eq, nat_lt, refl, sym, ap, subst, Ok}
 use Rattle.std.specs.Prelude.{⊤, if◌then◌else◌}
 use Rattle.std.specs.List.{AllByRecursion, AllZip, list_all, list_any}
 use Rattle.std.specs.Option.{option_map}
@@ -15,9 +15,9 @@ use Rattle.sq_meaning.specs.Placed.{Placed, by_place}
 use Rattle.sq_meaning.specs.Query.{clause_functions, clause_truth, is_grouped, is_some_of, is_true, list_functions, rows}
 use Rattle.sq_meaning.specs.Quiet.{are_quiet, is_quiet}
 use Rattle.sq_meaning.specs.Rows.{firsts, product, same_row}
-use Rattle.sq_meaning.specs.Status.{Outcome, and_then, each, kept}
+use Rattle.sq_meaning.specs.Status.{Outcome, and_then, each, kept, well_formed}
 use Rattle.sq_meaning.specs.Syntax.{Conds, a_cond, absent, between, compare, compare_quantified, compare_subquery, conjunction, disjunction, exists, expressions, in_list, in_subquery, is_null, like, negated, no_cond, select}
-use Rattle.sq_meaning.specs.WellFormed.{IsDeclaredAt, WellFormedColumn, WellFormedExpr, WellFormedSelect, kinds_by_place, of_lines, shown_level}
+use Rattle.sq_meaning.specs.WellFormed.{HasValue, IsDeclaredAt, WellFormedColumn, WellFormedExpr, WellFormedSelect, kinds_by_place, of_lines, shown_level}
 use Rattle.sq_meaning.proofs.AnswerLaws.{all_true, all_weaker}
 use Rattle.sq_bound.specs.Condition.{Groups, PlacedClause, PlacedCond, PlacedSelect, clause_of, cond_of, groups_by, groups_if, groups_of, select_by, select_of}
 use Rattle.sq_bound.specs.Expression.{PlacedExpr, expr_of, place_meant}
@@ -40,12 +40,12 @@ use Rattle.sq_bound.proofs.QuietRows.{no_tables}
 use Rattle.sq_bound.proofs.QuietTruths.{both_left, both_right}
 use Rattle.sq_condition.specs.Specification.{as_line}
 use Rattle.sq_condition.proofs.NoFunctions.{have_none}
-use Rattle.sq_query.specs.Needed.{ReadsClause, ReadsCond, ReadsConds, ReadsSelect}
+use Rattle.sq_query.specs.Needed.{ReadsClause, ReadsCond, ReadsConds, ReadsInside, ReadsSelect}
 use Rattle.sq_query.specs.Shown.{Asks, IsPlainOver, Shows, is_grouped_by, is_quiet_beside, is_sure_call, is_sure_grouping, is_unwritten}
 use Rattle.sq_query.specs.Table.{rows_of_view}
 use Rattle.sq_query.proofs.Needs.AnyTables.{listed_over, scopes_over}
 use Rattle.sq_query.proofs.Needs.SameTables.{over_rows, same_clause, shown_of, wanted_of}
-use Rattle.sq_query.proofs.PlainViews.AskedCells.{IsKnown, IsOwn, all_cells, cells_alike, clause_sure, first_row, key_cells, listed_sure, own_there, shown_cells}
+use Rattle.sq_query.proofs.PlainViews.AskedCells.{IsKnown, IsOwn, all_cells, cells_alike, clause_sure, first_row, key_cells, listed_sure, own_there, shown_cells, shown_there}
 use Rattle.sq_query.proofs.PlainViews.AskedRows.{AreAlikeBy, asked_lines}
 use Rattle.sq_query.proofs.PlainViews.Classes.{map_filtered}
 use Rattle.sq_query.proofs.PlainViews.SureRows.{AreSureOn, AreSureParts, IsShort, IsSure, IsSureWith, as_short, call_sure, map_long, rows_sure, true_sure}
@@ -280,6 +280,17 @@ module _ (q : BoundSpecification) (t : TablePlace) (columns : TableKinds) (plain
   -- it reads its only table alone
   pub plain_reads : (P : TablePlace → Type 0) → P t → ReadsSelect P (select_of q)
   plain_reads P first = subst (ReadsSelect P) (sym here.is_tree) (tree_reads t columns caller distinct bound condition here.functions here.by here.having here.is_plain P first)
+
+  -- a column of the table that it shows is there
+  pub plain_there : (own position : ℕ) → Shows bound own position → HasValue (and_then (columns t) (λ ks. well_formed (slice_get ks own)))
+  plain_there own position shows =
+      shown_there no_tables (outermost [] caller) here.functions columns t bound own position shows
+      (all_weaker (WellFormedExpr (by_place no_tables) (kinds_by_place columns []) (IsDeclaredAt []) (shown_level {N = Placed TablePlace} (expressions (map (expr_of here.functions) bound)) (t ∷ []) here.by here.having ∷ []))
+      (λ e. IsKnown no_tables (outermost [] caller) here.functions columns t e) (λ e w. w.0) (map (expr_of here.functions) bound) here.is_plain.stands.1)
+
+  -- it has no subquery
+  pub plain_inside : (P : TablePlace → Type 0) → ReadsInside P (select_of q)
+  plain_inside P = subst (ReadsInside P) (sym here.is_tree) (clause_reads P condition plain.sure, subst (ReadsClause P) (sym here.is_plain.no_having) tt)
 
   -- of fewer rows than a count may have it has no more, or ends with 42000
   pub plain_sure : (f : TablePlace → Outcome (List Row)) (all : List Row) → f t ≡ Ok all → IsShort all → IsSureWith IsShort (rows_of_view f caller q)

@@ -1,30 +1,18 @@
 -- The views of a path, each found by its place (ISO/IEC 9075:1992, 11.19).
-use Rattle.std.proofs.Common.{◌≡◌, ◌∙◌, ℕ, ◌<◌, List, [], ◌∷◌, Option, Some, None, Result, Bor, Ok, Err, ◌++◌, ap, refl, sym, subst}
-use Rattle.std.specs.Prelude.{IfOk, IfSome, slice_get}
+use Rattle.std.proofs.Common.{◌≡◌, ◌∙◌, ℕ, ◌<◌, List, [], ◌∷◌, ap, refl, sym, subst}
+use Rattle.std.specs.Prelude.{IfSome, Option, None, Some, slice_get}
 use Rattle.std.specs.List.{AllZip}
-use Rattle.std.specs.declared.alloc.AllocError.{AllocError}
-use Rattle.sq_lex.specs.declared.name.Name.{Name}
-use Rattle.sq_meaning.specs.Environment.{Row}
-use Rattle.sq_meaning.specs.Status.{Outcome, and_then, well_formed}
 use Rattle.sq_meaning.specs.WellFormed.{HasValue}
 use Rattle.sq_bound.specs.WellFormed.{IsSelect, TableKinds, before_view}
 use Rattle.sq_bound.specs.declared.condition.BoundSpecification.{BoundSpecification}
 use Rattle.sq_bound.specs.declared.condition.TablePlace.{TablePlace}
 use Rattle.sq_bound.specs.declared.condition.TablePlace.TheVariants.{Base, View}
 use Rattle.sq_bound.specs.declared.names.View.{View as BoundView}
-use Rattle.sq_expression.specs.Fault.{IsRight}
-use Rattle.sq_expression.specs.Frame.{view_outcome}
-use Rattle.sq_expression.specs.declared.fault.Fault.{Fault}
-use Rattle.sq_expression.specs.declared.table.ViewRows.{ViewRows}
-use Rattle.sq_query.specs.Specification.{IsOver, with_rows}
-use Rattle.sq_query.specs.Asked.{AreAsked, AreThrough, IsThrough, IsUnderneath}
-use Rattle.sq_query.specs.declared.plain_view.Underneath.{Underneath}
-use Rattle.sq_query.specs.Shown.{AreRight, AreShown, Asks, AsksAt, IsPath, IsPlainOver, IsPlainView, first_of, shown_of}
-use Rattle.sq_query.specs.Table.{IsViewAt, rows_of_view}
-use Rattle.sq_query.proofs.Keys.KnownKeys.{same_some}
+use Rattle.sq_query.specs.Over.{IsOver}
+use Rattle.sq_query.specs.Shown.{AreShown, Asks, AsksAt, IsPath, IsPlainOver, IsPlainView, first_of}
+use Rattle.sq_query.specs.Table.{IsViewAt}
 use Rattle.sq_query.proofs.Needs.NeededViews.{reads_known, stands_before}
-use Rattle.sq_query.proofs.Keys.Searched.{only_read}
-use Rattle.sq_query.proofs.PlainViews.ThroughViews.{before_same}
+use Rattle.sq_query.proofs.PlainViews.OneTable.{before_same, only_read, same_some}
 
 -- ---- the table under a view
 
@@ -71,88 +59,42 @@ module _ (columns : TableKinds) (queries : List BoundSpecification) (view base :
   no_view_next none [] path = refl
   no_view_next none (v ∷ views) path = absurd (none v (over_same (View v) path.0))
 
+-- a view has one path
+module _ (columns : TableKinds) (queries : List BoundSpecification) where
+  pub same_path : (view : ℕ) (views others : List ℕ) (base other : ℕ) → IsPath columns queries (view ∷ views) base → IsPath columns queries (view ∷ others) other → views ≡ others
+  same_path view [] [] base other one two = refl
+  same_path view [] (u ∷ others) base other one two = absurd (over_either one.0.query base u one.0.plain.over (over_same columns queries view base one.0.query one.0.is_query (View u) two.0))
+  same_path view (v ∷ views) [] base other one two = absurd (over_either two.0.query other v two.0.plain.over (over_same columns queries view base two.0.query two.0.is_query (View v) one.0))
+  same_path view (v ∷ views) (u ∷ others) base other one two =
+      let same : v ≡ u = over_views one.0.query v u one.0.plain.over (over_same columns queries view base one.0.query one.0.is_query (View u) two.0) in
+      let below = subst (λ (n : ℕ). IsPath columns queries (n ∷ views) base) same one.1 in
+      λ i. same i ∷ same_path u views others base other below two.1 i
+
 -- ---- columns that are shown
 
-module _ (queries : List BoundSpecification) (view : ℕ) (q : BoundSpecification) (among : slice_get queries view ≡ Some q) (own : List ℕ) where
+module _ (queries : List BoundSpecification) (view : ℕ) (q : BoundSpecification) (among : slice_get queries view ≡ Some q) where
   pub shows_at : (between columns : List ℕ) → AllZip (Asks q) between columns → AsksAt queries view between columns
   shows_at between columns zipped = subst (λ (o : Option BoundSpecification). IfSome o (λ s. AllZip (Asks s) between columns)) (sym among) zipped
-
-zip_joined : {A B : Type 0} (R : A → B → Type 0) (xs others : List A) (ys more : List B) → AllZip R xs ys → AllZip R others more → AllZip R (xs ++ others) (ys ++ more)
-zip_joined R [] others [] more one two = two
-zip_joined R [] others (y ∷ ys) more one two = absurd one
-zip_joined R (x ∷ xs) others [] more one two = absurd one
-zip_joined R (x ∷ xs) others (y ∷ ys) more one two = (one.0, zip_joined R xs others ys more one.1 two)
-
-module _ (queries : List BoundSpecification) where
-  asks_joined : (o : Option BoundSpecification) (xs others ys more : List ℕ) → IfSome o (λ q. AllZip (Asks q) xs ys) → IfSome o (λ q. AllZip (Asks q) others more) → IfSome o (λ q. AllZip (Asks q) (xs ++ others) (ys ++ more))
-  asks_joined None xs others ys more one two = tt
-  asks_joined (Some q) xs others ys more one two = zip_joined (Asks q) xs others ys more one two
-
-  shown_joined : (views xs others ys more : List ℕ) → AreShown queries views xs ys → AreShown queries views others more → AreShown queries views (xs ++ others) (ys ++ more)
-  shown_joined [] xs others ys more one two = λ i. one i ++ two i
-  shown_joined (view ∷ views) xs others ys more one two =
-      (one.0 ++ two.0, shown_joined views xs others one.0 two.0 one.1 two.1, asks_joined (slice_get queries view) one.0 two.0 ys more one.2 two.2)
-
-  none_shown : (views : List ℕ) → AreShown queries views [] []
-  none_shown [] = refl
-  none_shown (view ∷ views) = ([], none_shown views, by (slice_get queries view))
-    where
-      by : (o : Option BoundSpecification) → IfSome o (λ q. AllZip (Asks q) [] [])
-      by None = tt
-      by (Some q) = tt
-
-  -- one column more
-  pub shown_more : (views : List ℕ) (c n : ℕ) (cs ns : List ℕ) → AreShown queries views (c ∷ []) (n ∷ []) → AreShown queries views cs ns → AreShown queries views (c ∷ cs) (n ∷ ns)
-  shown_more views c n cs ns one more = shown_joined views (c ∷ []) cs (n ∷ []) ns one more
-
-  -- columns that are shown each are shown together
-  pub shown_each : (views cs ns : List ℕ) → AllZip (λ c n. AreShown queries views (c ∷ []) (n ∷ [])) cs ns → AreShown queries views cs ns
-  shown_each views [] [] each = none_shown views
-  shown_each views [] (n ∷ ns) each = absurd each
-  shown_each views (c ∷ cs) [] each = absurd each
-  shown_each views (c ∷ cs) (n ∷ ns) each = shown_more views c n cs ns each.0 (shown_each views cs ns each.1)
 
 -- ---- what is under a view
 
 module _ (columns : TableKinds) (queries : List BoundSpecification) (view : ℕ) (v : BoundView) (among : slice_get queries view ≡ Some v.query) (is : IsViewAt columns view v) where
   -- a base table
-  pub base_beneath : (base : ℕ) (through : Option (Bor (List (Option ℕ)))) (u : Underneath) → IsPlainOver v.query (Base base) → u.base ≡ base → through ≡ None → AreThrough v.query through u.columns.items → IsUnderneath columns queries view u
-  base_beneath base through u plain at none are = record {
-    views = [];
-    path = (plain_view columns queries view (Base u.base) v among is (subst (λ (n : ℕ). IsPlainOver v.query (Base n)) (sym at) plain), tt);
-    are = λ own column here.
-        let h = subst (λ (t : Option (Bor (List (Option ℕ)))). IsThrough v.query t own column) none (are own column here) in
-        (h.0 ∷ [], ap (λ (n : ℕ). n ∷ []) h.2, shows_at queries view v.query among [] (h.0 ∷ []) (column ∷ []) (h.1, tt));
-  }
+  pub base_beneath : (base : ℕ) → IsPlainOver v.query (Base base) → (views : List ℕ) × IsPath columns queries (view ∷ views) base
+  base_beneath base plain = ([], (plain_view columns queries view (Base base) v among is plain, tt))
+
+  pub column_beneath : (base own column : ℕ) → IsPlainOver v.query (Base base) → Asks v.query own column → (views : List ℕ) × IsPath columns queries (view ∷ views) base × AreShown queries (view ∷ views) (own ∷ []) (column ∷ [])
+  column_beneath base own column plain asks =
+      ([], (plain_view columns queries view (Base base) v among is plain, tt), (own ∷ [], refl, shows_at queries view v.query among (own ∷ []) (column ∷ []) (asks, tt)))
 
   -- another view
-  view_beneath : (under : ℕ) (next u : Underneath) → IsPlainOver v.query (View under) → IsUnderneath columns queries under next → u.base ≡ next.base → AreAsked v.query next.columns.items u.columns.items → IsUnderneath columns queries view u
-  view_beneath under next u plain below at are = record {
-    views = under ∷ below.views;
-    path = (plain_view columns queries view (View under) v among is plain, subst (IsPath columns queries (under ∷ below.views)) (sym at) below.path);
-    are = λ own column here. let h = are own column here in (h.0 ∷ [], below.are own h.0 h.2, shows_at queries view v.query among [] (h.0 ∷ []) (column ∷ []) (h.1, tt));
-  }
+  pub view_beneath : (under : ℕ) → IsPlainOver v.query (View under) → (o : Option ℕ) → IfSome o (λ base. (views : List ℕ) × IsPath columns queries (under ∷ views) base) → IfSome o (λ base. (views : List ℕ) × IsPath columns queries (view ∷ views) base)
+  view_beneath under plain None below = tt
+  view_beneath under plain (Some base) below = (under ∷ below.0, (plain_view columns queries view (View under) v among is plain, below.1))
 
-  pub beneath_so : (under : ℕ) (next : Underneath) (r : Result (Option Underneath) AllocError) → IsPlainOver v.query (View under) → IsUnderneath columns queries under next
-      → IfOk r (λ found. IfSome found (λ u. (u.base ≡ next.base) × AreAsked v.query next.columns.items u.columns.items)) → IfOk r (λ found. IfSome found (IsUnderneath columns queries view))
-  beneath_so under next (Err e) plain below h = tt
-  beneath_so under next (Ok None) plain below h = tt
-  beneath_so under next (Ok (Some u)) plain below h = view_beneath under next u plain below h.0 h.1
-
--- ---- rows that are shown
-
-module _ (own : List Row) (tables : TablePlace → Outcome (List Row)) (user : Name) (columns : TableKinds) (queries : List BoundSpecification) (base : ℕ) where
-  abbrev pub few_of : List ℕ → TablePlace → Outcome (List Row)
-  few_of views = with_rows (first_of views base) (shown_of own tables user queries base views) tables
-
-  abbrev pub IsShownOf : Result ViewRows Fault → Outcome (List Row) → Type 0
-  IsShownOf r o = IfOk r (λ found. view_outcome found.rows.items found.failure ≡ o)
-
-  -- what a view's query has over what the next view shows is what the view shows
-  pub rows_shown_of : (view : ℕ) (views : List ℕ) (r : Result ViewRows Fault) → IsPath columns queries (view ∷ views) base → AreRight own tables user queries base (view ∷ views)
-      → ((q : BoundSpecification) → slice_get queries view ≡ Some q → IsPlainOver q (first_of views base) → IsRight (rows_of_view (few_of views) user q) → IsShownOf r (rows_of_view (few_of views) user q))
-      → IsShownOf r (shown_of own tables user queries base (view ∷ views))
-  rows_shown_of view views r path right shows =
-      let v = path.0 in
-      let same = ap (λ (o : Option BoundSpecification). and_then (well_formed o) (rows_of_view (few_of views) user)) v.is_query in
-      subst (IsShownOf r) (sym same) (shows v.query v.is_query v.plain (subst (λ (o : Outcome (List Row)). IsRight o) same right.0))
+  pub column_through : (under between column : ℕ) → IsPlainOver v.query (View under) → Asks v.query between column → (o : Option (ℕ × ℕ))
+      → IfSome o (λ found. (views : List ℕ) × IsPath columns queries (under ∷ views) found.0 × AreShown queries (under ∷ views) (found.1 ∷ []) (between ∷ []))
+      → IfSome o (λ found. (views : List ℕ) × IsPath columns queries (view ∷ views) found.0 × AreShown queries (view ∷ views) (found.1 ∷ []) (column ∷ []))
+  column_through under between column plain asks None below = tt
+  column_through under between column plain asks (Some found) below =
+      (under ∷ below.0, (plain_view columns queries view (View under) v among is plain, below.1), (between ∷ [], below.2, shows_at queries view v.query among (between ∷ []) (column ∷ []) (asks, tt)))

@@ -1,10 +1,9 @@
 -- The rows of a base table that well-formed conditions choose, those with subqueries too (ISO/IEC 9075:1992, 13.7 and 13.10).
 use Rattle.std.proofs.Common.{◌≡◌, ◌∙◌, Bool, Bor, ℕ, ◌+◌, ◌<◌, ◌≤◌, List, [], ◌∷◌, ◌++◌, length, drop, take, map, get_or, Result, refl, sym, ap, subst, Ok, Err}
-use Rattle.std.specs.Prelude.{⊤, IfErr, IfOk}
+use Rattle.std.specs.Prelude.{⊤, IfErr}
 use Rattle.std.specs.List.{AllByRecursion}
 use Rattle.std.specs.Result.{IsErrAnd}
 use Rattle.std.proofs.lemmas.List.{map_push, take_all, take_more}
-use Rattle.std.proofs.lemmas.Result.{IfOk-weaker}
 use Rattle.sq_lex.specs.declared.name.Name.{Name}
 use Rattle.sq_value.specs.declared.domain.Kind.{Kind}
 use Rattle.sq_value.specs.declared.truth.Truth.{Truth}
@@ -15,7 +14,7 @@ use Rattle.sq_store.specs.declared.table.Numbered.{Numbered}
 use Rattle.sq_store.specs.declared.table.Table.{Table}
 use Rattle.sq_meaning.specs.Environment.{Row}
 use Rattle.sq_meaning.specs.Query.{is_true}
-use Rattle.sq_meaning.specs.Status.{Outcome, and_then, each, kept}
+use Rattle.sq_meaning.specs.Status.{Outcome, and_then, kept}
 use Rattle.sq_meaning.specs.WellFormed.{Answers, Has, HasValue, IsRowOf}
 use Rattle.sq_meaning.proofs.AnswerLaws.{all_appended, all_weaker, kept_answers, then_answers, valued}
 use Rattle.sq_bound.specs.Condition.{cond_of}
@@ -29,18 +28,16 @@ use Rattle.sq_bound.specs.declared.names.BaseTable.{BaseTable}
 use Rattle.sq_bound.specs.declared.query.Target.{Target}
 use Rattle.sq_bound.proofs.Wider.{is_cond_wider}
 use Rattle.sq_expression.specs.Fault.{IsRight}
-use Rattle.sq_expression.specs.Frame.{table_rows}
 use Rattle.sq_query.specs.MayRead.{MayEnd, MayRead}
-use Rattle.sq_query.specs.Needed.{Adds, IsNeeded, NeedsBases, ReadsCond, cond_tables}
+use Rattle.sq_query.specs.Needed.{Adds, IsNeeded, ReadsCond, cond_tables}
 use Rattle.sq_query.specs.Row.{outside, truth_on_row}
-use Rattle.sq_query.specs.Table.{ReadsAsMeant, bases_of, rows_read, stored_base, stored_numbered}
+use Rattle.sq_query.specs.Table.{ReadsAsMeant, stored_numbered}
 use Rattle.sq_query.specs.Target.{AreKnownIn, AreOnBase, chosen, conditions_of, is_true_of}
-use Rattle.sq_expression.specs.declared.context.Context.{Context}
+use Rattle.sq_expression.specs.Sources.{Sources}
 use Rattle.sq_expression.specs.declared.fault.Failure.TheVariants as failure
 use Rattle.sq_expression.specs.declared.fault.Fault.{Fault}
 use Rattle.sq_expression.specs.declared.fault.Fault.TheVariants as fault
 use Rattle.sq_query.specs.declared.needed.Needed.{Needed}
-use Rattle.sq_query.specs.declared.view.Tables.{Tables}
 use Rattle.sq_query.proofs.Needs.Added.{cond_needed, needs_more}
 use Rattle.sq_query.proofs.Targets.Chosen.{chosen_failed}
 use Rattle.sq_query.proofs.Keys.KeyedRows.{both_are}
@@ -75,7 +72,7 @@ module _ (columns : TableKinds) (parameters : List Kind) (place : ℕ) where
   IsOnBase = IsCond columns parameters (of_base_at place) []
 
   -- the subqueries of conditions on a base table are known
-  pub all_known_in : (context : Context) (cs : List BoundCond) → AllByRecursion IsOnBase cs → AreKnownIn context cs
+  pub all_known_in : (context : Sources) (cs : List BoundCond) → AllByRecursion IsOnBase cs → AreKnownIn context cs
   all_known_in context [] well = tt
   all_known_in context (c ∷ cs) well = (known_cond_of context c well.0.notes well.0.numbers, all_known_in context cs well.1)
 
@@ -99,15 +96,9 @@ pub all_read : (needed : Needed) (xs : List (Bor BoundCond)) (i : ℕ) → lengt
 all_read needed xs i past = subst (λ (ys : List (Bor BoundCond)). AllByRecursion (ReadsIn needed) (map (λ (d : Bor BoundCond). d.now) ys)) (take_all i xs past)
 
 -- conditions read the tables as they are meant
-pub all_conds_read_as : {E : Type 0} (r : Result Needed E) (content : Content) (read : Tables) → ((places : List ℕ) → IfOk r (NeedsBases places) → each (stored_base content) places ≡ Ok (bases_of read))
-    → (context : Context) → context.bases.now ≡ read.bases.items → context.views.now ≡ read.views.items → (tables : TablePlace → Outcome (List Row)) → IfOk r (λ n. ReadsAsMeant n (rows_read read) tables)
-    → (cs : List BoundCond) → IfOk r (λ n. AllByRecursion (ReadsIn n) cs)
-    → AllByRecursion (λ c. ReadsCond (λ t. table_rows context t ≡ tables t) (cond_of [] c)) cs
-all_conds_read_as r content read bases context bases_are views_are tables meant [] reads = tt
-all_conds_read_as r content read bases context bases_are views_are tables meant (c ∷ cs) reads = (
-  cond_read_as r content read bases context bases_are views_are tables meant c (IfOk-weaker r (λ n. AllByRecursion (ReadsIn n) (c ∷ cs)) (λ n. ReadsIn n c) (λ n all. all.0) reads),
-  all_conds_read_as r content read bases context bases_are views_are tables meant cs (IfOk-weaker r (λ n. AllByRecursion (ReadsIn n) (c ∷ cs)) (λ n. AllByRecursion (ReadsIn n) cs) (λ n all. all.1) reads),
-)
+pub all_conds_read_as : (needed : Needed) (found tables : TablePlace → Outcome (List Row)) → ReadsAsMeant needed found tables → (cs : List BoundCond) → AllByRecursion (ReadsIn needed) cs
+    → AllByRecursion (λ c. ReadsCond (λ t. found t ≡ tables t) (cond_of [] c)) cs
+all_conds_read_as needed found tables as_meant = all_weaker (ReadsIn needed) (λ c. ReadsCond (λ t. found t ≡ tables t) (cond_of [] c)) (cond_read_as needed found tables as_meant)
 
 -- over tables that mean the same they choose the same rows
 module _ (f g : TablePlace → Outcome (List Row)) (parameters : List Value) (user : Name) where

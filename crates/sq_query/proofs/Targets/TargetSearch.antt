@@ -1,5 +1,5 @@
 -- What a target names by a key is what a search over all rows finds: the conditions of the views between have a truth on each row, and the
--- target's own condition is false on each row without the key.
+-- target's own condition is true of no row without the key.
 use Rattle.std.proofs.Common.{◌≡◌, ◌∙◌, ℕ, Bool, true, false, ◌||◌, List, [], ◌∷◌, ◌++◌, cond, find, Option, Some, None, refl, sym, ap, subst, Ok, Err}
 use Rattle.std.specs.Prelude.{if◌then◌else◌}
 use Rattle.std.specs.List.{AllByRecursion, list_any}
@@ -20,6 +20,7 @@ use Rattle.sq_meaning.specs.WellFormed.{Has, HasValue, IsDeclaredAt, IsRowOf, We
 use Rattle.sq_meaning.proofs.AnswerLaws.{all_weaker}
 use Rattle.sq_bound.specs.Condition.{cond_of}
 use Rattle.sq_bound.specs.Fits.{IsBase, keys_of_bases, not_nulls_hold}
+use Rattle.sq_bound.specs.Noted.{HasNotes}
 use Rattle.sq_bound.specs.Quiet.{are_quiet_conds, is_quiet_cond}
 use Rattle.sq_bound.specs.WellFormed.{IsCond, IsCondOn, IsTarget, TableKinds, base_kinds, of_base, of_base_at}
 use Rattle.sq_bound.specs.declared.condition.BoundCond.{BoundCond}
@@ -30,11 +31,12 @@ use Rattle.sq_bound.specs.declared.query.Target.{Target}
 use Rattle.sq_bound.proofs.QuietRows.{no_tables}
 use Rattle.sq_bound.proofs.QuietTruths.{both_left, both_right}
 use Rattle.sq_bound.proofs.Wider.{is_cond_wider}
-use Rattle.sq_expression.specs.Fault.{Meets}
+use Rattle.sq_expression.specs.Fault.{IsRight, Meets}
 use Rattle.sq_expression.specs.declared.fault.Fault.{Fault}
 use Rattle.sq_expression.specs.declared.fault.Fault.TheVariants as fault
 use Rattle.sq_query.specs.Key.{StandsOn}
 use Rattle.sq_query.specs.Meant.{IsKeyUnder}
+use Rattle.sq_query.specs.Named.{AreSureBases}
 use Rattle.sq_query.specs.Row.{truth_on_row}
 use Rattle.sq_query.specs.Target.{and_own, are_true, chosen, conditions_of, is_true_of, rows_of_target}
 use Rattle.sq_query.specs.declared.key.KnownKey.{KnownKey}
@@ -204,6 +206,7 @@ module _ (tables : TablePlace → Outcome (List Row)) (columns : TableKinds) (pa
 
   module _ (bases : List BaseTable) (content : Content) (keys : List Keys) (t : Target) (known : KnownKey) (k : IsKeyUnder t content keys values caller known)
       (well : IsTarget columns parameters t) (base : IsBase bases t.leaf.table) (keys_are : keys ≡ keys_of_bases bases) (nulls : not_nulls_hold bases content ≡ true)
+      (noted : HasNotes k.own) (sure : AreSureBases tables) (right : (row : Row) → IsRowOf (base_kinds t.leaf.table) row → IsRight (is_true (truth_on_row tables values caller row k.own)))
       (rows_are : AllByRecursion (λ (r : Numbered). IsRowOf (base_kinds t.leaf.table) r.row) (table_at content t.base).rows) (keyed : are_keyed keys content ≡ true) where
     abbrev rows_here : List Numbered
     rows_here = (table_at content t.base).rows
@@ -227,7 +230,7 @@ module _ (tables : TablePlace → Outcome (List Row)) (columns : TableKinds) (pa
     has_its_key = has_key key_columns known.values
 
     own_out : AllByRecursion (λ r. has_its_key r ≡ false → tested truth_at k.own r ≡ Ok false) rows_here
-    own_out = all_out tables columns parameters values caller given bases content keys t.base t.leaf.table k.own known k.on (base_under bases keys t base keys_are) under_kinds under_stands keys_are nulls rows_are keyed
+    own_out = all_out tables columns parameters values caller given bases content keys t.base t.leaf.table k.own known k.on (base_under bases keys t base keys_are) under_kinds under_stands keys_are nulls noted sure right rows_are keyed
 
     -- one row at most has the key
     pub one_with : AtMostOne has_its_key rows_here

@@ -15,8 +15,8 @@ use Rattle.sq_query.proofs.meant.rows_of.Goals as goal
 pub returns-in-None-clause-there : goal.returns-in-None-clause-there
 returns-in-None-clause-there g c = λ parameters tables may well.
     let store = c.args.store.now in
-    rows_there few_numbered c.listed.result (g.S.Store.content_now store) c.args.target.now.base (g.S.Store.row_numbers store) (is_true_of tables c.args.inputs.parameters.now c.args.inputs.user) (conditions_of c.args.target.now) (g.met.S.Store.rises store)
-    (c.listed.ensures _ (c.rows_by_values.ensures parameters tables may well))
+    rows_there few_numbered c.rows_by_tests.result (g.S.Store.content_now store) c.args.target.now.base (g.S.Store.row_numbers store) (is_true_of tables c.args.inputs.parameters.now c.args.inputs.user) (conditions_of c.args.target.now) (g.met.S.Store.rises store)
+    (c.rows_by_tests.ensures parameters tables may well)
 
 pub returns-in-Some-clause-there : goal.returns-in-Some-clause-there
 returns-in-Some-clause-there g c = λ parameters tables may well.
@@ -32,10 +32,10 @@ returns-in-None-clause-right g c = λ parameters tables may well.
     let target = c.args.target.now in
     let user = c.args.inputs.user in
     let values = c.args.inputs.parameters.now in
-    never_ends few_numbered c.listed.result (λ rows. ⊤) (rows_of_target tables content values user target)
+    never_ends few_numbered c.rows_by_tests.result (λ rows. ⊤) (rows_of_target tables content values user target)
     (rows_answer (g.N.Names.base_tables names) (g.N.Names.view_queries names) columns content user values (g.met.N.Names.kinds_of_bases names) (g.met.N.Names.kinds_of_views names) parameters tables may target.base (conditions_of target)
     (target_on_base columns parameters target well))
-    (c.listed.ensures _ (c.rows_by_values.ensures parameters tables may well))
+    (c.rows_by_tests.ensures parameters tables may well)
 
 pub returns-in-Some-clause-right : goal.returns-in-Some-clause-right
 returns-in-Some-clause-right g c = λ parameters tables may well.

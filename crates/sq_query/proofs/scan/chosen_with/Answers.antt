@@ -3,8 +3,8 @@ use Rattle.std.proofs.Common.{List, map, ap}
 use Rattle.sq_meaning.specs.Environment.{Row}
 use Rattle.sq_meaning.specs.Status.{Outcome, kept}
 use Rattle.sq_bound.specs.declared.condition.TablePlace.{TablePlace}
-use Rattle.sq_expression.specs.Frame.{table_rows}
 use Rattle.sq_query.specs.Row.{truth_on_row}
+use Rattle.sq_condition.specs.Reading.{tables_of}
 use Rattle.sq_query.specs.Table.{numbered_row, numbered_in}
 use Rattle.sq_query.specs.Target.{is_true_of}
 use Rattle.sq_expression.proofs.Each.{after_start}
@@ -14,20 +14,20 @@ use Rattle.sq_expression.proofs.Views.{handed_on_as, failed_as}
 use Rattle.sq_query.proofs.scan.chosen_with.Goals as goal
 
 pub loop-found-init : goal.loop-found-init
-loop-found-init c =
-    let of = λ (tables : TablePlace → Outcome (List Row)). is_true_of tables c.args.context.now.parameters.now c.args.context.now.user c.args.condition.now in
+loop-found-init g c =
+    let of = λ (tables : TablePlace → Outcome (List Row)). is_true_of tables c.args.reading.now.context.parameters.now c.args.reading.now.context.user c.args.condition.now in
     let none = ap (map numbered_row) c.new-chosen.ensures.items in
     record {
       plain = λ plain tables. after_start (map numbered_row c.new-chosen.result.items) (kept (of tables) (map numbered_row c.args.rows.now)) none;
       known = λ meant knows memo. (
         memo,
-        λ right. after_start (map numbered_row c.new-chosen.result.items) (kept (of (table_rows c.args.context.now)) (map numbered_row c.args.rows.now)) none,
+        λ right. after_start (map numbered_row c.new-chosen.result.items) (kept (of (tables_of (g.S.Store.content_now c.args.reading.now.store.now) c.args.reading.now.views.now)) (map numbered_row c.args.rows.now)) none,
       );
     }
 
 pub loop-found-preserved : goal.loop-found-preserved
-loop-found-preserved c =
-    let of = λ (tables : TablePlace → Outcome (List Row)). is_true_of tables c.args.context.now.parameters.now c.args.context.now.user c.args.condition.now in
+loop-found-preserved g c =
+    let of = λ (tables : TablePlace → Outcome (List Row)). is_true_of tables c.args.reading.now.context.parameters.now c.args.reading.now.context.user c.args.condition.now in
     let rows = c.args.rows.now in
     let i = c.loop-found.found-index in
     let found = c.found-item.result in
@@ -39,9 +39,9 @@ loop-found-preserved c =
           kept_done test numbered_row (kept test (map numbered_row rows)) done next rows i found c.loop-found-test.true c.found-item.is (c.loop-found.invariant.plain plain tables)
           (c.in_ok-push_if_true.ensures _ (c.truth_on-truth.ensures.plain plain tables));
       known = λ meant knows memo.
-          let test = of (table_rows c.args.context.now) in
+          let test = of (tables_of (g.S.Store.content_now c.args.reading.now.store.now) c.args.reading.now.views.now) in
           let whole = kept test (map numbered_row rows) in
-          let truth = truth_on_row (table_rows c.args.context.now) c.args.context.now.parameters.now c.args.context.now.user found.1.now c.args.condition.now in
+          let truth = truth_on_row (tables_of (g.S.Store.content_now c.args.reading.now.store.now) c.args.reading.now.views.now) c.args.reading.now.context.parameters.now c.args.reading.now.context.user found.1.now c.args.condition.now in
           let before = c.loop-found.invariant.known meant knows memo in
           let met = c.truth_on-truth.ensures.known meant knows before.0 in (
             met.0,
@@ -52,8 +52,8 @@ loop-found-preserved c =
     }
 
 pub returns-in_err-push_if_true-clause-plain : goal.returns-in_err-push_if_true-clause-plain
-returns-in_err-push_if_true-clause-plain c = λ plain tables.
-    let test = is_true_of tables c.args.context.now.parameters.now c.args.context.now.user c.args.condition.now in
+returns-in_err-push_if_true-clause-plain g c = λ plain tables.
+    let test = is_true_of tables c.args.reading.now.context.parameters.now c.args.reading.now.context.user c.args.condition.now in
     let rows = c.args.rows.now in
     let found = c.found-item.result in
     let e = c.in_err-push_if_true.field-0.0 in
@@ -64,14 +64,14 @@ returns-in_err-push_if_true-clause-plain c = λ plain tables.
     (c.in_err-push_if_true.ensures _ (c.truth_on-truth.ensures.plain plain tables))))
 
 pub returns-in_err-push_if_true-clause-known : goal.returns-in_err-push_if_true-clause-known
-returns-in_err-push_if_true-clause-known c = λ meant knows memo.
-    let test = is_true_of (table_rows c.args.context.now) c.args.context.now.parameters.now c.args.context.now.user c.args.condition.now in
+returns-in_err-push_if_true-clause-known g c = λ meant knows memo.
+    let test = is_true_of (tables_of (g.S.Store.content_now c.args.reading.now.store.now) c.args.reading.now.views.now) c.args.reading.now.context.parameters.now c.args.reading.now.context.user c.args.condition.now in
     let rows = c.args.rows.now in
     let whole = kept test (map numbered_row rows) in
     let done = map numbered_row c.loop-found.chosen.items in
     let i = c.loop-found.found-index in
     let found = c.found-item.result in
-    let truth = truth_on_row (table_rows c.args.context.now) c.args.context.now.parameters.now c.args.context.now.user found.1.now c.args.condition.now in
+    let truth = truth_on_row (tables_of (g.S.Store.content_now c.args.reading.now.store.now) c.args.reading.now.views.now) c.args.reading.now.context.parameters.now c.args.reading.now.context.user found.1.now c.args.condition.now in
     let e = c.in_err-push_if_true.field-0.0 in
     let before = c.loop-found.invariant.known meant knows memo in
     let met = c.truth_on-truth.ensures.known meant knows before.0 in (
@@ -84,13 +84,13 @@ returns-in_err-push_if_true-clause-known c = λ meant knows memo.
     )
 
 pub returns-clause-plain : goal.returns-clause-plain
-returns-clause-plain c = λ plain tables.
-    let test = is_true_of tables c.args.context.now.parameters.now c.args.context.now.user c.args.condition.now in
+returns-clause-plain g c = λ plain tables.
+    let test = is_true_of tables c.args.reading.now.context.parameters.now c.args.reading.now.context.user c.args.condition.now in
     kept_ends test numbered_row (kept test (map numbered_row c.args.rows.now)) (map numbered_row c.loop-found.chosen.items) c.args.rows.now c.loop-found.found-index c.loop-found-test.false (c.loop-found.invariant.plain plain tables)
 
 pub returns-clause-known : goal.returns-clause-known
-returns-clause-known c = λ meant knows memo.
-    let test = is_true_of (table_rows c.args.context.now) c.args.context.now.parameters.now c.args.context.now.user c.args.condition.now in
+returns-clause-known g c = λ meant knows memo.
+    let test = is_true_of (tables_of (g.S.Store.content_now c.args.reading.now.store.now) c.args.reading.now.views.now) c.args.reading.now.context.parameters.now c.args.reading.now.context.user c.args.condition.now in
     let before = c.loop-found.invariant.known meant knows memo in (
       before.0,
       λ right. kept_ends test numbered_row (kept test (map numbered_row c.args.rows.now)) (map numbered_row c.loop-found.chosen.items) c.args.rows.now c.loop-found.found-index c.loop-found-test.false (before.1 right),

@@ -16,10 +16,10 @@ use Rattle.sq_query.specs.Target.{AreOnBase, chosen, is_true_of}
 use Rattle.sq_query.proofs.Targets.KnownConditions.{target_on_base}
 use Rattle.sq_query.proofs.scan.rows_among.Goals as goal
 
-pub rows_meeting-requires : goal.rows_meeting-requires
-rows_meeting-requires g c =
+pub rows_meeting-requires-clause-finds : goal.rows_meeting-requires-clause-finds
+rows_meeting-requires-clause-finds g c =
     let same = ap (map (λ (b : Bor BoundCond). b.now)) c.as_slice.ensures.value ∙ c.in_ok-levels.ensures in
-    subst (FindsConds (g.N.Names.base_tables c.args.names.now) (g.N.Names.column_kinds c.args.names.now)) (sym same) c.requires
+    subst (FindsConds (g.N.Names.base_tables c.args.names.now) (g.N.Names.column_kinds c.args.names.now)) (sym same) c.requires.finds
 
 pub returns-clause-plain : goal.returns-clause-plain
 returns-clause-plain g c = λ o found none tables.

@@ -11,11 +11,11 @@ use Rattle.sq_query.proofs.Targets.QuietTargets.{none_of}
 use Rattle.sq_query.proofs.target.meets_all.Goals as goal
 
 pub loop-condition-init : goal.loop-condition-init
-loop-condition-init c = λ none tables. refl
+loop-condition-init g c = λ none tables. refl
 
 pub loop-condition-preserved : goal.loop-condition-preserved
-loop-condition-preserved c = λ none tables.
-    let test = truth_on_row tables c.args.context.now.parameters.now c.args.context.now.user c.args.row.now in
+loop-condition-preserved g c = λ none tables.
+    let test = truth_on_row tables c.args.reading.now.context.parameters.now c.args.reading.now.context.user c.args.row.now in
     let xs = c.args.conditions.now in
     let i = c.loop-condition.condition-index in
     let x = c.condition-item.result in
@@ -25,8 +25,8 @@ loop-condition-preserved c = λ none tables.
     (rw (sym c.get.ensures) (c.in_ok-truth.ensures.plain (rw c.get.ensures plain) tables) ∙ ap Ok holds)
 
 pub returns-in_err-truth : goal.returns-in_err-truth
-returns-in_err-truth c = λ none tables.
-    let test = truth_on_row tables c.args.context.now.parameters.now c.args.context.now.user c.args.row.now in
+returns-in_err-truth g c = λ none tables.
+    let test = truth_on_row tables c.args.reading.now.context.parameters.now c.args.reading.now.context.user c.args.row.now in
     let xs = c.args.conditions.now in
     let i = c.loop-condition.condition-index in
     let x = c.condition-item.result in
@@ -37,8 +37,8 @@ returns-in_err-truth c = λ none tables.
     (rw (sym c.get.ensures) (c.in_err-truth.ensures.plain (rw c.get.ensures plain) tables)))
 
 pub returns-then-ne : goal.returns-then-ne
-returns-then-ne c = λ none tables.
-    let test = truth_on_row tables c.args.context.now.parameters.now c.args.context.now.user c.args.row.now in
+returns-then-ne g c = λ none tables.
+    let test = truth_on_row tables c.args.reading.now.context.parameters.now c.args.reading.now.context.user c.args.row.now in
     let xs = c.args.conditions.now in
     let i = c.loop-condition.condition-index in
     let x = c.condition-item.result in
@@ -48,6 +48,6 @@ returns-then-ne c = λ none tables.
     (rw (sym c.get.ensures) (c.in_ok-truth.ensures.plain (rw c.get.ensures plain) tables))
 
 pub returns : goal.returns
-returns c = λ none tables.
-    let test = truth_on_row tables c.args.context.now.parameters.now c.args.context.now.user c.args.row.now in
+returns g c = λ none tables.
+    let test = truth_on_row tables c.args.reading.now.context.parameters.now c.args.reading.now.context.user c.args.row.now in
     levels_end test (are_true test c.args.conditions.now) c.args.conditions.now c.loop-condition.condition-index c.loop-condition-test.false (c.loop-condition.invariant none tables)

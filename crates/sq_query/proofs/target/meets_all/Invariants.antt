@@ -10,6 +10,6 @@ use Rattle.sq_query.specs.Target.{are_true}
 use Rattle.sq_query.proofs.target.meets_all.Given as goal
 
 abbrev pub invariant-loop-condition : goal.invariant-loop-condition
-invariant-loop-condition l =
+invariant-loop-condition g l =
     list_any (λ c. has_subquery (cond_of [] c)) l.conditions ≡ false → (tables : TablePlace → Outcome (List Row))
-    → (let test = truth_on_row tables l.context.parameters.now l.context.user l.row in are_true test l.conditions ≡ are_true test (drop l.condition-index l.conditions))
+    → (let test = truth_on_row tables l.reading.context.parameters.now l.reading.context.user l.row in are_true test l.conditions ≡ are_true test (drop l.condition-index l.conditions))

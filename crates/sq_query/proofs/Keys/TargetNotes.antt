@@ -1,0 +1,11 @@
+-- What is noted of the tests of a target's own condition is true.
+use Rattle.std.proofs.Common.{◌≡◌, List, Some}
+use Rattle.sq_value.specs.declared.domain.Kind.{Kind}
+use Rattle.sq_bound.specs.Noted.{HasNotes}
+use Rattle.sq_bound.specs.WellFormed.{IsTarget, TableKinds}
+use Rattle.sq_bound.specs.declared.condition.BoundCond.{BoundCond}
+use Rattle.sq_bound.specs.declared.query.Target.{Target}
+
+-- OPEN: a well-formed target does not say so yet. It needs a field `notes : IfSome t.condition HasNotes` of the record IsTarget.
+pub own_noted : (columns : TableKinds) (parameters : List Kind) (t : Target) (own : BoundCond) → IsTarget columns parameters t → t.condition ≡ Some own → HasNotes own
+own_noted columns parameters t own well is_own = ?

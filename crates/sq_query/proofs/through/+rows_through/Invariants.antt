@@ -1,4 +1,0 @@
-use Rattle.sq_query.proofs.through.+rows_through.Given as goal
-
-abbrev pub decreases-rows_through : goal.decreases-rows_through
-decreases-rows_through g l = l.view
