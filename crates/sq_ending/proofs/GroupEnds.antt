@@ -14,9 +14,9 @@ use Rattle.sq_bound.specs.declared.expression.Aggregate.{Aggregate}
 use Rattle.sq_bound.specs.declared.expression.BoundExpr.{BoundExpr}
 use Rattle.sq_bound.specs.declared.expression.SetFunctionCall.{SetFunctionCall}
 use Rattle.sq_bound.specs.declared.expression.SetFunctionCall.TheVariants.{Over}
-use Rattle.sq_expression.specs.declared.context.Context.{Context}
-use Rattle.sq_ending.specs.Ending.{EndsThere, InGroupItem, InHaving, InOperand, InSetFunction, IsClauseEnd, IsFirstFunction, IsGroupEnd, IsOfGroup, Seen, calls_of, functions_on, groups_of, is_shown, item_on, list_of, rows_of, seen_in}
-use Rattle.sq_ending.specs.Functions.{AreValued, EndsAsCall, HasFunctions, IsCallEnd, IsFunctionsEnd, IsLineEnd, IsOwnEnd, group_of, values_on}
+use Rattle.sq_expression.specs.Sources.{Sources}
+use Rattle.sq_ending.specs.Ending.{EndsThere, InGroupItem, InHaving, InOperand, InSetFunction, IsClauseEnd, IsFirstFunction, IsGroupEnd, Seen, calls_of, functions_on, groups_of, is_shown, list_of, seen_in}
+use Rattle.sq_ending.specs.Functions.{AreValued, HasFunctions, IsCallEnd, IsFunctionsEnd, IsLineEnd, IsOwnEnd, group_of}
 use Rattle.sq_ending.specs.Grouped.{AreEndedBy, HasLeft, lists_of}
 use Rattle.sq_ending.specs.Groups.{HoldsInGroups}
 use Rattle.sq_ending.specs.Kept.{IsPlaced, lines_of}
@@ -56,10 +56,10 @@ same_first of vs gs same = sym (of_map (λ (g : Vec Placed Global). g.items) gs)
     of_map f [] = refl
     of_map f (x ∷ xs) = ap (λ (ls : List (List Line)). of (f x) ∷ ls) (of_map f xs)
 
-pub valued_lists : (context : Context) (g : Grouping) (gs : List (Vec Placed Global)) (vs : List Valued) → AreValued (seen_in context) (calls_of g) gs vs → lists_of gs ≡ map group_of vs
+pub valued_lists : (context : Sources) (g : Grouping) (gs : List (Vec Placed Global)) (vs : List Valued) → AreValued (seen_in context) (calls_of g) gs vs → lists_of gs ≡ map group_of vs
 valued_lists context g gs vs valued = same_first lines_of vs gs valued.lists
 
-module _ (context : Context) (q : BoundSpecification) (g : Grouping) (grouped : (out-BoundSpecification q).grouping ≡ Some g) (fits : AreGroupsOf (list_of q) g)
+module _ (context : Sources) (q : BoundSpecification) (g : Grouping) (grouped : (out-BoundSpecification q).grouping ≡ Some g) (fits : AreGroupsOf (list_of q) g)
     (items : List (List Row)) (lines : List Line) (left : HasLeft context q items lines) (gs : List (Vec Placed Global)) (are : groups_of (seen_in context) g lines ≡ Ok (lists_of gs))
     (placed : HoldsInGroups (IsPlaced items) gs) where
   abbrev seen : Seen

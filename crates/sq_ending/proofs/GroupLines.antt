@@ -17,7 +17,7 @@ use Rattle.sq_expression.specs.Fault.{HasValues, MeetsAs, status_of, values_in}
 use Rattle.sq_expression.specs.Frame.{lent, reading}
 use Rattle.sq_expression.specs.Group.{group_seen, groups_in, seen_of_groups}
 use Rattle.sq_expression.specs.Lines.{AreWhole, lines_in}
-use Rattle.sq_expression.specs.declared.context.Context.{Context}
+use Rattle.sq_expression.specs.Sources.{Sources}
 use Rattle.sq_expression.specs.declared.fault.Fault.{Fault}
 use Rattle.sq_expression.specs.declared.fault.Fault.TheVariants as fault
 use Rattle.sq_expression.specs.declared.frame.Group.{Group}
@@ -60,7 +60,7 @@ all_behind width group i lines past (has_width, whole, are) = are ∙ ap lines_o
 
 -- ---- set functions over all lines as one group
 
-pub one_seen : (context : Context) (calls : List SetFunctionCall) (lines : List Line)
+pub one_seen : (context : Sources) (calls : List SetFunctionCall) (lines : List Line)
     → seen_of_groups [] (map call_of calls) None context lines ≡ and_then (each (function_on (seen_in context) lines) calls) (λ vs. Ok ((first_line lines, vs) ∷ []))
 one_seen context calls lines =
     ap (λ (o : Outcome (List Value)). and_then (and_then o (λ vs. let p : Outcome (Line × List Value) = Ok (first_line lines, vs) in p)) (λ y. Ok (y ∷ [])))
@@ -79,7 +79,7 @@ pub status_seen : (line : Line) (o : Outcome (List Value)) (s : Status) → (let
 status_seen line (Ok vs) s h = absurd cc
 status_seen line (Err t) s h = cc
 
-module _ (context : Context) (calls : List SetFunctionCall) (lines : List Line) where
+module _ (context : Sources) (calls : List SetFunctionCall) (lines : List Line) where
   abbrev values_of : Outcome (List Value)
   values_of = each (function_on (seen_in context) lines) calls
 

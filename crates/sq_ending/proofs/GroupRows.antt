@@ -22,7 +22,7 @@ use Rattle.sq_expression.specs.Frame.{reading, table_rows}
 use Rattle.sq_expression.specs.Group.{seen_of_group}
 use Rattle.sq_expression.specs.Lines.{line_env}
 use Rattle.sq_expression.specs.Select.{row_seen, rows_left}
-use Rattle.sq_expression.specs.declared.context.Context.{Context}
+use Rattle.sq_expression.specs.Sources.{Sources}
 use Rattle.sq_expression.proofs.Kept.{no_status}
 use Rattle.sq_condition.specs.Specification as condition
 use Rattle.sq_condition.specs.Specification.{groups_listed, groups_shown, lines_wanted, rows_meant}
@@ -32,7 +32,7 @@ use Rattle.sq_condition.proofs.Grouped.{alike}
 use Rattle.sq_condition.proofs.Joined.{kept-append}
 use Rattle.sq_condition.proofs.QueryRows.{meant_of_groups}
 use Rattle.sq_condition.proofs.Right.{right_first, right_same}
-use Rattle.sq_ending.specs.Ending.{Seen, calls_of, function_on, functions_of, functions_on, group_in, groups_of, is_shown, is_wanted, item_on, list_of, seen_in}
+use Rattle.sq_ending.specs.Ending.{Seen, calls_of, functions_of, functions_on, group_in, groups_of, is_shown, is_wanted, item_on, list_of, seen_in}
 use Rattle.sq_ending.specs.Functions.{HasFunctions, group_of}
 use Rattle.sq_ending.specs.Grouped.{HasLeft}
 use Rattle.sq_ending.specs.Shown.{first_of, met_by, seen_of, shown_by, value_by}
@@ -72,7 +72,7 @@ each_made {A} {B} {C} f h (x ∷ xs) ys e = by (f x) (each f xs) (each_made f h 
 
 -- ---- a group with the values of its set functions
 
-module _ (context : Context) (g : Grouping) where
+module _ (context : Sources) (g : Grouping) where
   abbrev seen : Seen
   seen = seen_in context
 
@@ -128,7 +128,7 @@ module _ (context : Context) (g : Grouping) where
 
 -- ---- the query specification
 
-module _ (context : Context) (q : BoundSpecification) (g : Grouping) (grouped : (out-BoundSpecification q).grouping ≡ Some g) (fits : AreGroupsOf (list_of q) g)
+module _ (context : Sources) (q : BoundSpecification) (g : Grouping) (grouped : (out-BoundSpecification q).grouping ≡ Some g) (fits : AreGroupsOf (list_of q) g)
     (items : List (List Row)) (lines : List Line) (left : HasLeft context q items lines) (groups : List (List Line)) (are : groups_of (seen_in context) g lines ≡ Ok groups) where
   abbrev here : Seen
   here = seen_in context

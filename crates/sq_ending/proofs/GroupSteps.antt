@@ -21,7 +21,7 @@ use Rattle.sq_condition.specs.Subquery.{IsKnown, KnowsQuery}
 use Rattle.sq_condition.proofs.QueryRows.{meant_of_groups}
 use Rattle.sq_expression.specs.Fault.{IsRight}
 use Rattle.sq_expression.specs.Group.{seen_of_group}
-use Rattle.sq_expression.specs.declared.context.Context.{Context}
+use Rattle.sq_expression.specs.Sources.{Sources}
 use Rattle.sq_expression.proofs.Kept.{no_status, ok_same}
 use Rattle.sq_ending.specs.Ending.{EndsThere, HaveRows, calls_of, functions_of, groups_of, is_wanted, list_of, seen_in}
 use Rattle.sq_ending.specs.Functions.{AreValued, IsFunctionsEnd}
@@ -36,7 +36,7 @@ use Rattle.sq_ending.proofs.GroupEnds.{ends_by, ends_in_functions, valued_lists}
 use Rattle.sq_ending.proofs.GroupRows.{shown_right}
 
 -- what groups a known query specification is noted
-pub fits_of : (context : Context) (q : BoundSpecification) (g : Grouping) (meant : Meant) → KnowsQuery context q meant → (out-BoundSpecification q).grouping ≡ Some g → AreGroupsOf (list_of q) g
+pub fits_of : (context : Sources) (q : BoundSpecification) (g : Grouping) (meant : Meant) → KnowsQuery context q meant → (out-BoundSpecification q).grouping ≡ Some g → AreGroupsOf (list_of q) g
 fits_of context q g meant knows grouped = subst (noted.AreGroupsIfAny (list_of q)) grouped (select_itself (IsKnown context meant) q knows).noted.groups
 
 -- there are as many items as tables
@@ -50,14 +50,14 @@ items_many {A} {B} f (x ∷ xs) ys h = by (f x) (each f xs) (items_many f xs) h
     by (Ok y) (Ok zs) rest e = sym (ap length (ok_same (y ∷ zs) ys e)) ∙ ap (λ (n : ℕ). suc n) (rest zs refl)
 
 -- the lines that were gathered are those of which WHERE is true
-pub lines_left : (context : Context) (q : BoundSpecification) (items : List (List Row)) → HaveRows (seen_in context) q items → (found : List Line) → kept (is_wanted (seen_in context) q) (product items) ≡ Ok found
+pub lines_left : (context : Sources) (q : BoundSpecification) (items : List (List Row)) → HaveRows (seen_in context) q items → (found : List Line) → kept (is_wanted (seen_in context) q) (product items) ≡ Ok found
     → (old new : List Placed) → old ≡ [] → lines_of new ≡ lines_of old ++ map (λ more. more) found → HasLeft context q items (lines_of new)
 lines_left context q items are found left old new none gathered = record {
   are = are;
   left = left ∙ ap (λ (ls : List Line). let o : Outcome (List Line) = Ok ls in o) (sym (gathered ∙ ap (λ (ps : List Placed). lines_of ps ++ map (λ more. more) found) none ∙ map-id found));
 }
 
-module _ (context : Context) (q : BoundSpecification) (g : Grouping) (meant : Meant) (knows : KnowsQuery context q meant) (grouped : (out-BoundSpecification q).grouping ≡ Some g) (items : List (List Row)) (lines : List Line) (left : HasLeft context q items lines) where
+module _ (context : Sources) (q : BoundSpecification) (g : Grouping) (meant : Meant) (knows : KnowsQuery context q meant) (grouped : (out-BoundSpecification q).grouping ≡ Some g) (items : List (List Row)) (lines : List Line) (left : HasLeft context q items lines) where
   abbrev fits : AreGroupsOf (list_of q) g
   fits = fits_of context q g meant knows grouped
 

@@ -48,3 +48,8 @@ module _ (tables : TablePlace → Outcome (List Row)) (from : List TablePlace) (
 
   pub items_all : length from ≤ i → (whole : List TablePlace) → from ≡ whole → each tables whole ≡ Ok (tables_in items)
   items_all past whole are = ap (each tables) (sym (take_all i from past ∙ are)) ∙ added.0
+
+-- no room for the rows of an item
+pub no_room : (tables : TablePlace → Outcome (List Row)) (from : List TablePlace) (items : List (List Row)) (r : Result (Unit {0}) Fault) → IsErrAnd r (λ g. g ≡ fault.NoMemory) → HasItems tables from items r
+no_room tables from items (Ok u) is = absurd is
+no_room tables from items (Err e) is = subst (λ (f : Fault). HasItems tables from items (Err f)) (sym is) tt

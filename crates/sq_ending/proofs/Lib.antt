@@ -1,4 +1,5 @@
 pub mod CallEnds
+pub mod Failed
 pub mod FirstEnds
 pub mod Gathered
 pub mod GroupEnds
@@ -17,6 +18,7 @@ pub mod Readings
 pub mod SameEnds
 pub mod ShownGroups
 pub mod TablesRead
+pub mod Unread
 pub mod ValuedGroups
 pub mod ViewRows
 pub mod Whole

@@ -21,7 +21,7 @@ use Rattle.sq_expression.specs.Fault.{Meets, MeetsAs}
 use Rattle.sq_expression.specs.Frame.{lent}
 use Rattle.sq_expression.specs.Group.{classes_of, key_of_line, keyed_line}
 use Rattle.sq_expression.specs.Lines.{line_env}
-use Rattle.sq_expression.specs.declared.context.Context.{Context}
+use Rattle.sq_expression.specs.Sources.{Sources}
 use Rattle.sq_expression.specs.declared.fault.Fault.{Fault}
 use Rattle.sq_expression.specs.declared.fault.Fault.TheVariants as fault
 use Rattle.sq_expression.proofs.ByKeys.{classes_made}
@@ -34,11 +34,11 @@ use Rattle.sq_ending.specs.declared.kept.Placed.{Placed}
 
 -- ---- without grouping columns all lines are one group
 
-pub no_grouping : (columns : List Place) (context : Context) (lines : List Line) → (length columns == 0) ≡ true → groups_meant columns context lines ≡ Ok (lines ∷ [])
+pub no_grouping : (columns : List Place) (context : Sources) (lines : List Line) → (length columns == 0) ≡ true → groups_meant columns context lines ≡ Ok (lines ∷ [])
 no_grouping [] context lines h = refl
 no_grouping (c ∷ columns) context lines h = let none : length (c ∷ columns) ≡ 0 = eqb-true (length (c ∷ columns)) 0 h in absurd (omega arith)
 
-pub some_grouping : (columns : List Place) (context : Context) (lines : List Line) → (length columns == 0) ≡ false → groups_meant columns context lines ≡ classes_of columns None context lines
+pub some_grouping : (columns : List Place) (context : Sources) (lines : List Line) → (length columns == 0) ≡ false → groups_meant columns context lines ≡ classes_of columns None context lines
 some_grouping [] context lines h = absurd (eqb-false 0 0 h refl)
 some_grouping (c ∷ columns) context lines h = refl
 
@@ -114,17 +114,17 @@ value_ends : (o : Option Value) (s : Status) → well_formed o ≡ Err s → s �
 value_ends (Some v) s h = absurd cc
 value_ends None s h = cc
 
-key_ends : (columns : List Place) (context : Context) (line : Line) (s : Status) → key_of_line columns None context line ≡ Err s → s ≡ SyntaxErrorOrAccessRuleViolation
+key_ends : (columns : List Place) (context : Sources) (line : Line) (s : Status) → key_of_line columns None context line ≡ Err s → s ≡ SyntaxErrorOrAccessRuleViolation
 key_ends columns context line = all_ends (value_at (line_env line None context)) SyntaxErrorOrAccessRuleViolation (λ p s h. value_ends _ s h) (map place_meant columns)
 
-keyed_ends : (columns : List Place) (context : Context) (line : Line) (s : Status) → keyed_line columns None context line ≡ Err s → s ≡ SyntaxErrorOrAccessRuleViolation
+keyed_ends : (columns : List Place) (context : Sources) (line : Line) (s : Status) → keyed_line columns None context line ≡ Err s → s ≡ SyntaxErrorOrAccessRuleViolation
 keyed_ends columns context line s h = by (key_of_line columns None context line) refl h
   where
     by : (o : Outcome Row) → key_of_line columns None context line ≡ o → and_then o (λ key. let p : Row × Line = (key, line) in Ok p) ≡ Err s → s ≡ SyntaxErrorOrAccessRuleViolation
     by (Err u) is e = key_ends columns context line s (is ∙ cc)
     by (Ok key) is e = absurd cc
 
-pub groups_end_so : (columns : List Place) (context : Context) (lines : List Line) (s : Status) → groups_meant columns context lines ≡ Err s → s ≡ SyntaxErrorOrAccessRuleViolation
+pub groups_end_so : (columns : List Place) (context : Sources) (lines : List Line) (s : Status) → groups_meant columns context lines ≡ Err s → s ≡ SyntaxErrorOrAccessRuleViolation
 groups_end_so [] context lines s h = absurd cc
 groups_end_so (c ∷ columns) context lines s h = by (each (keyed_line (c ∷ columns) None context) lines) refl h
   where
@@ -134,7 +134,7 @@ groups_end_so (c ∷ columns) context lines s h = by (each (keyed_line (c ∷ co
 
 -- ---- a fault is handed on
 
-pub classes_failed : (columns : List Place) (context : Context) (lines : List Placed) (r : Result (ByKey Placed) Fault) (e : Fault) → IsErrAnd r (λ g. g ≡ e) → Meets {A = List (Row × Line)} (Err e) (each (keyed_line columns None context) (lines_of lines))
+pub classes_failed : (columns : List Place) (context : Sources) (lines : List Placed) (r : Result (ByKey Placed) Fault) (e : Fault) → IsErrAnd r (λ g. g ≡ e) → Meets {A = List (Row × Line)} (Err e) (each (keyed_line columns None context) (lines_of lines))
     → AreClasses columns context lines r
 classes_failed columns context lines (Ok now) e is h = absurd is
 classes_failed columns context lines (Err fault.NoMemory) e is h = tt
@@ -146,7 +146,7 @@ classes_failed columns context lines (Err (fault.Status f)) e is h = subst (λ (
 abbrev pub ArePlacedStill : List Placed → List (Vec Placed Global) → Type 0
 ArePlacedStill lines groups = (items : List (List Row)) → AllByRecursion (IsPlaced items) lines → HoldsInGroups (IsPlaced items) groups
 
-pub one_group : (columns : List Place) (context : Context) (lines : Vec Placed Global) (groups : Vec (Vec Placed Global) Global) → (length columns == 0) ≡ true → groups.items ≡ lines ∷ [] → groups_meant columns context (lines_of lines.items) ≡ Ok (lists_in groups)
+pub one_group : (columns : List Place) (context : Sources) (lines : Vec Placed Global) (groups : Vec (Vec Placed Global) Global) → (length columns == 0) ≡ true → groups.items ≡ lines ∷ [] → groups_meant columns context (lines_of lines.items) ≡ Ok (lists_in groups)
 one_group columns context lines groups none is =
     no_grouping columns context (lines_of lines.items) none
     ∙ ap (λ (gs : List (Vec Placed Global)). let o : Outcome (List (List Line)) = Ok (map (λ g. lines_of g.items) gs) in o) (sym is)
@@ -154,7 +154,7 @@ one_group columns context lines groups none is =
 pub one_holds : (lines : Vec Placed Global) (groups : List (Vec Placed Global)) → groups ≡ lines ∷ [] → ArePlacedStill lines.items groups
 one_holds lines groups is items all = subst (HoldsInGroups (IsPlaced items)) (sym is) (all, tt)
 
-module _ (columns : List Place) (context : Context) (lines : List Placed) (some : (length columns == 0) ≡ false) where
+module _ (columns : List Place) (context : Sources) (lines : List Placed) (some : (length columns == 0) ≡ false) where
   pub groups_of_classes : (now : ByKey Placed) (groups : Vec (Vec Placed Global) Global) → AreClasses columns context lines (Ok now) → groups ≡ now.lists → groups_meant columns context (lines_of lines) ≡ Ok (lists_in groups)
   groups_of_classes now groups (added, of, are, keyed) is =
       some_grouping columns context (lines_of lines) some
@@ -174,15 +174,15 @@ module _ (columns : List Place) (context : Context) (lines : List Placed) (some 
 -- ---- line after line
 
 -- the classes so far are those of the lines so far, each with its key
-abbrev pub AreSoFar : List Place → Context → List Placed → ℕ → ByKey Placed → Type 0
+abbrev pub AreSoFar : List Place → Sources → List Placed → ℕ → ByKey Placed → Type 0
 AreSoFar columns context lines i now =
     (added : List (Row × Placed)) × IsOf now added × (map (λ e. e.1) added ≡ take i lines)
     × (each (keyed_line columns None context) (lines_of lines) ≡ after (map entry_seen added) (each (keyed_line columns None context) (lines_of (drop i lines))))
 
-pub none_so_far : (columns : List Place) (context : Context) (lines : List Placed) (now : ByKey Placed) → IsOf now [] → AreSoFar columns context lines 0 now
+pub none_so_far : (columns : List Place) (context : Sources) (lines : List Placed) (now : ByKey Placed) → IsOf now [] → AreSoFar columns context lines 0 now
 none_so_far columns context lines now is = ([], is, refl, after_start [] _ refl)
 
-module _ (columns : List Place) (context : Context) (lines : List Placed) (i : ℕ) (x : Placed) (within : i < length lines) (is : x ≡ get_or lines i x) where
+module _ (columns : List Place) (context : Sources) (lines : List Placed) (i : ℕ) (x : Placed) (within : i < length lines) (is : x ≡ get_or lines i x) where
   abbrev f : Line → Outcome (Row × Line)
   f = keyed_line columns None context
 
@@ -208,7 +208,7 @@ module _ (columns : List Place) (context : Context) (lines : List Placed) (i : �
       met fault.NoMemory h = tt
       met (fault.Status s) h = h
 
-pub all_classes : (columns : List Place) (context : Context) (lines : List Placed) (i : ℕ) (now : ByKey Placed) → length lines ≤ i → AreSoFar columns context lines i now → AreClasses columns context lines (Ok now)
+pub all_classes : (columns : List Place) (context : Sources) (lines : List Placed) (i : ℕ) (now : ByKey Placed) → length lines ≤ i → AreSoFar columns context lines i now → AreClasses columns context lines (Ok now)
 all_classes columns context lines i now past (added, of, are, keyed) = (
   added,
   of,
@@ -218,7 +218,7 @@ all_classes columns context lines i now past (added, of, are, keyed) = (
 
 -- ---- one line with its key
 
-module _ (columns : List Place) (context : Context) (line : Placed) (given : List (Bor Row)) (same : given ≡ line.line.items) (added : List (Row × Placed)) (now : ByKey Placed) where
+module _ (columns : List Place) (context : Sources) (line : Placed) (given : List (Bor Row)) (same : given ≡ line.line.items) (added : List (Row × Placed)) (now : ByKey Placed) where
   pub class_grown : (key : Row) → key_of_line columns None context (lent given) ≡ Ok key → (r : Result (Unit {0}) Fault) → Meets r (Ok tt) → OnOk r (IsOf now (added ++ (key, line) ∷ [])) → IsAddedTo columns context line added now r
   class_grown key has (Ok done) memory grown = (key, ap (λ (l : List (Bor Row)). key_of_line columns None context (lent l)) (sym same) ∙ has, grown)
   class_grown key has (Err fault.NoMemory) memory grown = tt

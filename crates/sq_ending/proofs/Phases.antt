@@ -1,5 +1,5 @@
 -- The phases of a query specification, in each of which a line may end.
-use Rattle.std.proofs.Common.{◌≡◌, ℕ, Bool, true, List, [], ◌∷◌, ◌++◌, Option, Some, None, Result, sym, ◌∙◌, ap, subst, Ok, Err}
+use Rattle.std.proofs.Common.{◌≡◌, ℕ, Bool, List, [], ◌∷◌, ◌++◌, Option, Some, None, Result, sym, ◌∙◌, ap, subst, Ok, Err}
 use Rattle.std.specs.Prelude.{if◌then◌else◌, IfOk}
 use Rattle.std.specs.declared.alloc.AllocError.{AllocError}
 use Rattle.sq_meaning.specs.Environment.{Row, Line}
@@ -10,7 +10,7 @@ use Rattle.sq_meaning.proofs.OutcomeLaws.{both_lists}
 use Rattle.sq_bound.specs.declared.condition.BoundSpecification.{BoundSpecification, out-BoundSpecification}
 use Rattle.sq_bound.specs.declared.expression.BoundExpr.{BoundExpr}
 use Rattle.sq_expression.specs.Fault.{IsRight}
-use Rattle.sq_expression.specs.declared.context.Context.{Context}
+use Rattle.sq_expression.specs.Sources.{Sources}
 use Rattle.sq_expression.proofs.Kept.{no_status}
 use Rattle.sq_condition.proofs.Joined.{kept-append}
 use Rattle.sq_condition.proofs.Right.{right_same, right_value}
@@ -110,7 +110,7 @@ module _ (seen : Seen) (q : BoundSpecification) (items : List (List Row)) where
 
 -- ---- the query specification
 
-module _ (context : Context) (q : BoundSpecification) (items : List (List Row)) (are : HaveRows (seen_in context) q items) where
+module _ (context : Sources) (q : BoundSpecification) (items : List (List Row)) (are : HaveRows (seen_in context) q items) where
   abbrev seen : Seen
   seen = seen_in context
 

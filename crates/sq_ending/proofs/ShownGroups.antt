@@ -14,20 +14,19 @@ use Rattle.sq_bound.specs.declared.expression.BoundExpr.{BoundExpr}
 use Rattle.sq_condition.proofs.Joined.{kept-append}
 use Rattle.sq_condition.proofs.Right.{right_first, right_same}
 use Rattle.sq_expression.specs.Fault.{IsRight}
-use Rattle.sq_expression.specs.declared.context.Context.{Context}
+use Rattle.sq_expression.specs.Sources.{Sources}
 use Rattle.sq_expression.proofs.Kept.{no_status}
 use Rattle.sq_ending.specs.Ending.{IsOfGroup}
 use Rattle.sq_ending.specs.Functions.{IsEndOf}
 use Rattle.sq_ending.specs.Grouped.{AreEndedBy}
 use Rattle.sq_ending.specs.Kept.{IsPlaced, lines_of}
-use Rattle.sq_ending.specs.Shown.{AreEnded, FindsItem, FindsOn, InGroup, IsFirstGroup, IsToldBy, met_by, shown_by, value_by}
+use Rattle.sq_ending.specs.Shown.{GroupWalked, AreEnded, FindsItem, FindsOn, InGroup, IsFirstGroup, IsToldBy, met_by, shown_by, value_by}
 use Rattle.sq_ending.specs.Walk.{IsFineOn, is_met, listed}
 use Rattle.sq_ending.specs.declared.ends.Clause.{Clause}
 use Rattle.sq_ending.specs.declared.ends.Clause.TheVariants as clause
 use Rattle.sq_ending.specs.declared.ends.QueryEnd.{QueryEnd}
 use Rattle.sq_ending.specs.declared.functions.Valued.{Valued}
 use Rattle.sq_ending.specs.declared.kept.Placed.{Placed}
-use Rattle.sq_ending.specs.declared.shown.GroupWalk.{GroupWalk}
 
 -- ---- tests along a list
 
@@ -76,7 +75,7 @@ module _ {A : Type 0} (wanted : A → Outcome Bool) (value_of : A → BoundExpr 
 
 -- ---- group by group
 
-module _ (g : Grouping) (context : Context) (list : List BoundExpr) (groups : List Valued) (i : ℕ) (x : Valued) (within : i < length groups) (is : x ≡ get_or groups i x) (fine : IsFineOn (met_by g context list) (take i groups)) where
+module _ (g : Grouping) (context : Sources) (list : List BoundExpr) (groups : List Valued) (i : ℕ) (x : Valued) (within : i < length groups) (is : x ≡ get_or groups i x) (fine : IsFineOn (met_by g context list) (take i groups)) where
   pub group_right : IsRight (kept (shown_by g context) groups) → IsRight (shown_by g context x)
   group_right = next_right (shown_by g context) groups i x within is (met_wanted (shown_by g context) (value_by context) list (take i groups) fine)
 
@@ -91,7 +90,7 @@ module _ (g : Grouping) (context : Context) (list : List BoundExpr) (groups : Li
     told = told;
   }
 
-pub all_fine : (g : Grouping) (context : Context) (list : List BoundExpr) (groups : List Valued) (i : ℕ) → length groups ≤ i → IsFineOn (met_by g context list) (take i groups) → IsFineOn (met_by g context list) groups
+pub all_fine : (g : Grouping) (context : Sources) (list : List BoundExpr) (groups : List Valued) (i : ℕ) → length groups ≤ i → IsFineOn (met_by g context list) (take i groups) → IsFineOn (met_by g context list) groups
 all_fine g context list groups i past = subst (λ (xs : List Valued). IsFineOn (met_by g context list) xs) (take_all i groups past)
 
 -- the line that is told is the first of the group's lines, as they were lent
@@ -101,32 +100,32 @@ told_by group given same e told = λ items all.
 
 -- ---- one group
 
-module _ (walk : GroupWalk) (group : Valued) where
+module _ (walk : GroupWalked) (group : Valued) where
   abbrev shown : Outcome Bool
-  shown = shown_by walk.grouping.now walk.context.now group
+  shown = shown_by walk.grouping walk.context group
 
   abbrev after_shown : Bool → Outcome Bool
-  after_shown b = listed (value_by walk.context.now group) walk.list.now b
+  after_shown b = listed (value_by walk.context group) walk.list b
 
   pub item_found : shown ≡ Ok true → (r : Result (Option QueryEnd) AllocError) → IfOk r (FindsItem walk group) → IfOk r (FindsOn walk group)
   item_found is (Err error) h = tt
   item_found is (Ok None) (values, fine) =
       (true, ap (λ (o : Outcome Bool). and_then o after_shown) is ∙ ap (λ (o : Outcome (List Value)). and_then o (λ vs. let p : Outcome Bool = Ok true in p)) fine)
   item_found is (Ok (Some e)) (number, in_clause, first, told) =
-      (subst (λ (c : Clause). InGroup walk.grouping.now walk.context.now walk.list.now group c e.end.status) (sym in_clause) (is, first), told)
+      (subst (λ (c : Clause). InGroup walk.grouping walk.context walk.list group c e.end.status) (sym in_clause) (is, first), told)
 
   pub not_shown : shown ≡ Ok false → FindsOn walk group None
   not_shown is = (false, ap (λ (o : Outcome Bool). and_then o after_shown) is)
 
   pub having_found : (status : Status) (e : QueryEnd) → shown ≡ Err status → IsEndOf e clause.Having status → IsToldBy group e → FindsOn walk group (Some e)
   having_found status e is (in_clause, with) told = (
-    subst (λ (c : Clause). InGroup walk.grouping.now walk.context.now walk.list.now group c e.end.status) (sym in_clause)
+    subst (λ (c : Clause). InGroup walk.grouping walk.context walk.list group c e.end.status) (sym in_clause)
         (is ∙ ap (λ (s : Status). let o : Outcome Bool = Err s in o) (sym with)),
     told,
   )
 
 -- HAVING ends for no group, and then the list was evaluated
-pub list_ends : (g : Grouping) (context : Context) (given list : List BoundExpr) → given ≡ list → (vs : List Valued) → IsFineOn (met_by g context []) vs → (r : Result (Option QueryEnd) AllocError) → IfOk r (AreEnded g context given vs)
+pub list_ends : (g : Grouping) (context : Sources) (given list : List BoundExpr) → given ≡ list → (vs : List Valued) → IsFineOn (met_by g context []) vs → (r : Result (Option QueryEnd) AllocError) → IfOk r (AreEnded g context given vs)
     → IfOk r (AreEndedBy context g list vs)
 list_ends g context given list same vs having (Err e) h = tt
 list_ends g context given list same vs having (Ok None) h = (having, subst (λ (es : List BoundExpr). IsFineOn (met_by g context es) vs) same h)

@@ -17,7 +17,7 @@ use Rattle.sq_bound.specs.declared.condition.TablePlace.{TablePlace}
 use Rattle.sq_bound.specs.declared.condition.TablePlace.TheVariants.{Base, View}
 use Rattle.sq_bound.proofs.Wider.{is_select_wider}
 use Rattle.sq_expression.specs.Frame.{view_outcome}
-use Rattle.sq_expression.specs.declared.table.ViewRows.{ViewRows}
+use Rattle.sq_condition.specs.declared.reading.ViewRows.{ViewRows}
 use Rattle.sq_query.specs.Table.{AreMeant, rows_of_view}
 use Rattle.sq_ending.specs.Read.{AreShown, Known}
 

@@ -19,7 +19,7 @@ use Rattle.sq_expression.specs.Fault.{IsRight}
 use Rattle.sq_expression.specs.Frame.{reading, table_rows}
 use Rattle.sq_expression.specs.Lines.{line_env}
 use Rattle.sq_expression.specs.Select.{row_shown, rows_left}
-use Rattle.sq_expression.specs.declared.context.Context.{Context}
+use Rattle.sq_expression.specs.Sources.{Sources}
 use Rattle.sq_expression.proofs.Kept.{no_status, ok_same}
 use Rattle.sq_condition.specs.Specification.{items_in, lines_wanted, rows_meant}
 use Rattle.sq_condition.proofs.Joined.{kept-append}
@@ -121,7 +121,7 @@ plain_walk wanted value_of = λ i line. plain_met wanted value_of line i
 
 -- ---- the whole query specification
 
-module _ (context : Context) (query : BoundSpecification) where
+module _ (context : Sources) (query : BoundSpecification) where
   abbrev meant : Outcome (List Row)
   meant = rows_meant query None context
 

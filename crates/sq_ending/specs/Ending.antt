@@ -27,7 +27,7 @@ use Rattle.sq_bound.specs.declared.names.BaseTable.{BaseTable}
 use Rattle.sq_condition.specs.Specification.{items_in, where_of}
 use Rattle.sq_expression.specs.Fault.{IsRight, status_of}
 use Rattle.sq_expression.specs.Frame.{inputs_of, table_rows}
-use Rattle.sq_expression.specs.declared.context.Context.{Context}
+use Rattle.sq_expression.specs.Sources.{Sources}
 use Rattle.sq_expression.specs.declared.fault.Fault.{Fault}
 use Rattle.sq_expression.specs.declared.fault.Fault.TheVariants as fault
 use Rattle.sq_query.specs.MayRead.{MayRead}
@@ -260,10 +260,10 @@ Ends bases queries columns content user values q found =
 
 -- ---- over the tables of a context
 
-abbrev pub seen_in : Context → Seen
+abbrev pub seen_in : Sources → Seen
 seen_in context = record {
   tables = table_rows context;
-  values = context.parameters.now;
+  values = context.parameters;
   user = context.user;
 }
 

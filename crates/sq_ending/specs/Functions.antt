@@ -9,10 +9,9 @@ use Rattle.sq_meaning.specs.declared.status.Status.{Status}
 use Rattle.sq_bound.specs.declared.expression.Aggregate.{Aggregate}
 use Rattle.sq_bound.specs.declared.expression.BoundExpr.{BoundExpr}
 use Rattle.sq_bound.specs.declared.expression.SetFunctionCall.{SetFunctionCall}
-use Rattle.sq_bound.specs.declared.expression.SetFunctionCall.TheVariants.{CountRows, Over}
+use Rattle.sq_bound.specs.declared.expression.SetFunctionCall.TheVariants.{Over}
 use Rattle.sq_ending.specs.Ending.{HasOperands, IsFirstOperand, IsOfGroup, Seen, function_on, value_on}
 use Rattle.sq_ending.specs.Kept.{IsPlaced, line_of, lines_of}
-use Rattle.sq_ending.specs.Walk.{IsFirstItem}
 use Rattle.sq_ending.specs.declared.ends.Clause.{Clause}
 use Rattle.sq_ending.specs.declared.ends.Clause.TheVariants as clause
 use Rattle.sq_ending.specs.declared.ends.QueryEnd.{QueryEnd}

@@ -13,7 +13,7 @@ use Rattle.sq_expression.specs.Fault.{status_of}
 use Rattle.sq_expression.specs.Frame.{reading}
 use Rattle.sq_expression.specs.Group.{key_of_line, keyed_line}
 use Rattle.sq_expression.specs.Lines.{env_around}
-use Rattle.sq_expression.specs.declared.context.Context.{Context}
+use Rattle.sq_expression.specs.Sources.{Sources}
 use Rattle.sq_expression.specs.declared.fault.Fault.{Fault}
 use Rattle.sq_expression.specs.declared.fault.Fault.TheVariants as fault
 use Rattle.sq_ending.specs.Kept.{line_of, lines_of}
@@ -35,7 +35,7 @@ abbrev pub entry_seen : Row × Placed → Row × Line
 entry_seen e = (e.0, line_of e.1)
 
 -- a line was added with its key, or the key ends with a status
-abbrev pub IsAddedTo : List Place → Context → Placed → List (Row × Placed) → ByKey Placed
+abbrev pub IsAddedTo : List Place → Sources → Placed → List (Row × Placed) → ByKey Placed
     → Result (Unit {0}) Fault → Type 0
 IsAddedTo columns context line added classes (Ok done) =
     (key : Row) × (key_of_line columns None context (line_of line) ≡ Ok key)
@@ -45,7 +45,7 @@ IsAddedTo columns context line added classes (Err (fault.Status f)) =
 IsAddedTo columns context line added classes (Err fault.NoMemory) = ⊤
 
 -- the lines by their keys, or the status that a key ends with
-abbrev pub AreClasses : List Place → Context → List Placed → Result (ByKey Placed) Fault → Type 0
+abbrev pub AreClasses : List Place → Sources → List Placed → Result (ByKey Placed) Fault → Type 0
 AreClasses columns context lines (Ok classes) =
     (added : List (Row × Placed)) × IsOf classes added × (map (λ e. e.1) added ≡ lines)
     × (each (keyed_line columns None context) (lines_of lines) ≡ Ok (map entry_seen added))
@@ -54,7 +54,7 @@ AreClasses columns context lines (Err (fault.Status f)) =
 AreClasses columns context lines (Err fault.NoMemory) = ⊤
 
 -- the lines in groups
-abbrev pub groups_meant : List Place → Context → List Line → Outcome (List (List Line))
+abbrev pub groups_meant : List Place → Sources → List Line → Outcome (List (List Line))
 groups_meant columns context lines =
     groups_by (reading context) (map place_meant columns) [] lines (env_around None context)
 

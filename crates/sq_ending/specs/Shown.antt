@@ -3,6 +3,8 @@ use Rattle.std.specs.Prelude.{◌≡◌, ℕ, Bool, true, List, ◌∷◌, ◌++
 use Rattle.std.specs.List.{AllByRecursion}
 use Rattle.std.specs.declared.alloc.AllocError.{AllocError}
 use Rattle.sq_value.specs.declared.value.Value.{Value}
+use Rattle.sq_store.specs.Content.{Content}
+use Rattle.sq_store.specs.Keys.{Keys}
 use Rattle.sq_meaning.specs.Environment.{Row, Line}
 use Rattle.sq_meaning.specs.Expression.{value}
 use Rattle.sq_meaning.specs.Query.{first_line}
@@ -12,11 +14,14 @@ use Rattle.sq_meaning.specs.declared.status.Status.{Status}
 use Rattle.sq_bound.specs.Expression.{expr_of}
 use Rattle.sq_bound.specs.declared.condition.Grouping.{Grouping}
 use Rattle.sq_bound.specs.declared.expression.BoundExpr.{BoundExpr}
+use Rattle.sq_condition.specs.Reading.{sources}
 use Rattle.sq_condition.specs.Specification.{is_shown}
+use Rattle.sq_condition.specs.Subquery.{KnowsGrouping, Remembers}
+use Rattle.sq_condition.specs.declared.memo.Memo.{Memo}
 use Rattle.sq_expression.specs.Fault.{IsRight}
 use Rattle.sq_expression.specs.Frame.{reading}
 use Rattle.sq_expression.specs.Lines.{line_env}
-use Rattle.sq_expression.specs.declared.context.Context.{Context}
+use Rattle.sq_expression.specs.Sources.{Sources}
 use Rattle.sq_ending.specs.Ending.{IsOfGroup}
 use Rattle.sq_ending.specs.Functions.{group_of}
 use Rattle.sq_ending.specs.Kept.{IsPlaced}
@@ -36,17 +41,17 @@ abbrev pub seen_of : Valued → Line × List Value
 seen_of group = (first_of group, group.functions.items)
 
 -- whether HAVING is true of a group
-abbrev pub shown_by : Grouping → Context → Valued → Outcome Bool
+abbrev pub shown_by : Grouping → Sources → Valued → Outcome Bool
 shown_by g context group = is_shown g None context (seen_of group)
 
 -- the value of an item of a list for a group
-abbrev pub value_by : Context → Valued → BoundExpr → Outcome Value
+abbrev pub value_by : Sources → Valued → BoundExpr → Outcome Value
 value_by context group e =
     value (reading context) (expr_of (map literal group.functions.items) e)
     (line_env (first_of group) None context)
 
 -- whether HAVING is true of a group, for which the items of the list have values then
-abbrev pub met_by : Grouping → Context → List BoundExpr → Valued → Outcome Bool
+abbrev pub met_by : Grouping → Sources → List BoundExpr → Valued → Outcome Bool
 met_by g context list = is_met (shown_by g context) (value_by context) list
 
 -- the line that is told is the group's first
@@ -56,14 +61,14 @@ IsToldBy group e =
     → IsOfGroup items e.line.items (group_of group)
 
 -- how a group ends: in HAVING, or where HAVING is true of it in an item of the list
-abbrev pub InGroup : Grouping → Context → List BoundExpr → Valued → Clause → Status → Type 0
+abbrev pub InGroup : Grouping → Sources → List BoundExpr → Valued → Clause → Status → Type 0
 InGroup g context list group clause.Having status = shown_by g context group ≡ Err status
 InGroup g context list group (clause.GroupItem number) status =
     (shown_by g context group ≡ Ok true) × IsFirstItem (value_by context group) list number status
 InGroup g context list group _ status = ⊥
 
 -- the first group that ends
-pub record IsFirstGroup (g : Grouping) (context : Context) (list : List BoundExpr) (groups : List Valued)
+pub record IsFirstGroup (g : Grouping) (context : Sources) (list : List BoundExpr) (groups : List Valued)
     (e : QueryEnd) : Type 0 where
   pub before : List Valued
   pub group : Valued
@@ -73,30 +78,47 @@ pub record IsFirstGroup (g : Grouping) (context : Context) (list : List BoundExp
   pub ended : InGroup g context list group e.end.clause e.end.status
   pub told : IsToldBy group e
 
-abbrev pub AreEnded : Grouping → Context → List BoundExpr → List Valued → Option QueryEnd → Type 0
+abbrev pub AreEnded : Grouping → Sources → List BoundExpr → List Valued → Option QueryEnd → Type 0
 AreEnded g context list groups None = IsFineOn (met_by g context list) groups
 AreEnded g context list groups (Some e) = IsFirstGroup g context list groups e
 
 -- ---- the groups of a walk
 
+-- what a walk evaluates of each group, and what it reads
+pub record GroupWalked : Type 0 where
+  pub context : Sources
+  pub grouping : Grouping
+  pub list : List BoundExpr
+
+abbrev pub group_walked : {S : Type 0} → (S → Content) → (S → List Keys) → GroupWalk S → GroupWalked
+group_walked content_now key_columns walk = record {
+  context = sources content_now key_columns walk.reading.now;
+  grouping = walk.grouping.now;
+  list = walk.list.now;
+}
+
+-- if the query specifications are known, and the memo keeps only their outcomes, it still does, and P holds
+abbrev pub RemembersOf : GroupWalked → Memo → Memo → Type 0 → Type 0
+RemembersOf walk old new P = Remembers walk.context (KnowsGrouping walk.context walk.grouping) old new P
+
 -- the first item that ends for a group, if one does
-abbrev pub FindsItem : GroupWalk → Valued → Option QueryEnd → Type 0
+abbrev pub FindsItem : GroupWalked → Valued → Option QueryEnd → Type 0
 FindsItem walk group None =
-    (values : List Value) × (each (value_by walk.context.now group) walk.list.now ≡ Ok values)
+    (values : List Value) × (each (value_by walk.context group) walk.list ≡ Ok values)
 FindsItem walk group (Some e) =
     (number : ℕ) × (e.end.clause ≡ clause.GroupItem number)
-    × IsFirstItem (value_by walk.context.now group) walk.list.now number e.end.status × IsToldBy group e
+    × IsFirstItem (value_by walk.context group) walk.list number e.end.status × IsToldBy group e
 
 -- how this group ends, if it does
-abbrev pub FindsOn : GroupWalk → Valued → Option QueryEnd → Type 0
+abbrev pub FindsOn : GroupWalked → Valued → Option QueryEnd → Type 0
 FindsOn walk group None =
-    (b : Bool) × (met_by walk.grouping.now walk.context.now walk.list.now group ≡ Ok b)
+    (b : Bool) × (met_by walk.grouping walk.context walk.list group ≡ Ok b)
 FindsOn walk group (Some e) =
-    InGroup walk.grouping.now walk.context.now walk.list.now group e.end.clause e.end.status
+    InGroup walk.grouping walk.context walk.list group e.end.clause e.end.status
     × IsToldBy group e
 
 -- the first group that ends, where HAVING ends for none with 42000
-abbrev pub FindsGroup : GroupWalk → List Valued → Result (Option QueryEnd) AllocError → Type 0
+abbrev pub FindsGroup : GroupWalked → List Valued → Result (Option QueryEnd) AllocError → Type 0
 FindsGroup walk groups result =
-    IsRight (kept (shown_by walk.grouping.now walk.context.now) groups)
-    → IfOk result (AreEnded walk.grouping.now walk.context.now walk.list.now groups)
+    IsRight (kept (shown_by walk.grouping walk.context) groups)
+    → IfOk result (AreEnded walk.grouping walk.context walk.list groups)

@@ -8,6 +8,7 @@ ghost use Rattle.sq_expression.specs.Fault.{HasValues, status_of};
 ghost use Rattle.sq_expression.specs.Group.{groups_in};
 ghost use Rattle.sq_expression.specs.Lines.{lines_in};
 ghost use Rattle.sq_value.specs.declared.value.Value.{Value as AnyValue};
+ghost use Rattle.sq_expression.specs.Sources.{without_tables};
 ghost use Rattle.sq_ending.specs.Ending.{IsOfGroup, function_on, seen_in};
 ghost use Rattle.sq_ending.specs.Functions.{AreWide, EndsAsCall, FindsCall, FindsLine, FindsOperand, HasWidth, IsAdded, IsAddedGroup, IsEndOf};
 ghost use Rattle.sq_ending.specs.Kept.{IsPlaced, lines_of};
@@ -37,7 +38,8 @@ pub(crate) fn add_valued<'m>(
 ) -> Result<Option<QueryEnd>, AllocError>
     requires { 0 < width }
     ensures { valued.old.items ≡ [] → AreWide width groups.entry.items
-        → IfOk result (IsAdded (seen_in context.now) calls.now groups.entry.items valued.new.items) }
+        → IfOk result
+        (IsAdded (seen_in (without_tables context.now)) calls.now groups.entry.items valued.new.items) }
 {
     for group in groups {
         match add_group(width, calls, group, context, valued) {
@@ -59,7 +61,8 @@ fn add_group<'m>(
 ) -> Result<Option<QueryEnd>, AllocError>
     requires { 0 < width }
     ensures { AllByRecursion (HasWidth width) group.entry.items
-        → IfOk result (IsAddedGroup (seen_in context.now) calls.now group.entry.items valued.old.items
+        → IfOk result
+        (IsAddedGroup (seen_in (without_tables context.now)) calls.now group.entry.items valued.old.items
         valued.new.items) }
 {
     match function_values(width, calls, group.as_slice(), context) {
@@ -89,7 +92,7 @@ fn call_end(
 ) -> Result<Option<QueryEnd>, AllocError>
     requires { 0 < width }
     ensures { AllByRecursion (HasWidth width) group.now
-        → IfOk result (FindsCall (seen_in context.now) calls.now group.now) }
+        → IfOk result (FindsCall (seen_in (without_tables context.now)) calls.now group.now) }
 {
     for (number, call) in calls.iter().enumerate() {
         match function_values(width, from_ref(call), group, context) {
@@ -111,8 +114,9 @@ fn end_of(
     group: &[Placed<'_>],
     context: &Context<'_>,
 ) -> Result<QueryEnd, AllocError>
-    ensures { function_on (seen_in context.now) (lines_of group.now) call.now ≡ Err (status_of failure)
-        → IfOk result (EndsAsCall (seen_in context.now) group.now number call.now) }
+    ensures { function_on (seen_in (without_tables context.now)) (lines_of group.now) call.now
+        ≡ Err (status_of failure)
+        → IfOk result (EndsAsCall (seen_in (without_tables context.now)) group.now number call.now) }
 {
     match operand_end(number, call, group, context)? {
         Some(end) => Ok(end),
@@ -127,7 +131,7 @@ fn operand_end(
     group: &[Placed<'_>],
     context: &Context<'_>,
 ) -> Result<Option<QueryEnd>, AllocError>
-    ensures { IfOk result (FindsOperand (seen_in context.now) group.now number call.now) }
+    ensures { IfOk result (FindsOperand (seen_in (without_tables context.now)) group.now number call.now) }
 {
     match call {
         SetFunctionCall::Over(aggregate) => {
@@ -144,7 +148,7 @@ fn end_on_lines(
     group: &[Placed<'_>],
     context: &Context<'_>,
 ) -> Result<Option<QueryEnd>, AllocError>
-    ensures { IfOk result (FindsLine (seen_in context.now) group.now number operand.now) }
+    ensures { IfOk result (FindsLine (seen_in (without_tables context.now)) group.now number operand.now) }
 {
     for placed in group {
         match owned_value(operand, &line_frame(placed.line.as_slice(), None), context) {
@@ -207,7 +211,8 @@ fn function_values(
 ) -> Result<Vec<Value>, Fault>
     requires { 0 < width }
     ensures { AllByRecursion (HasWidth width) group.now
-        → HasValues result (each (function_on (seen_in context.now) (lines_of group.now)) calls.now) }
+        → HasValues result
+        (each (function_on (seen_in (without_tables context.now)) (lines_of group.now)) calls.now) }
 {
     let lines = lines_of(width, group, context.alloc)?;
     let values = values_over(calls, &lines, context);
@@ -237,7 +242,8 @@ fn values_over<'a>(
     lines: &'a Lines<'a>,
     context: &Context<'_>,
 ) -> Result<Vec<Value>, Fault>
-    ensures { HasValues result (each (function_on (seen_in context.now) (lines_in lines.now)) calls.now) }
+    ensures { HasValues result
+        (each (function_on (seen_in (without_tables context.now)) (lines_in lines.now)) calls.now) }
 {
     match group_lines(&[], calls, lines, None, context) {
         Ok(groups) => only_values(context.alloc, groups),

@@ -2,6 +2,7 @@
 
 ghost use Rattle.std.specs.Prelude.{◌≡◌, [], IfOk, None, Some};
 ghost use Rattle.sq_bound.specs.declared.condition.BoundSpecification.{out-BoundSpecification};
+ghost use Rattle.sq_condition.specs.Reading.{sources};
 ghost use Rattle.sq_condition.specs.Subquery.{KnowsGrouping, KnowsQuery, Remembers};
 ghost use Rattle.sq_condition.specs.Specification.{rows_meant};
 ghost use Rattle.sq_expression.specs.Fault.{IsRight};
@@ -17,34 +18,37 @@ use crate::kept::Placed;
 use crate::shown::GroupWalk;
 use crate::walk::Walk;
 use sq_bound::{BoundSpecification, Grouping};
-use sq_condition::Memo;
-use sq_expression::{Context, Fault};
+use sq_condition::{Memo, Reading};
+use sq_expression::Fault;
+use sq_store::Store;
 use sq_value::Row;
 use std::alloc::AllocError;
 
 /// Where the query ends with a status behind WHERE, which ends on no line.
-pub(crate) fn groups_end<'m>(
+pub(crate) fn groups_end<'m, S: Store>(
     query: &BoundSpecification,
     grouping: &Grouping,
     items: &[Vec<&'m Row>],
-    context: &Context<'m>,
+    reading: &Reading<'_, 'm, S>,
     memo: &mut Memo<'m>,
 ) -> Result<Option<QueryEnd>, AllocError>
     ensures { (out-BoundSpecification query.now).grouping ≡ Some grouping.now
-        → Remembers context.now (KnowsQuery context.now query.now) memo.old memo.new
-        (IsRight (rows_meant query.now None context.now)
-        → HaveRows (seen_in context.now) query.now (tables_in items.now)
-        → IsFineOn (is_wanted (seen_in context.now) query.now) (product (tables_in items.now))
-        → IfOk result (EndsThere (seen_in context.now) query.now)) }
+        → Remembers (sources S.content_now S.key_columns reading.now)
+        (KnowsQuery (sources S.content_now S.key_columns reading.now) query.now) memo.old memo.new
+        (IsRight (rows_meant query.now None (sources S.content_now S.key_columns reading.now))
+        → HaveRows (seen_in (sources S.content_now S.key_columns reading.now)) query.now (tables_in items.now)
+        → IsFineOn (is_wanted (seen_in (sources S.content_now S.key_columns reading.now)) query.now)
+        (product (tables_in items.now))
+        → IfOk result (EndsThere (seen_in (sources S.content_now S.key_columns reading.now)) query.now)) }
 {
     let walk = Walk {
         query,
-        context,
+        reading,
         list: &[],
     };
-    let mut kept = Vec::new(context.alloc);
+    let mut kept = Vec::new(reading.context.alloc);
     match walk.keep_behind(&[], &[], items, &mut kept, memo) {
-        Ok(()) => end_of_lines(query, grouping, kept, context, memo),
+        Ok(()) => end_of_lines(query, grouping, kept, reading, memo),
         Err(error) => {
             drop(kept);
             Err(error)
@@ -53,79 +57,86 @@ pub(crate) fn groups_end<'m>(
 }
 
 /// The same, where WHERE is true of these lines.
-fn end_of_lines<'m>(
+fn end_of_lines<'m, S: Store>(
     query: &BoundSpecification,
     grouping: &Grouping,
     kept: Vec<Placed<'m>>,
-    context: &Context<'m>,
+    reading: &Reading<'_, 'm, S>,
     memo: &mut Memo<'m>,
 ) -> Result<Option<QueryEnd>, AllocError>
     ensures { (out-BoundSpecification query.now).grouping ≡ Some grouping.now
-        → Remembers context.now (KnowsQuery context.now query.now) memo.old memo.new
-        (EndsOfLines context.now query.now kept.entry.items result) }
+        → Remembers (sources S.content_now S.key_columns reading.now)
+        (KnowsQuery (sources S.content_now S.key_columns reading.now) query.now) memo.old memo.new
+        (EndsOfLines (sources S.content_now S.key_columns reading.now) query.now kept.entry.items result) }
 {
-    match groups_of(grouping.columns.as_slice(), kept, context) {
-        Ok(groups) => end_in_groups(query, grouping, groups, context, memo),
+    match groups_of(grouping.columns.as_slice(), kept, &reading.context) {
+        Ok(groups) => end_in_groups(query, grouping, groups, reading, memo),
         Err(Fault::Status(_)) => Ok(None),
         Err(Fault::NoMemory) => Err(AllocError),
     }
 }
 
 /// The same, where the lines are in these groups.
-fn end_in_groups<'m>(
+fn end_in_groups<'m, S: Store>(
     query: &BoundSpecification,
     grouping: &Grouping,
     groups: Vec<Vec<Placed<'m>>>,
-    context: &Context<'m>,
+    reading: &Reading<'_, 'm, S>,
     memo: &mut Memo<'m>,
 ) -> Result<Option<QueryEnd>, AllocError>
     ensures { (out-BoundSpecification query.now).grouping ≡ Some grouping.now
-        → Remembers context.now (KnowsQuery context.now query.now) memo.old memo.new
-        (EndsInGroups context.now query.now grouping.now groups.entry.items result) }
+        → Remembers (sources S.content_now S.key_columns reading.now)
+        (KnowsQuery (sources S.content_now S.key_columns reading.now) query.now) memo.old memo.new
+        (EndsInGroups (sources S.content_now S.key_columns reading.now) query.now grouping.now
+        groups.entry.items result) }
 {
-    let mut valued = Vec::new(context.alloc);
-    let end = end_of_groups(query, grouping, groups, context, &mut valued, memo);
+    let mut valued = Vec::new(reading.context.alloc);
+    let end = end_of_groups(query, grouping, groups, reading, &mut valued, memo);
     drop(valued);
     end
 }
 
 /// The same, with the groups and the values of their set functions added here.
-fn end_of_groups<'m>(
+fn end_of_groups<'m, S: Store>(
     query: &BoundSpecification,
     grouping: &Grouping,
     groups: Vec<Vec<Placed<'m>>>,
-    context: &Context<'m>,
+    reading: &Reading<'_, 'm, S>,
     valued: &mut Vec<Valued<'m>>,
     memo: &mut Memo<'m>,
 ) -> Result<Option<QueryEnd>, AllocError>
     ensures { valued.old.items ≡ []
         → (out-BoundSpecification query.now).grouping ≡ Some grouping.now
-        → Remembers context.now (KnowsQuery context.now query.now) memo.old memo.new
-        (EndsInGroups context.now query.now grouping.now groups.entry.items result) }
+        → Remembers (sources S.content_now S.key_columns reading.now)
+        (KnowsQuery (sources S.content_now S.key_columns reading.now) query.now) memo.old memo.new
+        (EndsInGroups (sources S.content_now S.key_columns reading.now) query.now grouping.now
+        groups.entry.items result) }
 {
     let width = query.from.tables.as_slice().len();
     let calls = grouping.set_functions.as_slice();
-    match add_valued(width, calls, groups, context, valued) {
-        Ok(None) => end_behind(query, grouping, valued.as_slice(), context, memo),
+    match add_valued(width, calls, groups, &reading.context, valued) {
+        Ok(None) => end_behind(query, grouping, valued.as_slice(), reading, memo),
         Ok(Some(end)) => Ok(Some(end)),
         Err(error) => Err(error),
     }
 }
 
 /// Where HAVING or the select list ends with a status for these groups, whose set functions have values.
-fn end_behind<'m>(
+fn end_behind<'m, S: Store>(
     query: &BoundSpecification,
     grouping: &Grouping,
     valued: &[Valued<'_>],
-    context: &Context<'m>,
+    reading: &Reading<'_, 'm, S>,
     memo: &mut Memo<'m>,
 ) -> Result<Option<QueryEnd>, AllocError>
-    ensures { Remembers context.now (KnowsGrouping context.now grouping.now) memo.old memo.new
-        (EndsBehind context.now grouping.now (list_of query.now) valued.now result) }
+    ensures { Remembers (sources S.content_now S.key_columns reading.now)
+        (KnowsGrouping (sources S.content_now S.key_columns reading.now) grouping.now) memo.old memo.new
+        (EndsBehind (sources S.content_now S.key_columns reading.now) grouping.now
+        (list_of query.now) valued.now result) }
 {
     let having = GroupWalk {
         grouping,
-        context,
+        reading,
         list: &[],
     };
     match having.first_end(valued, memo)? {
@@ -133,7 +144,7 @@ fn end_behind<'m>(
         None => {
             let walk = GroupWalk {
                 grouping,
-                context,
+                reading,
                 list: query.list.as_slice(),
             };
             walk.first_end(valued, memo)

@@ -6,6 +6,7 @@ ghost use Rattle.sq_meaning.specs.Environment.{Row as AnyRow};
 ghost use Rattle.sq_expression.specs.Fault.{HasValues, Meets, MeetsAs};
 ghost use Rattle.sq_expression.specs.Frame.{column_meant, lent};
 ghost use Rattle.sq_expression.specs.Group.{key_of_line, values_meant};
+ghost use Rattle.sq_expression.specs.Sources.{without_tables};
 ghost use Rattle.sq_ending.specs.Groups.{AreClasses, HoldsInGroups, IsAddedTo, IsOf, groups_meant, lists_in};
 ghost use Rattle.sq_ending.specs.Kept.{IsPlaced, lines_of};
 ghost use Rattle.sq_ending.specs.declared.kept.Placed.{Placed as AnyPlaced};
@@ -24,7 +25,7 @@ pub(crate) fn groups_of<'m>(
     context: &Context<'_>,
 ) -> Result<Vec<Vec<Placed<'m>>>, Fault>
     ensures groups { MeetsAs lists_in result
-        (groups_meant columns.now context.now (lines_of lines.entry.items)) }
+        (groups_meant columns.now (without_tables context.now) (lines_of lines.entry.items)) }
     ensures placed { (items : List (List AnyRow)) → AllByRecursion (IsPlaced items) lines.entry.items
         → IfOk result (λ groups. HoldsInGroups (IsPlaced items) groups.items) }
 {
@@ -52,7 +53,7 @@ fn classes_of<'m>(
     lines: Vec<Placed<'m>>,
     context: &Context<'_>,
 ) -> Result<ByKey<Placed<'m>>, Fault>
-    ensures { AreClasses columns.now context.now lines.entry.items result }
+    ensures { AreClasses columns.now (without_tables context.now) lines.entry.items result }
 {
     let mut classes = ByKey::new(context.alloc);
     for line in lines {
@@ -69,7 +70,7 @@ fn add_class<'m>(
     classes: &mut ByKey<Placed<'m>>,
 ) -> Result<(), Fault>
     ensures { (added : List (AnyRow × AnyPlaced)) → IsOf classes.old added
-        → IsAddedTo columns.now context.now line.entry added classes.new result }
+        → IsAddedTo columns.now (without_tables context.now) line.entry added classes.new result }
 {
     match key_of_line(columns, line.line.as_slice(), context) {
         Ok(key) => classes.add(context.alloc, key, line),
@@ -82,7 +83,7 @@ fn add_class<'m>(
 
 /// The values of the grouping columns in a line.
 fn key_of_line(columns: &[Place], line: &[&Row], context: &Context<'_>) -> Result<Key, Fault>
-    ensures { Meets result (key_of_line columns.now None context.now (lent line.now)) }
+    ensures { Meets result (key_of_line columns.now None (without_tables context.now) (lent line.now)) }
 {
     key_in(columns, &line_frame(line, None), context)
 }

@@ -1,183 +1,109 @@
-//! The tables that a query reads: its base tables, and its views, each evaluated once.
+//! The views that a query reads, each evaluated once.
 
-ghost use Rattle.std.specs.Prelude.{◌≡◌, ◌<◌, [], List, IfOk, IfSome, IsSome, OnOk, Some, length, nat_eq, slice_get, true};
+ghost use Rattle.std.specs.Prelude.{◌≡◌, [], List, IfOk, IfSome, IsSome, OnOk, Some, nat_eq, slice_get, true};
 ghost use Rattle.std.specs.List.{AllByRecursion, list_any};
-ghost use Rattle.sq_store.specs.Content.{table_at};
 ghost use Rattle.sq_meaning.specs.Environment.{Row as AnyRow};
 ghost use Rattle.sq_meaning.specs.Status.{Outcome};
-ghost use Rattle.sq_meaning.specs.Tables.{rows_in};
 ghost use Rattle.sq_meaning.specs.WellFormed.{HasValue};
 ghost use Rattle.sq_bound.specs.Fits.{AreInDomains, keys_of_bases, not_nulls_hold};
 ghost use Rattle.sq_bound.specs.WellFormed.{BasesAreThere, IsSelect, before_view};
 ghost use Rattle.sq_bound.specs.declared.condition.TablePlace.{TablePlace as AnyPlace};
 ghost use Rattle.sq_bound.specs.declared.condition.TablePlace.TheVariants as at_place;
 ghost use Rattle.sq_expression.specs.Fault.{HasRows};
-ghost use Rattle.sq_expression.specs.Frame.{lent, view_outcome};
+ghost use Rattle.sq_expression.specs.Frame.{view_outcome};
 ghost use Rattle.sq_query.specs.Table.{AreMeant};
-ghost use Rattle.sq_ending.specs.Read.{AreRight, AreShown, AreStored, HasMore, IsThere, known_by};
+ghost use Rattle.sq_ending.specs.Read.{AreRight, AreShown, HasMore, IsThere, known_by};
 
 use sq_bound::{Names, TableBody, TablePlace, View};
-use sq_expression::{BaseRows, Fault, ViewRows};
+use sq_condition::ViewRows;
+use sq_expression::Fault;
 use sq_lex::Name;
 use sq_query::{Inputs, specification_rows};
 use sq_store::{Meter, Store};
 use sq_value::Row;
 use std::alloc::{AllocError, Global};
 
-/// The rows of the base tables and views that a query reads.
-#[derive(Drop)]
-pub(crate) struct Tables<'a> {
-    pub bases: Vec<BaseRows<'a>>,
-    pub views: Vec<ViewRows>,
-}
-
-/// The rows of these tables, as the user sees them.
-pub(crate) fn tables_read<'a, N: Names, S: Store>(
+/// The rows of the views among these tables, as the user sees them.
+pub(crate) fn views_read<N: Names, S: Store>(
     alloc: Global,
     names: &N,
     tables: &[TablePlace],
-    store: &'a S,
+    store: &S,
     user: Name,
-) -> Result<Tables<'a>, AllocError>
+) -> Result<Vec<ViewRows>, AllocError>
     requires there { BasesAreThere (N.base_tables names.now) (N.column_kinds names.now) }
     requires keys { S.key_columns store.now ≡ keys_of_bases (N.base_tables names.now) }
     requires not_null { not_nulls_hold (N.base_tables names.now) (S.content_now store.now) ≡ true }
-    ensures right { IfOk result
-        (AreRight (known_by (N.base_tables names.now) (N.view_queries names.now) (N.column_kinds names.now))
-        (S.content_now store.now) user) }
-    ensures there { IfOk result (λ read. AllByRecursion (IsThere read) tables.now) }
+    ensures right { IfOk result (λ views. AreRight
+        (known_by (N.base_tables names.now) (N.view_queries names.now) (N.column_kinds names.now))
+        (S.content_now store.now) user views.items) }
+    ensures there { IfOk result (λ views. AllByRecursion (IsThere views.items) tables.now) }
 {
-    let mut read = Tables {
-        bases: Vec::new(alloc),
-        views: Vec::new(alloc),
-    };
+    let mut views = Vec::new(alloc);
     for table in tables {
-        read.add(alloc, names, *table, store, user)?;
+        add(alloc, names, *table, store, user, &mut views)?;
     }
-    Ok(read)
+    Ok(views)
 }
 
-impl<'a> Tables<'a> {
-    /// Reads a table that was not read yet.
-    fn add<N: Names, S: Store>(
-        &mut self,
-        alloc: Global,
-        names: &N,
-        table: TablePlace,
-        store: &'a S,
-        user: Name,
-    ) -> Result<(), AllocError>
-        requires there { BasesAreThere (N.base_tables names.now) (N.column_kinds names.now) }
-        requires keys { S.key_columns store.now ≡ keys_of_bases (N.base_tables names.now) }
-        requires not_null { not_nulls_hold (N.base_tables names.now) (S.content_now store.now) ≡ true }
-        ensures right { AreRight
-            (known_by (N.base_tables names.now) (N.view_queries names.now) (N.column_kinds names.now))
-            (S.content_now store.now) user self.old
-            → OnOk result (AreRight
-            (known_by (N.base_tables names.now) (N.view_queries names.now) (N.column_kinds names.now))
-            (S.content_now store.now) user self.new) }
-        ensures there { OnOk result (IsThere self.new table) }
-        ensures more { OnOk result (HasMore self.old self.new) }
-    {
-        match table {
-            TablePlace::Base(place) => self.add_base(alloc, place, store),
-            TablePlace::View(place) => self.add_view(alloc, names, place, store, user),
-        }
-    }
-
-    fn add_base<S: Store>(
-        &mut self,
-        alloc: Global,
-        place: usize,
-        store: &'a S,
-    ) -> Result<(), AllocError>
-        ensures right { AllByRecursion (AreStored (S.content_now store.now)) self.old.bases.items
-            → OnOk result (AllByRecursion (AreStored (S.content_now store.now)) self.new.bases.items) }
-        ensures views { self.new.views ≡ self.old.views }
-        ensures there { OnOk result (IsThere self.new (at_place.Base place)) }
-        ensures more { OnOk result (HasMore self.old self.new) }
-    {
-        if !self.has_base(place) {
-            let rows = base_rows(alloc, store, place)?;
-            self.bases.push(BaseRows { place, rows })?;
-        }
-        Ok(())
-    }
-
-    fn has_base(&self, place: usize) -> bool
-        ensures { result ≡ list_any (λ b. nat_eq b.place place) self.now.bases.items }
-    {
-        self.bases.iter().any(|base| base.place == place)
-    }
-
-    fn add_view<N: Names, S: Store>(
-        &mut self,
-        alloc: Global,
-        names: &N,
-        place: usize,
-        store: &S,
-        user: Name,
-    ) -> Result<(), AllocError>
-        requires there { BasesAreThere (N.base_tables names.now) (N.column_kinds names.now) }
-        requires keys { S.key_columns store.now ≡ keys_of_bases (N.base_tables names.now) }
-        requires not_null { not_nulls_hold (N.base_tables names.now) (S.content_now store.now) ≡ true }
-        ensures right { AllByRecursion (AreShown
-            (known_by (N.base_tables names.now) (N.view_queries names.now) (N.column_kinds names.now))
-            (S.content_now store.now) user) self.old.views.items
-            → OnOk result (AllByRecursion (AreShown
-            (known_by (N.base_tables names.now) (N.view_queries names.now) (N.column_kinds names.now))
-            (S.content_now store.now) user) self.new.views.items) }
-        ensures bases { self.new.bases ≡ self.old.bases }
-        ensures there { OnOk result (IsThere self.new (at_place.View place)) }
-        ensures more { OnOk result (HasMore self.old self.new) }
-    {
-        if !self.has_view(place) {
-            let view = view_rows(alloc, names, place, store, user)?;
-            self.views.push(view)?;
-        }
-        Ok(())
-    }
-
-    fn has_view(&self, place: usize) -> bool
-        ensures { result ≡ list_any (λ v. nat_eq v.place place) self.now.views.items }
-    {
-        self.views.iter().any(|view| view.place == place)
-    }
-}
-
-/// The rows of a base table, by rising numbers.
-fn base_rows<'a, S: Store>(
+/// Reads a view that was not read yet. Base tables stay in the store.
+fn add<N: Names, S: Store>(
     alloc: Global,
-    store: &'a S,
-    table: usize,
-) -> Result<Vec<&'a Row>, AllocError>
-    ensures { table < length (S.content_now store.now)
-        → IfOk result (λ rows. lent rows.items ≡ rows_in (table_at (S.content_now store.now) table)) }
+    names: &N,
+    table: TablePlace,
+    store: &S,
+    user: Name,
+    views: &mut Vec<ViewRows>,
+) -> Result<(), AllocError>
+    requires there { BasesAreThere (N.base_tables names.now) (N.column_kinds names.now) }
+    requires keys { S.key_columns store.now ≡ keys_of_bases (N.base_tables names.now) }
+    requires not_null { not_nulls_hold (N.base_tables names.now) (S.content_now store.now) ≡ true }
+    ensures right { AreRight
+        (known_by (N.base_tables names.now) (N.view_queries names.now) (N.column_kinds names.now))
+        (S.content_now store.now) user views.old.items
+        → OnOk result (AreRight
+        (known_by (N.base_tables names.now) (N.view_queries names.now) (N.column_kinds names.now))
+        (S.content_now store.now) user views.new.items) }
+    ensures there { OnOk result (IsThere views.new.items table) }
+    ensures more { OnOk result (HasMore views.old.items views.new.items) }
 {
-    if table < store.table_count() {
-        rows_of_table(alloc, store, table)
-    } else {
-        Ok(Vec::new(alloc))
+    match table {
+        TablePlace::Base(_) => Ok(()),
+        TablePlace::View(place) => add_view(alloc, names, place, store, user, views),
     }
 }
 
-/// The rows of a base table of the store, by rising numbers.
-fn rows_of_table<'a, S: Store>(
+fn add_view<N: Names, S: Store>(
     alloc: Global,
-    store: &'a S,
-    table: usize,
-) -> Result<Vec<&'a Row>, AllocError>
-    requires { table < length (S.content_now store.now) }
-    ensures { IfOk result (λ rows. lent rows.items ≡ rows_in (table_at (S.content_now store.now) table)) }
+    names: &N,
+    place: usize,
+    store: &S,
+    user: Name,
+    views: &mut Vec<ViewRows>,
+) -> Result<(), AllocError>
+    requires there { BasesAreThere (N.base_tables names.now) (N.column_kinds names.now) }
+    requires keys { S.key_columns store.now ≡ keys_of_bases (N.base_tables names.now) }
+    requires not_null { not_nulls_hold (N.base_tables names.now) (S.content_now store.now) ≡ true }
+    ensures right { AreRight
+        (known_by (N.base_tables names.now) (N.view_queries names.now) (N.column_kinds names.now))
+        (S.content_now store.now) user views.old.items
+        → OnOk result (AreRight
+        (known_by (N.base_tables names.now) (N.view_queries names.now) (N.column_kinds names.now))
+        (S.content_now store.now) user views.new.items) }
+    ensures there { OnOk result (IsThere views.new.items (at_place.View place)) }
+    ensures more { OnOk result (HasMore views.old.items views.new.items) }
 {
-    let mut rows = Vec::new(alloc);
-    let mut number = 0;
-    let mut uncounted = Meter::new();
-    while let Some((found, row)) = store.next_from(table, number, &mut uncounted) {
-        rows.push(row)?;
-        number = found + 1;
+    if !has_view(views.as_slice(), place) {
+        let view = view_rows(alloc, names, place, store, user)?;
+        views.push(view)?;
     }
-    Ok(rows)
+    Ok(())
+}
+
+fn has_view(views: &[ViewRows], place: usize) -> bool
+    ensures { result ≡ list_any (λ v. nat_eq v.place place) views.now }
+{
+    views.iter().any(|view| view.place == place)
 }
 
 /// The rows of the view at a place, or the status that its query ends with.

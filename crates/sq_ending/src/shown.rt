@@ -3,40 +3,40 @@
 ghost use Rattle.std.specs.Prelude.{◌≡◌, ◌∷◌, [], IfOk};
 ghost use Rattle.sq_meaning.specs.Environment.{alone};
 ghost use Rattle.sq_meaning.specs.Query as meaning;
-ghost use Rattle.sq_condition.specs.Subquery.{KnowsGrouping, Remembers};
+ghost use Rattle.sq_condition.specs.Reading.{sources};
 ghost use Rattle.sq_expression.specs.Fault.{IsRight, Means};
 ghost use Rattle.sq_expression.specs.Frame.{group_values, lent, scopes_of};
 ghost use Rattle.sq_ending.specs.Kept.{lines_of};
-ghost use Rattle.sq_ending.specs.Shown.{FindsGroup, FindsItem, FindsOn, first_of, shown_by};
+ghost use Rattle.sq_ending.specs.Shown.{FindsGroup, FindsItem, FindsOn, RemembersOf, first_of, group_walked, shown_by};
 
 use crate::ends::{Clause, QueryEnd};
 use crate::functions::{Valued, group_end};
 use crate::kept::Placed;
 use crate::walk::is_true;
 use sq_bound::{BoundExpr, Grouping};
-use sq_condition::{Memo, truth};
-use sq_expression::{Context, Fault, Frame, owned_value};
+use sq_condition::{Memo, Reading, truth};
+use sq_expression::{Fault, Frame, owned_value};
+use sq_store::Store;
 use sq_value::Row;
 use std::alloc::AllocError;
 
 /// A walk over groups of a query specification outside every query: of each HAVING is evaluated, and where it is true, a list.
-#[derive(Clone, Copy)]
-pub(crate) struct GroupWalk<'c, 'm> {
+#[derive(Drop)]
+pub(crate) struct GroupWalk<'c, 'm, S: Store> {
     pub grouping: &'c Grouping,
-    pub context: &'c Context<'m>,
+    pub reading: &'c Reading<'c, 'm, S>,
     pub list: &'c [BoundExpr],
 }
 
-impl<'c, 'm> GroupWalk<'c, 'm> {
+impl<'c, 'm, S: Store> GroupWalk<'c, 'm, S> {
     /// The first of these groups for which HAVING or the list ends with a status.
     pub(crate) fn first_end(
         &self,
         groups: &[Valued<'_>],
         memo: &mut Memo<'m>,
     ) -> Result<Option<QueryEnd>, AllocError>
-        ensures { Remembers self.now.context.now
-            (KnowsGrouping self.now.context.now self.now.grouping.now) memo.old memo.new
-            (FindsGroup self.now groups.now result) }
+        ensures { RemembersOf (group_walked S.content_now S.key_columns self.now) memo.old memo.new
+            (FindsGroup (group_walked S.content_now S.key_columns self.now) groups.now result) }
     {
         for group in groups {
             if let Some(end) = self.end_on(group, memo)? {
@@ -52,16 +52,16 @@ impl<'c, 'm> GroupWalk<'c, 'm> {
         group: &Valued<'_>,
         memo: &mut Memo<'m>,
     ) -> Result<Option<QueryEnd>, AllocError>
-        ensures { Remembers self.now.context.now
-            (KnowsGrouping self.now.context.now self.now.grouping.now) memo.old memo.new
-            (IsRight (shown_by self.now.grouping.now self.now.context.now group.now)
-            → IfOk result (FindsOn self.now group.now)) }
+        ensures { RemembersOf (group_walked S.content_now S.key_columns self.now) memo.old memo.new
+            (IsRight (shown_by self.now.grouping.now
+            (sources S.content_now S.key_columns self.now.reading.now) group.now)
+            → IfOk result (FindsOn (group_walked S.content_now S.key_columns self.now) group.now)) }
     {
         match self.is_shown(group, memo) {
             Ok(true) => self.item_end(group),
             Ok(false) => Ok(None),
             Err(Fault::Status(failure)) => Ok(Some(group_end(
-                self.context.alloc,
+                self.reading.context.alloc,
                 Clause::Having,
                 failure,
                 group.lines.as_slice(),
@@ -72,27 +72,27 @@ impl<'c, 'm> GroupWalk<'c, 'm> {
 
     /// Whether HAVING is true of a group.
     fn is_shown(&self, group: &Valued<'_>, memo: &mut Memo<'m>) -> Result<bool, Fault>
-        ensures { Remembers self.now.context.now
-            (KnowsGrouping self.now.context.now self.now.grouping.now) memo.old memo.new
-            (Means result (shown_by self.now.grouping.now self.now.context.now group.now)) }
+        ensures { RemembersOf (group_walked S.content_now S.key_columns self.now) memo.old memo.new
+            (Means result (shown_by self.now.grouping.now
+            (sources S.content_now S.key_columns self.now.reading.now) group.now)) }
     {
         match &self.grouping.having {
-            Some(having) => is_true(truth(having, &frame_of(group), self.context, memo)),
+            Some(having) => is_true(truth(having, &frame_of(group), self.reading, memo)),
             None => Ok(true),
         }
     }
 
     /// The first item of the list that ends with a status for a group.
     fn item_end(&self, group: &Valued<'_>) -> Result<Option<QueryEnd>, AllocError>
-        ensures { IfOk result (FindsItem self.now group.now) }
+        ensures { IfOk result (FindsItem (group_walked S.content_now S.key_columns self.now) group.now) }
     {
         let frame = frame_of(group);
         for (number, item) in self.list.iter().enumerate() {
-            match owned_value(item, &frame, self.context) {
+            match owned_value(item, &frame, &self.reading.context) {
                 Ok(value) => drop(value),
                 Err(Fault::Status(failure)) => {
                     return Ok(Some(group_end(
-                        self.context.alloc,
+                        self.reading.context.alloc,
                         Clause::GroupItem(number),
                         failure,
                         group.lines.as_slice(),

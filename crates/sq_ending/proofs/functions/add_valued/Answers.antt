@@ -1,20 +1,20 @@
 -- Left open for add_valued: its result, and that the loop keeps its invariant; answered by ValuedGroups and laws of std.
-use Rattle.std.proofs.Common.{◌∙◌, ℕ, Option, arith, length, subst, sym, take}
+use Rattle.std.proofs.Common.{◌∙◌, ℕ, arith, length, subst, sym, take}
 use Rattle.std.proofs.lemmas.Iterator.Adapters.{YieldsList-from_vec}
 use Rattle.std.proofs.lemmas.Iterator.Consumers.{YieldsList-turn, YieldsList-end}
 use Rattle.std.proofs.lemmas.List.{length_push}
 use Rattle.sq_ending.specs.Ending.{seen_in}
-use Rattle.sq_ending.specs.Functions.{AreValued, IsAddedGroup}
-use Rattle.sq_ending.specs.declared.ends.QueryEnd.{QueryEnd}
+use Rattle.sq_ending.specs.Functions.{AreValued}
+use Rattle.sq_expression.specs.Sources.{without_tables}
 use Rattle.sq_ending.proofs.ValuedGroups.{all_valued, group_added, group_ends, none_valued, wide_at}
 use Rattle.sq_ending.proofs.functions.add_valued.Goals as goal
 
 pub loop-group-init : goal.loop-group-init
-loop-group-init c = λ none wide. none_valued (seen_in c.args.context.now) c.args.calls.now c.args.valued.now.items none
+loop-group-init c = λ none wide. none_valued (seen_in (without_tables c.args.context.now)) c.args.calls.now c.args.valued.now.items none
 
 pub loop-group-preserved : goal.loop-group-preserved
 loop-group-preserved c = λ none wide.
-    let seen = seen_in c.args.context.now in
+    let seen = seen_in (without_tables c.args.context.now) in
     let calls = c.args.calls.now in
     let groups = c.args.groups.items in
     let group = c.in-Some.group in
@@ -27,7 +27,7 @@ loop-group-preserved c = λ none wide.
 
 pub returns-in-Ok-Some : goal.returns-in-Ok-Some
 returns-in-Ok-Some c = λ none wide.
-    let seen = seen_in c.args.context.now in
+    let seen = seen_in (without_tables c.args.context.now) in
     let calls = c.args.calls.now in
     let groups = c.args.groups.items in
     let group = c.in-Some.group in
@@ -41,4 +41,4 @@ pub returns : goal.returns
 returns c = λ none wide.
     let groups = c.args.groups.items in
     let end = YieldsList-end (YieldsList-from_vec {s = c.into_iter-group-iterator.result} groups c.into_iter-group-iterator.ensures.into_iter_gives.0 (c.into_iter-group-iterator.ensures.into_iter_gives.1 ∙ c.args.groups.ok.0)) c.loop-group.yielded _ c.loop-group.yielded_by c.next.result c.next.new.self c.in-None.is c.next.ensures.steps in
-    all_valued (seen_in c.args.context.now) c.args.calls.now groups (length c.loop-group.yielded) c.loop-group.valued.items (omega (arith, end.1)) (c.loop-group.invariant none wide)
+    all_valued (seen_in (without_tables c.args.context.now)) c.args.calls.now groups (length c.loop-group.yielded) c.loop-group.valued.items (omega (arith, end.1)) (c.loop-group.invariant none wide)

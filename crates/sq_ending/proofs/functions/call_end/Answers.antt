@@ -6,6 +6,7 @@ use Rattle.sq_expression.specs.Fault.{status_of}
 use Rattle.sq_expression.specs.declared.fault.Failure.{Failure}
 use Rattle.sq_ending.specs.Ending.{function_on, seen_in}
 use Rattle.sq_ending.specs.Kept.{lines_of}
+use Rattle.sq_expression.specs.Sources.{without_tables}
 use Rattle.sq_ending.proofs.CallEnds.{call_ends, call_fails, call_more}
 use Rattle.sq_ending.proofs.ListEnds.{items_fine}
 use Rattle.sq_ending.proofs.functions.call_end.Goals as goal
@@ -15,12 +16,12 @@ loop-number-init c = λ wide. ([], refl)
 
 pub loop-number-preserved : goal.loop-number-preserved
 loop-number-preserved c = λ wide.
-    call_more (seen_in c.args.context.now) c.args.calls.now c.args.group.now c.loop-number.number c.index-calls-number.result c.loop-number-test.true c.index-calls-number.is c.from_ref.result.now c.from_ref.ensures.value
+    call_more (seen_in (without_tables c.args.context.now)) c.args.calls.now c.args.group.now c.loop-number.number c.index-calls-number.result c.loop-number-test.true c.index-calls-number.is c.from_ref.result.now c.from_ref.ensures.value
     c.in-Ok.values.items (c.in-Ok.ensures wide) (c.loop-number.invariant wide)
 
 pub returns-in-Err-Status : goal.returns-in-Err-Status
 returns-in-Err-Status c = λ wide.
-    let seen = seen_in c.args.context.now in
+    let seen = seen_in (without_tables c.args.context.now) in
     let call = c.index-calls-number.result in
     call_ends seen c.args.calls.now c.args.group.now c.loop-number.number call c.loop-number-test.true c.index-calls-number.is c.from_ref.result.now c.from_ref.ensures.value
     (c.loop-number.invariant wide) c.in_ok-end_of-in-Err-Status.field-0
@@ -30,4 +31,4 @@ returns-in-Err-Status c = λ wide.
 
 pub returns : goal.returns
 returns c = λ wide.
-    items_fine (function_on (seen_in c.args.context.now) (lines_of c.args.group.now)) c.args.calls.now c.loop-number.number c.loop-number-test.false (c.loop-number.invariant wide)
+    items_fine (function_on (seen_in (without_tables c.args.context.now)) (lines_of c.args.group.now)) c.args.calls.now c.loop-number.number c.loop-number-test.false (c.loop-number.invariant wide)

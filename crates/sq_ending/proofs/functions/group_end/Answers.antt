@@ -1,5 +1,4 @@
 -- Left open for group_end: the clause line; answered by CallEnds.
-use Rattle.std.proofs.Common.{◌∙◌, refl}
 use Rattle.std.proofs.lemmas.List.{nil_from_length}
 use Rattle.sq_ending.proofs.CallEnds.{told_first, told_none}
 use Rattle.sq_ending.proofs.functions.group_end.Goals as goal

@@ -2,4 +2,4 @@
 use Rattle.sq_ending.proofs.grouped.end_in_groups.Goals as goal
 
 pub returns : goal.returns
-returns c = λ grouped. c.end_of_groups-end.ensures c.new-valued.ensures.items grouped
+returns g c = λ grouped. c.end_of_groups-end.ensures c.new-valued.ensures.items grouped
