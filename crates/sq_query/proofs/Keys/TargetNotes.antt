@@ -5,7 +5,7 @@ use Rattle.sq_bound.specs.Noted.{HasNotes}
 use Rattle.sq_bound.specs.WellFormed.{IsTarget, TableKinds}
 use Rattle.sq_bound.specs.declared.condition.BoundCond.{BoundCond}
 use Rattle.sq_bound.specs.declared.query.Target.{Target}
+use Rattle.sq_query.proofs.Keys.KeyTests.{if_some}
 
--- OPEN: a well-formed target does not say so yet. It needs a field `notes : IfSome t.condition HasNotes` of the record IsTarget.
 pub own_noted : (columns : TableKinds) (parameters : List Kind) (t : Target) (own : BoundCond) → IsTarget columns parameters t → t.condition ≡ Some own → HasNotes own
-own_noted columns parameters t own well is_own = ?
+own_noted columns parameters t own well is_own = if_some HasNotes t.condition own well.notes is_own
