@@ -23,6 +23,7 @@ pub mod KnownExprs
 pub mod KnownOnLines
 pub mod KnownValues
 pub mod Leading
+pub mod LikeValues
 pub mod Lone
 pub mod Membership
 pub mod NamedSources
