@@ -2,6 +2,7 @@ pub mod Asked
 pub mod Comparison
 pub mod Condition
 pub mod Depth
+pub mod Fixed
 pub mod Item
 pub mod Known
 pub mod Members
