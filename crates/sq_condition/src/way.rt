@@ -4,10 +4,12 @@ ghost use Rattle.std.specs.Prelude.{◌≡◌, ◌<◌, length, IfOk, IfSome};
 ghost use Rattle.sq_store.specs.Keys.{keys_at};
 ghost use Rattle.sq_condition.specs.Way.{IsWayIn};
 
+use crate::fixed::Fixed;
 use crate::named::{Sought, Wanted};
 use sq_bound::{BaseTable, BoundConj};
 use sq_items::Items;
 use sq_store::{Meter, Store};
+use sq_value::Row;
 use std::alloc::{AllocError, Global};
 use std::slice::from_ref;
 
@@ -42,11 +44,72 @@ pub fn named_by(
 ) -> Result<Vec<Option<NamedBy>>, AllocError>
     ensures { IfOk result (λ ways. length ways.items ≡ length items.now) }
 {
+    let row = Row::new(alloc);
+    let fixed = items_fixed(alloc, terms, items, &row)?;
+    ways_beside(alloc, terms, items, fixed.as_slice(), is_once)
+}
+
+/// The same, where so much is known of the items.
+fn ways_beside(
+    alloc: Global,
+    terms: &[BoundConj],
+    items: &[Option<NamedItem<'_>>],
+    fixed: &[Fixed<'_>],
+    is_once: bool,
+) -> Result<Vec<Option<NamedBy>>, AllocError>
+    ensures { IfOk result (λ ways. length ways.items ≡ length items.now) }
+{
     let mut ways = Vec::with_capacity(alloc, items.len())?;
     for (number, item) in items.iter().enumerate() {
-        ways.push(way_of(terms, number, item, is_once))?;
+        ways.push(way_of(terms, number, item, fixed, is_once))?;
     }
     Ok(ways)
+}
+
+/// The items whose row tests name by a key before there is a line. This row stands for each that a call will find.
+fn items_fixed<'r>(
+    alloc: Global,
+    terms: &[BoundConj],
+    items: &[Option<NamedItem<'_>>],
+    row: &'r Row,
+) -> Result<Vec<Fixed<'r>>, AllocError> {
+    let mut fixed = Vec::from_elem(alloc, Fixed::Open, items.len())?;
+    for _ in 0..items.len() {
+        fix_named(terms, items, row, fixed.as_mut_slice());
+    }
+    Ok(fixed)
+}
+
+/// Goes over the items once for that.
+fn fix_named<'r>(
+    terms: &[BoundConj],
+    items: &[Option<NamedItem<'_>>],
+    row: &'r Row,
+    fixed: &mut [Fixed<'r>],
+) {
+    for (number, item) in items.iter().enumerate() {
+        if number < fixed.len() && is_named_by_key(terms, number, item, fixed) {
+            fixed[number] = Fixed::Row(row);
+        }
+    }
+}
+
+fn is_named_by_key(
+    terms: &[BoundConj],
+    number: usize,
+    item: &Option<NamedItem<'_>>,
+    fixed: &[Fixed<'_>],
+) -> bool {
+    match item {
+        Some(item) if item.shown.is_none() => {
+            let sought = Sought {
+                fixed,
+                ..Sought::before_lines(terms, number)
+            };
+            named_key(&sought, item.table.keys.as_slice()).is_some()
+        }
+        _ => false,
+    }
 }
 
 /// By what tests name the rows of an item: by something known before there is a line, or for each line.
@@ -54,12 +117,14 @@ fn way_of(
     terms: &[BoundConj],
     number: usize,
     item: &Option<NamedItem<'_>>,
+    fixed: &[Fixed<'_>],
     is_once: bool,
 ) -> Option<NamedBy> {
     let Some(item) = item else {
         return None;
     };
     let alone = Sought {
+        fixed,
         is_once,
         shown: shown_by(item),
         ..Sought::before_lines(terms, number)
