@@ -11,6 +11,7 @@ pub mod BesideTables
 pub mod Conditions
 pub mod Depths
 pub mod Dropped
+pub mod FixedLines
 pub mod FoundRows
 pub mod Grouped
 pub mod Growing
